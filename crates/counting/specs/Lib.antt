@@ -1,0 +1,1 @@
+-- Two values cannot both be written to the register of a round in which one of them was committed.

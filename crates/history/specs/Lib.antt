@@ -1,0 +1,3 @@
+-- The past of a run, and what can be said of it.
+pub mod Event
+pub mod Past

@@ -1,0 +1,8 @@
+-- The definitions that everything else cites, in the order of document 01.
+pub mod Window
+pub mod Board
+pub mod Step
+pub mod Refusal
+pub mod Machine
+pub mod Sound
+pub mod Public

@@ -1,0 +1,162 @@
+-- Document 01, "One turn at a time": what an accepted turn does. A turn makes at most one register operation. So it is
+-- given in three parts: which register it accesses (`access`), what the process becomes by the value read (`next`), and
+-- what is written (`written`). The counts follow from the access alone (`counted`).
+use Prim.Native.Nat.{ℕ, suc, zero, _+_, _-_, min}
+use mathlib.Core.Bool.{Bool, true, false, cond}
+use lib.ListN.{set}
+use lib.Dec.{leb, ltb, eqb}
+use Rattle.model.specs.declared.Phase.{Phase}
+use Rattle.model.specs.declared.Phase.the-variants.{
+  Idle,
+  Waiting,
+  Write,
+  Scan,
+  Adopt,
+  Compare,
+  Flag,
+  CheckMark,
+  CheckValue,
+  Commit,
+  Exhausted,
+  Crashed,
+  Decided,
+}
+use Rattle.model.specs.declared.Access.{Access}
+use Rattle.model.specs.declared.Access.the-variants.{
+  Nothing,
+  ReadValue,
+  WriteValue,
+  ReadMark,
+  SetMark,
+  ReadDecision,
+  WriteDecision,
+}
+use Rattle.model.specs.declared.Process.{Process}
+use Rattle.model.specs.declared.Session.{Session}
+use Rattle.model.specs.declared.Counts.{Counts}
+use Rattle.model.specs.Board.{valueAt, markAt, processAt, withProcess}
+
+-- ---- which register
+
+-- The access of a process in round r, at round limit L, with the leader hint. (A round above L, which no sound session has,
+-- counts as L: here and in `nextPhase`.)
+unfoldable pub accessAt : (limit r : ℕ) → Phase → (leader : Bool) → Access
+accessAt L r Idle leader = Nothing
+accessAt L r Waiting false = Nothing
+accessAt L r Waiting true = cond (ltb r L) (ReadValue (r + 1)) Nothing
+accessAt L r Write leader = WriteValue r
+accessAt L r (Scan k) leader = ReadValue k
+accessAt L r (Adopt k) leader = ReadValue k
+accessAt L r (Compare i) leader = ReadValue (r - i)
+accessAt L r (Flag i) leader = SetMark (r - i)
+accessAt L r (CheckMark i) leader = ReadMark (r - i)
+accessAt L r (CheckValue i) leader = ReadValue (r - i)
+accessAt L r Commit leader = WriteDecision
+accessAt L r Exhausted leader = Nothing
+accessAt L r Crashed leader = Nothing
+accessAt L r Decided leader = Nothing
+
+unfoldable pub access : (limit : ℕ) → Process → (leader : Bool) → Access
+access L q leader = accessAt L (q .round) (q .phase) leader
+
+-- A mark that is read, as a number.
+abbrev pub bit : Bool → ℕ
+bit false = 0
+bit true = 1
+
+-- The value read; 0 where nothing is read.
+unfoldable pub found : Session → Access → ℕ
+found s Nothing = 0
+found s (ReadValue r) = valueAt s r
+found s (WriteValue r) = 0
+found s (ReadMark r) = bit (markAt s r)
+found s (SetMark r) = 0
+found s ReadDecision = s .decision
+found s WriteDecision = 0
+
+-- ---- what the process becomes
+
+abbrev pub process : Phase → (round estimate : ℕ) → Process
+process φ r e = record { phase = φ; round = r; estimate = e }
+
+-- "Go on": compare i + 1 while i + 1 is below the smaller of r and W; then check-mark 0 if r is at least W, else gate.
+unfoldable pub goOn : (W r i : ℕ) → Phase
+goOn W r i = cond (ltb (i + 1) (min r W)) (Compare (i + 1)) (cond (leb W r) (CheckMark 0) Waiting)
+
+-- From round r with estimate e, by the value x that was read; W and L are the window and the round limit.
+unfoldable pub nextAt : (W L r e : ℕ) → Phase → (leader : Bool) → (x : ℕ) → Process
+nextAt W L r e Idle leader x = process Idle r e
+nextAt W L r e Waiting false x = process Waiting r e
+nextAt W L r e Waiting true x =
+    cond (ltb r L)
+    (process (cond (eqb x 0) Write (cond (ltb (r + 1) L) (Scan (r + 2)) (Adopt L))) (r + 1) e)
+    (process Exhausted r e)
+nextAt W L r e Write leader x = process (Compare 0) r e
+nextAt W L r e (Scan k) leader x = process (cond (eqb x 0) (Adopt (k - 1)) (cond (ltb k L) (Scan (k + 1)) (Adopt L))) r e
+nextAt W L r e (Adopt k) leader x = process (Compare 0) k (cond (eqb x 0) e x)
+nextAt W L r e (Compare i) leader x = process (cond (eqb x e) (goOn W r i) (Flag i)) r e
+nextAt W L r e (Flag i) leader x = process (goOn W r i) r e
+nextAt W L r e (CheckMark i) leader x = process (cond (eqb x 0) (CheckValue i) Waiting) r e
+nextAt W L r e (CheckValue i) leader x = process (cond (eqb x e) (cond (ltb (i + 1) W) (CheckMark (i + 1)) Commit) Waiting) r e
+nextAt W L r e Commit leader x = process Waiting r e
+nextAt W L r e Exhausted leader x = process Exhausted r e
+nextAt W L r e Crashed leader x = process Crashed r e
+nextAt W L r e Decided leader x = process Decided r e
+
+unfoldable pub next : (W L : ℕ) → Process → (leader : Bool) → ℕ → Process
+next W L q leader x = nextAt W L (q .round) (q .estimate) (q .phase) leader x
+
+-- "A look reads D; blank: nothing; filled: the seat is decided and takes D's number as its own value."
+unfoldable pub learnt : Process → ℕ → Process
+learnt q x = cond (eqb x 0) q (process Decided (q .round) x)
+
+-- ---- what is written: the estimate to a register, or a mark
+
+unfoldable pub written : Session → Access → (estimate : ℕ) → Session
+written s Nothing e = s
+written s (ReadValue r) e = s
+written s (WriteValue r) e =
+    record {
+      n = s .n;
+      limit = s .limit;
+      values = set (s .values) (r - 1) e;
+      marks = s .marks;
+      decision = s .decision;
+      processes = s .processes;
+    }
+written s (ReadMark r) e = s
+written s (SetMark r) e =
+    record {
+      n = s .n;
+      limit = s .limit;
+      values = s .values;
+      marks = set (s .marks) (r - 1) true;
+      decision = s .decision;
+      processes = s .processes;
+    }
+written s ReadDecision e = s
+written s WriteDecision e =
+    record {
+      n = s .n;
+      limit = s .limit;
+      values = s .values;
+      marks = s .marks;
+      decision = e;
+      processes = s .processes;
+    }
+
+-- ---- the turn
+
+-- A turn of process p: one access, what is written by it, and the process as the value read makes it.
+unfoldable pub turn : Session → (p : ℕ) → Access → (ℕ → Process) → Session
+turn s p a becomes = withProcess (written s a (processAt s p .estimate)) p (becomes (found s a))
+
+-- "Register reads, register writes (T, C and D), and contested, the number of flag writes."
+unfoldable pub counted : Access → Counts → Counts
+counted Nothing c = c
+counted (ReadValue r) c = record { reads = c .reads + 1; writes = c .writes; contested = c .contested }
+counted (WriteValue r) c = record { reads = c .reads; writes = c .writes + 1; contested = c .contested }
+counted (ReadMark r) c = record { reads = c .reads + 1; writes = c .writes; contested = c .contested }
+counted (SetMark r) c = record { reads = c .reads; writes = c .writes + 1; contested = c .contested + 1 }
+counted ReadDecision c = record { reads = c .reads + 1; writes = c .writes; contested = c .contested }
+counted WriteDecision c = record { reads = c .reads; writes = c .writes + 1; contested = c .contested }

@@ -1,0 +1,69 @@
+// The data of a Janus session, with no function: what the definitions in specs/ and every other crate speak of.
+
+// Where a process stands in its walk (document 01: the stance of a seat; 01's word for each is behind it).
+// k is a round that it reads on the way up, i a distance below its own round.
+pub enum Phase {
+    Idle, // out: has not proposed
+    Waiting, // gate: between two rounds, moves on when it is told to lead
+    Write, // put: about to write its estimate to the register of its round
+    Scan(usize), // seek k: looks for the first blank register
+    Adopt(usize), // take k: about to adopt the value of register k
+    Compare(usize), // compare i: compares register round - i with its estimate
+    Flag(usize), // flag i: about to mark round - i as contested
+    CheckMark(usize), // check-mark i: checks that round - i is unmarked
+    CheckValue(usize), // check-value i: checks that register round - i still holds its estimate
+    Commit, // commit: about to write its estimate to the decision register
+    Exhausted, // spent: no round is left
+    Crashed, // crashed
+    Decided, // decided: its estimate is the decision that it read
+}
+
+// One process (01: a seat's record): its phase, its round (0 before the first) and its estimate (01: the own value).
+pub struct Process {
+    pub phase: Phase,
+    pub round: usize,
+    pub estimate: u32,
+}
+
+// One agreement (01: a session, the board and the seats). The value register T[r] of round r is values[r - 1], the mark
+// C[r] is marks[r - 1], the decision register D is decision; 0 is blank. n processes take part, in rounds 1 to limit (01: L).
+pub struct Session {
+    pub n: usize,
+    pub limit: usize,
+    pub values: [u32; 256],
+    pub marks: [bool; 256],
+    pub decision: u32,
+    pub processes: [Process; 64],
+}
+
+// Counts of register operations (01: the tally).
+pub struct Counts {
+    pub reads: u32,
+    pub writes: u32,
+    pub contested: u32,
+}
+
+// The one register operation of a turn, with the round of its register.
+pub enum Access {
+    Nothing,
+    ReadValue(usize),
+    WriteValue(usize),
+    ReadMark(usize),
+    SetMark(usize),
+    ReadDecision,
+    WriteDecision,
+}
+
+// The answer of an operation that changes a session: 0 and the session after it, or the refusal's number (01, "Numbers
+// returned") and the session as it was.
+pub struct Changed {
+    pub code: u32,
+    pub session: Session,
+}
+
+// The answer of an operation that also counts its register operation.
+pub struct Stepped {
+    pub code: u32,
+    pub session: Session,
+    pub counts: Counts,
+}
