@@ -6,3 +6,4 @@ pub mod Refusal
 pub mod Machine
 pub mod Sound
 pub mod Public
+pub mod ReadOut

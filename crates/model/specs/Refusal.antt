@@ -19,6 +19,8 @@ use Rattle.model.specs.declared.Phase.the-variants.{
   Crashed,
   Decided,
 }
+use Rattle.model.specs.declared.Standing.{Standing}
+use Rattle.model.specs.declared.Standing.the-variants.{Outside, Active, Spent, Gone}
 use Rattle.model.specs.declared.Session.{Session}
 use Rattle.model.specs.declared.Counts.{Counts}
 use Rattle.model.specs.declared.Changed.{Changed}
@@ -37,46 +39,39 @@ refusal (t ∷ ts) = cond (t .0) (t .1) (refusal ts)
 
 -- ---- the situations of a process
 
--- What the refusals know of a phase. "Working means gate to commit."
-pub data Standing : Type 0 where
-  out : Standing
-  working : Standing
-  spent : Standing
-  gone : Standing
-
--- "Seat out"; working; "seat spent"; "seat crashed or decided".
+-- "Seat out"; working, "gate to commit"; "seat spent"; "seat crashed or decided".
 abbrev pub standing : Phase → Standing
-standing Idle = out
-standing Waiting = working
-standing Write = working
-standing (Scan k) = working
-standing (Adopt k) = working
-standing (Compare i) = working
-standing (Flag i) = working
-standing (CheckMark i) = working
-standing (CheckValue i) = working
-standing Commit = working
-standing Exhausted = spent
-standing Crashed = gone
-standing Decided = gone
+standing Idle = Outside
+standing Waiting = Active
+standing Write = Active
+standing (Scan k) = Active
+standing (Adopt k) = Active
+standing (Compare i) = Active
+standing (Flag i) = Active
+standing (CheckMark i) = Active
+standing (CheckValue i) = Active
+standing Commit = Active
+standing Exhausted = Spent
+standing Crashed = Gone
+standing Decided = Gone
 
-abbrev pub isOut : Standing → Bool
-isOut out = true
-isOut working = false
-isOut spent = false
-isOut gone = false
+abbrev pub isOutside : Standing → Bool
+isOutside Outside = true
+isOutside Active = false
+isOutside Spent = false
+isOutside Gone = false
 
 abbrev pub isSpent : Standing → Bool
-isSpent out = false
-isSpent working = false
-isSpent spent = true
-isSpent gone = false
+isSpent Outside = false
+isSpent Active = false
+isSpent Spent = true
+isSpent Gone = false
 
 abbrev pub isGone : Standing → Bool
-isGone out = false
-isGone working = false
-isGone spent = false
-isGone gone = true
+isGone Outside = false
+isGone Active = false
+isGone Spent = false
+isGone Gone = true
 
 abbrev pub standingAt : Session → (p : ℕ) → Standing
 standingAt s p = standing (processAt s p .phase)
@@ -98,22 +93,22 @@ openTests mostN mostL n L =
 
 -- Proposal: 4, 5, 6. (Each operation's 3, session not sound, comes first: `Public`.)
 abbrev pub proposeTests : Session → (p v : ℕ) → List Test
-proposeTests s p v = (leb (s .n) p, 4) ∷ (eqb v 0, 5) ∷ (not (isOut (standingAt s p)), 6) ∷ []
+proposeTests s p v = (leb (s .n) p, 4) ∷ (eqb v 0, 5) ∷ (not (isOutside (standingAt s p)), 6) ∷ []
 
 -- Crash: 4, 7, 8.
 abbrev pub crashTests : Session → (p : ℕ) → List Test
-crashTests s p = (leb (s .n) p, 4) ∷ (isOut (standingAt s p), 7) ∷ (isGone (standingAt s p), 8) ∷ []
+crashTests s p = (leb (s .n) p, 4) ∷ (isOutside (standingAt s p), 7) ∷ (isGone (standingAt s p), 8) ∷ []
 
 -- Look: 4, 7, 8, 16.
 abbrev pub learnTests : Session → (p : ℕ) → Counts → List Test
 learnTests s p c =
-    (leb (s .n) p, 4) ∷ (isOut (standingAt s p), 7) ∷ (isGone (standingAt s p), 8) ∷ (full c, 16) ∷ []
+    (leb (s .n) p, 4) ∷ (isOutside (standingAt s p), 7) ∷ (isGone (standingAt s p), 8) ∷ (full c, 16) ∷ []
 
 -- Work: 4, 7, 8, 9, 16.
 abbrev pub stepTests : Session → (p : ℕ) → Counts → List Test
 stepTests s p c =
     (leb (s .n) p, 4)
-    ∷ (isOut (standingAt s p), 7)
+    ∷ (isOutside (standingAt s p), 7)
     ∷ (isGone (standingAt s p), 8)
     ∷ (isSpent (standingAt s p), 9)
     ∷ (full c, 16)

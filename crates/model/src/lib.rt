@@ -18,6 +18,14 @@ pub enum Phase {
     Decided, // decided: its estimate is the decision that it read
 }
 
+// What the refusals know of a phase: not yet proposed (01: out), working (01: gate to commit), spent, crashed or decided.
+pub enum Standing {
+    Outside,
+    Active,
+    Spent,
+    Gone,
+}
+
 // One process (01: a seat's record): its phase, its round (0 before the first) and its estimate (01: the own value).
 pub struct Process {
     pub phase: Phase,
@@ -66,4 +74,26 @@ pub struct Stepped {
     pub code: u32,
     pub session: Session,
     pub counts: Counts,
+}
+
+// The answers of the read-outs: 0 and what was asked for, or the refusal's number and blank data.
+pub struct RegisterAnswer {
+    pub code: u32,
+    pub value: u32,
+    pub marked: bool,
+}
+
+pub struct ProcessAnswer {
+    pub code: u32,
+    pub process: Process,
+}
+
+pub struct DecisionAnswer {
+    pub code: u32,
+    pub value: u32,
+}
+
+pub struct CountAnswer {
+    pub code: u32,
+    pub count: usize,
 }

@@ -1,0 +1,1 @@
+// Laws about the definitions of model. There is no code here: the theorems stand in specs/.
