@@ -1,0 +1,138 @@
+-- How a paper case is played on the machine, and what it is said to show.
+use Prim.Native.Nat.{ℕ, suc, zero}
+use mathlib.Core.Bool.{Bool, true, false, _&&_}
+use mathlib.Core.List.{List, [], _∷_, _++_}
+use lib.Dec.{eqb}
+use Rattle.model.specs.declared.Phase.{Phase}
+use Rattle.model.specs.declared.Phase.the-variants.{
+  Idle,
+  Waiting,
+  Write,
+  Scan,
+  Adopt,
+  Compare,
+  Flag,
+  CheckMark,
+  CheckValue,
+  Commit,
+  Exhausted,
+  Crashed,
+  Decided,
+}
+use Rattle.model.specs.declared.Process.{Process}
+use Rattle.model.specs.declared.Session.{Session}
+use Rattle.model.specs.declared.Counts.{Counts}
+use Rattle.model.specs.declared.Changed.{Changed}
+use Rattle.model.specs.declared.Stepped.{Stepped}
+use Rattle.model.specs.Window.{window}
+use Rattle.model.specs.Board.{valueAt, markAt, processAt}
+use Rattle.model.specs.Step.{bit}
+use Rattle.model.specs.Machine
+use Rattle.model.specs.Sound.{every}
+
+-- One operation of a case. All of them use the case's own counts, which begin at 0.
+pub data Operation : Type 0 where
+  propose : (p v : ℕ) → Operation
+  work : (p : ℕ) → (leader : Bool) → Operation
+  look : (p : ℕ) → Operation
+  crash : (p : ℕ) → Operation
+
+-- The answer of the last operation (at first: of the opening), the session and the counts.
+pub record State : Type 0 where
+  pub code : ℕ
+  pub session : Session
+  pub counts : Counts
+
+fromChanged : Changed → Counts → State
+fromChanged a c = record { code = a .code; session = a .session; counts = c }
+
+fromStepped : Stepped → State
+fromStepped a = record { code = a .code; session = a .session; counts = a .counts }
+
+played : State → Operation → State
+unfolding fromChanged fromStepped
+played t (propose p v) = fromChanged (Machine.propose (t .session) p v) (t .counts)
+played t (work p leader) = fromStepped (Machine.step (t .session) p leader (t .counts))
+played t (look p) = fromStepped (Machine.learn (t .session) p (t .counts))
+played t (crash p) = fromChanged (Machine.crash (t .session) p) (t .counts)
+
+-- The machine, opened with n processes and round limit L, after the operations one after another.
+playedAll : State → List Operation → State
+unfolding played
+playedAll t [] = t
+playedAll t (o ∷ os) = playedAll (played t o) os
+
+play : (n L : ℕ) → List Operation → State
+unfolding fromChanged playedAll
+play n L os = playedAll (fromChanged (Machine.opening n L) (record { reads = 0; writes = 0; contested = 0 })) os
+
+-- What a case says of the state after it.
+pub data Shows : Type 0 where
+  answers : (code : ℕ) → Shows
+  hasWindow : (W : ℕ) → Shows
+  register : (r v : ℕ) → Shows
+  marked : (r : ℕ) → Shows
+  decision : (v : ℕ) → Shows
+  stands : (p : ℕ) → Phase → (round estimate : ℕ) → Shows
+  counts : (reads writes contested : ℕ) → Shows
+
+-- Whether two phases are the same: their kinds, and their k or i.
+phaseEq : Phase → Phase → Bool
+phaseEq φ ψ = eqb (kind φ) (kind ψ) && eqb (place φ) (place ψ)
+  where
+    kind : Phase → ℕ
+    kind Idle = 0
+    kind Waiting = 1
+    kind Write = 2
+    kind (Scan k) = 3
+    kind (Adopt k) = 4
+    kind (Compare i) = 5
+    kind (Flag i) = 6
+    kind (CheckMark i) = 7
+    kind (CheckValue i) = 8
+    kind Commit = 9
+    kind Exhausted = 10
+    kind Crashed = 11
+    kind Decided = 12
+
+    place : Phase → ℕ
+    place Idle = 0
+    place Waiting = 0
+    place Write = 0
+    place (Scan k) = k
+    place (Adopt k) = k
+    place (Compare i) = i
+    place (Flag i) = i
+    place (CheckMark i) = i
+    place (CheckValue i) = i
+    place Commit = 0
+    place Exhausted = 0
+    place Crashed = 0
+    place Decided = 0
+
+shown : State → Shows → Bool
+unfolding phaseEq
+shown t (answers k) = eqb (t .code) k
+shown t (hasWindow W) = eqb (window (t .session .n)) W
+shown t (register r v) = eqb (valueAt (t .session) r) v
+shown t (marked r) = markAt (t .session) r
+shown t (decision v) = eqb (t .session .decision) v
+shown t (stands p φ r e) =
+    let q = processAt (t .session) p in
+    phaseEq (q .phase) φ && eqb (q .round) r && eqb (q .estimate) e
+shown t (counts a b c) = eqb (t .counts .reads) a && eqb (t .counts .writes) b && eqb (t .counts .contested) c
+
+-- A row of the table: the opening, the operations, and what the state after them shows.
+pub record Case : Type 0 where
+  pub n : ℕ
+  pub limit : ℕ
+  pub operations : List Operation
+  pub shows : List Shows
+
+unfoldable pub holds : Case → Bool
+unfolding play shown
+holds c = let t = play (c .n) (c .limit) (c .operations) in every (shown t) (c .shows)
+
+abbrev pub repeat : ℕ → Operation → List Operation
+repeat zero o = []
+repeat (suc k) o = o ∷ repeat k o
