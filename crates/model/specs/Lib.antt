@@ -7,3 +7,5 @@ pub mod Machine
 pub mod Sound
 pub mod Public
 pub mod ReadOut
+pub mod Schedule
+pub mod Runner

@@ -97,3 +97,29 @@ pub struct CountAnswer {
     pub code: u32,
     pub count: usize,
 }
+
+// An entry of a schedule (01: of a turn sheet), taken apart: the operation with its process, number or hint.
+pub enum Entry {
+    Propose(usize, u32),
+    Step(usize, bool),
+    Learn(usize),
+    Crash(usize),
+    Malformed,
+}
+
+// How a run of a schedule ended (01: finished; the refusal and the entry's index; budget ended), or the refusal of the
+// schedule itself, in which case no session was made.
+pub enum Ending {
+    Finished,
+    Refused(u32, usize),
+    BudgetEnded,
+    Rejected(u32),
+}
+
+// What a run of a schedule gives: how many entries were carried out, the session and the counts after them, and the ending.
+pub struct Ran {
+    pub carried: usize,
+    pub session: Session,
+    pub counts: Counts,
+    pub ending: Ending,
+}
