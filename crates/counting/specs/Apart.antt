@@ -5,7 +5,7 @@ use mathlib.Core.Path.{_≡_}
 use mathlib.Core.List.{List, _∷_}
 use mathlib.Core.Logic.{inl, inr}
 use Rattle.history.specs.Event.{Event, write, Past, Wrote, Lawful}
-use Rattle.counting.specs.Older.{past-total, past-cons}
+use Rattle.history.specs.Past.{past-total, past-cons}
 
 -- The same round, value and epoch.
 pub record Same (r v e r′ v′ e′ : ℕ) : Type 0 where

@@ -7,7 +7,8 @@ use mathlib.Core.List.{List, _∷_}
 use mathlib.Core.Logic.{inl, inr}
 use borrow.Author.Tests.{ne-eqb}
 use Rattle.history.specs.Event.{Event, proposal, write, flag, commit, top, last, Past, here, there, Written, Held}
-use Rattle.counting.specs.Older.{past-total, past-top, written-past}
+use Rattle.history.specs.Past.{past-total, written-past}
+use Rattle.history.specs.Registers.{top-le as past-top}
 
 -- Some value was written to register j in epoch i.
 pub record Touched (j i : ℕ) (h : List Event) : Type 0 where

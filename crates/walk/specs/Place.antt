@@ -19,6 +19,7 @@ use Rattle.model.specs.declared.Phase.the-variants.{
   Crashed,
   Decided,
 }
+use Rattle.model.specs.declared.Process.{Process}
 use Rattle.model.specs.declared.Access.{Access}
 use Rattle.model.specs.declared.Access.the-variants.{
   Nothing,
@@ -97,3 +98,7 @@ Placed W p r v Commit h = Proposed v h × Finished W r v h × Unflagged W r h
 Placed W p r v Exhausted h = Proposed v h
 Placed W p r v Crashed h = Proposed v h
 Placed W p r v Decided h = (round : ℕ) × Committed round v h
+
+-- What a process tells by its phase, round and estimate.
+abbrev pub Stands : (W p : ℕ) → Process → List Event → Type 0
+Stands W p q h = Placed W p (q .round) (q .estimate) (q .phase) h
