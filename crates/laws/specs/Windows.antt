@@ -1,0 +1,44 @@
+-- The rounded-up root, and the window made of it.
+use Prim.Native.Nat.{ℕ, suc, zero, _+_, _*_, _≤_, _<_}
+use native.Mathlib.Omega.{arith}
+use native.Mathlib.Nat.{mul-le-mul-left}
+use mathlib.Core.Path.{_≡_, refl, sym, _∙_}
+use mathlib.Core.Bool.{Bool, true, false, cond}
+use lib.Dec.{leb}
+use borrow.Author.Tests.{leb-true}
+use Rattle.model.specs.Window.{rootFrom, rootUp, window}
+
+-- A number is at most its square.
+pub le-square : (n : ℕ) → n ≤ n * n
+le-square zero = omega arith
+le-square (suc n) = omega arith
+
+-- The number found has a square of at least n, if the last number tried has.
+pub root-from-square : (fuel m n : ℕ) → n ≤ (m + fuel) * (m + fuel) → n ≤ rootFrom fuel m n * rootFrom fuel m n
+unfolding rootFrom
+root-from-square zero m n h = omega arith
+root-from-square (suc fuel) m n h = go (leb n (m * m)) refl (root-from-square fuel (suc m) n (omega arith))
+  where
+    go : (b : Bool) → leb n (m * m) ≡ b → n ≤ rootFrom fuel (suc m) n * rootFrom fuel (suc m) n →
+        n ≤ cond b m (rootFrom fuel (suc m) n) * cond b m (rootFrom fuel (suc m) n)
+    go true e later = leb-true n (m * m) e
+    go false e later = later
+
+-- The square of the rounded-up root of n is at least n.
+pub root-square : (n : ℕ) → n ≤ rootUp n * rootUp n
+unfolding rootUp
+root-square n = root-from-square n 0 n (omega (arith, le-square n))
+
+-- The window's square is at least 4n: all that the agreement rule asks of a window, with the next law.
+pub window-square : (n : ℕ) → 4 * n ≤ window n * window n
+unfolding window
+window-square n = omega (arith, root-square n)
+
+-- The window of one process or more is at least 2.
+pub window-least : (n : ℕ) → 1 ≤ n → 2 ≤ window n
+unfolding window
+window-least n some = go (rootUp n) (root-square n)
+  where
+    go : (k : ℕ) → n ≤ k * k → 2 ≤ 2 * k + 1
+    go zero h = absurd (omega arith)
+    go (suc k) h = omega arith
