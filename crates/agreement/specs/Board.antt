@@ -19,7 +19,7 @@ use Rattle.model.specs.declared.Session.{Session}
 use Rattle.model.specs.Board.{valueAt, markAt}
 use Rattle.model.specs.Step.{accessAt, found, written, bit}
 use Rattle.laws.specs.Ranges.{InRange}
-use Rattle.history.specs.Branch.{cond-cases}
+use Rattle.basics.specs.Bools.{cond-cases}
 use Rattle.history.specs.Event.{Event, proposal, write, flag, commit, last, Past, here, there, Flagged, Committed}
 use Rattle.history.specs.Past.{flagged-cases, flagged-past, committed-past}
 use Rattle.walk.specs.Place.{recorded, Found}
@@ -40,9 +40,9 @@ pub record Long (s : Session) : Type 0 where
 set-read : {A : Type 0} (xs : List A) (r j : ℕ) (x d : A) → 1 ≤ r → 1 ≤ j → r ≤ length xs →
     getD (set xs (r - 1) x) (j - 1) d ≡ cond (eqb r j) x (getD xs (j - 1) d)
 set-read xs r j x d hr hj long =
-    elim (ℕ-discrete r j)
-    [ yes e ↦ rw (eq-eqb r j e, ← e) (getD-set-same xs (r - 1) x d (omega arith))
-    | no ne ↦ rw (ne-eqb r j ne) (getD-set-other xs (r - 1) (j - 1) x d (λ e. ne (omega arith)))
+    elim (ℕ-discrete r j) [
+      | yes e ↦ rw (eq-eqb r j e, ← e) (getD-set-same xs (r - 1) x d (omega arith))
+      | no ne ↦ rw (ne-eqb r j ne) (getD-set-other xs (r - 1) (j - 1) x d (λ e. ne (omega arith)))
     ]
 
 -- Another event than a flag flags nothing.
@@ -57,10 +57,10 @@ decision-past c some = (c some .0, committed-past (there here) (c some .1))
 -- A proposal writes nothing.
 pub proposal-board : {s : Session} (v : ℕ) {h : List Event} → Kept s h → Kept s (proposal v ∷ h)
 proposal-board v k =
-    record
-    { values = k .values
-    ; marks = λ j e a b m f. k .marks j e a b m (no-flag (λ i x. let z : _≡_ {A = ℕ} 0 1 = cc in omega arith) f)
-    ; decision = decision-past (k .decision)
+    record {
+      values = k .values;
+      marks = λ j e a b m f. k .marks j e a b m (no-flag (λ i x. let z : _≡_ {A = ℕ} 0 1 = cc in omega arith) f);
+      decision = decision-past (k .decision);
     }
 
 -- A write to register r and its event.
@@ -68,18 +68,18 @@ write-kept : {s : Session} (p r v : ℕ) {h : List Event} → Long s → 1 ≤ r
     Kept (written s (WriteValue r) v) (write p r v ∷ h)
 unfolding written
 write-kept {s} p r v long low high k =
-    record
-    { values = λ j a b. set-read (s .values) r j v 0 low a (omega (arith, long .values)) ∙ ap (cond (eqb r j) v) (k .values j a b)
-    ; marks = λ j e a b m f. k .marks j e a b m (no-flag (λ i x. let z : _≡_ {A = ℕ} 0 1 = cc in omega arith) f)
-    ; decision = decision-past (k .decision)
+    record {
+      values = λ j a b. set-read (s .values) r j v 0 low a (omega (arith, long .values)) ∙ ap (cond (eqb r j) v) (k .values j a b);
+      marks = λ j e a b m f. k .marks j e a b m (no-flag (λ i x. let z : _≡_ {A = ℕ} 0 1 = cc in omega arith) f);
+      decision = decision-past (k .decision);
     }
 
 -- An unmarked round is not the one that was just marked.
 unmarked-other : (i j : ℕ) (x : Bool) → cond (eqb i j) true x ≡ false → (i ≡ j → ⊥) × (x ≡ false)
 unmarked-other i j x m =
-    elim (ℕ-discrete i j)
-    [ yes e ↦ absurd (true≢false (sym (rw (eq-eqb i j e)) ∙ m))
-    | no ne ↦ (ne, sym (rw (ne-eqb i j ne)) ∙ m)
+    elim (ℕ-discrete i j) [
+      | yes e ↦ absurd (true≢false (sym (rw (eq-eqb i j e)) ∙ m))
+      | no ne ↦ (ne, sym (rw (ne-eqb i j ne)) ∙ m)
     ]
 
 -- A mark of round i and its event.
@@ -87,23 +87,23 @@ mark-kept : {s : Session} (i v : ℕ) {h : List Event} → Long s → 1 ≤ i �
     Kept (written s (SetMark i) v) (flag i ∷ h)
 unfolding written
 mark-kept {s} i v long low high k =
-    record
-    { values = k .values
-    ; marks =
+    record {
+      values = k .values;
+      marks =
           λ j e a b m f.
           let o = unmarked-other i j _ (sym (set-read (s .marks) i j true false low a (omega (arith, long .marks))) ∙ m) in
-          ⊎-elim (λ x. o .0 (cc)) (λ g. k .marks j e a b (o .1) g) (flagged-cases f)
-    ; decision = decision-past (k .decision)
+          ⊎-elim (λ x. o .0 (cc)) (λ g. k .marks j e a b (o .1) g) (flagged-cases f);
+      decision = decision-past (k .decision);
     }
 
 -- A write to the decision register and its event.
 decision-kept : {s : Session} (r v : ℕ) {h : List Event} → Kept s h → Kept (written s WriteDecision v) (commit r v ∷ h)
 unfolding written
 decision-kept r v {h} k =
-    record
-    { values = k .values
-    ; marks = λ j e a b m f. k .marks j e a b m (no-flag (λ i x. let z : _≡_ {A = ℕ} 0 1 = cc in omega arith) f)
-    ; decision = λ d. (r, record { before = h; past = here })
+    record {
+      values = k .values;
+      marks = λ j e a b m f. k .marks j e a b m (no-flag (λ i x. let z : _≡_ {A = ℕ} 0 1 = cc in omega arith) f);
+      decision = λ d. (r, record { before = h; past = here });
     }
 
 -- A mark that reads as 0 is not set.

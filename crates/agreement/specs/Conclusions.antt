@@ -42,9 +42,9 @@ first-or-never v (proposal w) h never = inr (never-more v _ h (λ r e. let z : _
 first-or-never v (write p r w) h never = inr (never-more v _ h (λ r e. let z : _≡_ {A = ℕ} 0 1 = cc in omega arith) never)
 first-or-never v (flag j) h never = inr (never-more v _ h (λ r e. let z : _≡_ {A = ℕ} 0 1 = cc in omega arith) never)
 first-or-never v (commit r w) h never =
-    elim (ℕ-discrete w v)
-    [ yes e ↦ inl (r, h, subst (λ (u : ℕ). Past (commit r u ∷ h) (commit r w ∷ h)) e here, never)
-    | no ne ↦ inr (never-more v _ h (λ r e. ne (cc)) never)
+    elim (ℕ-discrete w v) [
+      | yes e ↦ inl (r, h, subst (λ (u : ℕ). Past (commit r u ∷ h) (commit r w ∷ h)) e here, never)
+      | no ne ↦ inr (never-more v _ h (λ r e. ne (cc)) never)
     ]
 
 -- Of the commits of v one is the first, if there are any.
@@ -59,13 +59,13 @@ module _ {W : ℕ} {s : Session} {h : List Event} (i : Invariant W s h) where
   proposed-first p v d =
       ⊎-elim
       (λ f.
-          record
-          { round = f .0
-          ; before = f .1
-          ; commits = f .2
-          ; first = f .3
-          ; proposed = i .lawful .commits (f .2) .proposed
-          })
+      record {
+        round = f .0;
+        before = f .1;
+        commits = f .2;
+        first = f .3;
+        proposed = i .lawful .commits (f .2) .proposed;
+      })
       (λ never. let c = decided-committed i p v d in absurd (never (c .0) (c .1)))
       (first-commit v h)
 

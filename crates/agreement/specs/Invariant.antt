@@ -17,8 +17,10 @@ use Rattle.model.specs.Board.{processAt, withProcess, idle}
 use Rattle.model.specs.Step.{accessAt, access, found, nextAt, next, learnt, written, turn, process}
 use Rattle.model.specs.Refusal.{standing, isOutside}
 use Rattle.model.specs.Machine.{proposed, worked, looked, crashed}
-use Rattle.model.specs.Sound.{soundAt, soundPhase, soundProcess}
+use Rattle.model.specs.Sound.{soundAt}
+use Rattle.laws.specs.Phases.{ProcessSound, inside-some}
 use Rattle.laws.specs.Ranges.{InRange}
+use Rattle.laws.specs.Operations.{written-n}
 use Rattle.history.specs.Event.{Event, proposal, Lawful, Past, here, there, Committed}
 use Rattle.history.specs.Grow.{lawful-proposal}
 use Rattle.walk.specs.Place.{recorded, Stands, Placed}
@@ -35,16 +37,6 @@ pub record Invariant (W : ℕ) (s : Session) (h : List Event) : Type 0 where
   pub kept : Kept s h
 
 -- ---- a write changes neither n, nor the limit, nor the processes
-
-written-n : (s : Session) (a : Access) (e : ℕ) → (written s a e) .n ≡ s .n
-unfolding written
-written-n s Nothing e = refl
-written-n s (ReadValue j) e = refl
-written-n s (WriteValue j) e = refl
-written-n s (ReadMark j) e = refl
-written-n s (SetMark j) e = refl
-written-n s ReadDecision e = refl
-written-n s WriteDecision e = refl
 
 pub worked-n : (W : ℕ) (s : Session) (p : ℕ) (leader : Bool) → (worked W s p leader) .n ≡ s .n
 unfolding worked turn
@@ -82,9 +74,9 @@ set-kept s p q k = record { values = k .values; marks = k .marks; decision = k .
 set-stands : (W : ℕ) (ps : List Process) (p : ℕ) (q : Process) (h : List Event) → p < length ps → Stands W p q h →
     ((o : ℕ) → (o ≡ p → ⊥) → Stands W o (getD ps o idle) h) → (o : ℕ) → Stands W o (getD (set ps p q) o idle) h
 set-stands W ps p q h low mine others o =
-    elim (ℕ-discrete o p)
-    [ yes e ↦ rw (e, getD-set-same ps p q idle low) mine
-    | no ne ↦ rw (getD-set-other ps p o q idle ne) (others o ne)
+    elim (ℕ-discrete o p) [
+      | yes e ↦ rw (e, getD-set-same ps p q idle low) mine
+      | no ne ↦ rw (getD-set-other ps p o q idle ne) (others o ne)
     ]
 
 -- ---- the operations
@@ -93,26 +85,25 @@ module _ {W : ℕ} {s : Session} {h : List Event} (p : ℕ) (i : Invariant W s h
   -- Process p is told to work.
   pub worked-invariant : (leader : Bool) → soundAt W (worked W s p leader) ≡ true →
       InRange (s .limit) (access (s .limit) (processAt s p) leader) →
-      soundPhase W (s .limit) (processAt s p .round) (processAt s p .phase) ≡ true →
-      (isOutside (standing (processAt s p .phase)) ≡ false → 0 < processAt s p .estimate) →
+      ProcessSound W (s .limit) (processAt s p .round) (processAt s p .estimate) (processAt s p .phase) →
       Invariant W (worked W s p leader) (recorded p (processAt s p .round) (processAt s p .estimate) (processAt s p .phase) h)
   unfolding worked turn access next
-  worked-invariant leader ok range phase some =
+  worked-invariant leader ok range f =
       let q = processAt s p in
       let a = accessAt (s .limit) (q .round) (q .phase) leader in
       let s′ = written s a (q .estimate) in
       let q′ = nextAt W (s .limit) (q .round) (q .estimate) (q .phase) leader (found s a) in
       let h′ = recorded p (q .round) (q .estimate) (q .phase) h in
-      record
-      { sound = ok
-      ; long = set-long s′ p _ (written-long s a (q .estimate) (i .long))
-      ; lawful = subst (λ (n : ℕ). Lawful W n h′) (sym (written-n s a (q .estimate))) (step-lawful (s .limit) p _ _ _ low some phase (i .lawful) (i .stands p))
-      ; stands =
+      record {
+        sound = ok;
+        long = set-long s′ p _ (written-long s a (q .estimate) (i .long));
+        lawful = subst (λ (n : ℕ). Lawful W n h′) (sym (written-n s a (q .estimate))) (step-lawful (s .limit) p (q .round) (q .estimate) (q .phase) low (inside-some f) (f .phase) (i .lawful) (i .stands p));
+        stands =
             subst (λ (ps : List Process). (o : ℕ) → Stands W o (getD (set ps p q′) o idle) h′) (sym (written-processes s a (q .estimate)))
             (set-stands W (s .processes) p q′ h′ (omega (arith, i .long .processes))
-            (step-placed (s .limit) p _ _ _ leader (found s a) phase (i .lawful) (i .stands p) (found-kept s a h range (i .kept)))
-            (λ o ne. let x = processAt s o in others-placed W o (x .round) (x .estimate) (x .phase) p (q .round) (q .estimate) (q .phase) h ne (i .stands o)))
-      ; kept = set-kept s′ p _ (turn-kept s p _ _ _ leader h (i .long) range (i .kept))
+            (step-placed (s .limit) p (q .round) (q .estimate) (q .phase) leader (found s a) (f .phase) (i .lawful) (i .stands p) (found-kept s a h range (i .kept)))
+            (λ o ne. let x = processAt s o in others-placed W o (x .round) (x .estimate) (x .phase) p (q .round) (q .estimate) (q .phase) h ne (i .stands o)));
+        kept = set-kept s′ p _ (turn-kept s p _ _ _ leader h (i .long) range (i .kept));
       }
 
   -- Process p, which had not proposed, proposes v.
@@ -120,30 +111,30 @@ module _ {W : ℕ} {s : Session} {h : List Event} (p : ℕ) (i : Invariant W s h
       Invariant W (proposed s p v) (proposal v ∷ h)
   unfolding proposed
   proposed-invariant v ok start =
-      record
-      { sound = ok
-      ; long = set-long s p _ (i .long)
-      ; lawful = lawful-proposal v (i .lawful)
-      ; stands =
+      record {
+        sound = ok;
+        long = set-long s p _ (i .long);
+        lawful = lawful-proposal v (i .lawful);
+        stands =
             set-stands W (s .processes) p _ (proposal v ∷ h) (omega (arith, i .long .processes))
             (rw start (proposal-placed W p v h))
-            (λ o ne. let x = processAt s o in proposal-kept W o (x .round) (x .estimate) (x .phase) v h (i .stands o))
-      ; kept = set-kept s p _ (proposal-board v (i .kept))
+            (λ o ne. let x = processAt s o in proposal-kept W o (x .round) (x .estimate) (x .phase) v h (i .stands o));
+        kept = set-kept s p _ (proposal-board v (i .kept));
       }
 
   -- Process p looks at the decision register.
   pub looked-invariant : soundAt W (looked s p) ≡ true → Invariant W (looked s p) h
   unfolding looked turn written found
   looked-invariant ok =
-      record
-      { sound = ok
-      ; long = set-long s p _ (i .long)
-      ; lawful = i .lawful
-      ; stands =
+      record {
+        sound = ok;
+        long = set-long s p _ (i .long);
+        lawful = i .lawful;
+        stands =
             set-stands W (s .processes) p _ h (omega (arith, i .long .processes))
             (learnt-placed W p (processAt s p) (s .decision) h (i .kept .decision) (i .stands p))
-            (λ o ne. i .stands o)
-      ; kept = set-kept s p _ (i .kept)
+            (λ o ne. i .stands o);
+        kept = set-kept s p _ (i .kept);
       }
 
   -- Process p, which has proposed, crashes.
@@ -151,13 +142,13 @@ module _ {W : ℕ} {s : Session} {h : List Event} (p : ℕ) (i : Invariant W s h
       Invariant W (crashed s p) h
   unfolding crashed
   crashed-invariant ok inside =
-      record
-      { sound = ok
-      ; long = set-long s p _ (i .long)
-      ; lawful = i .lawful
-      ; stands =
+      record {
+        sound = ok;
+        long = set-long s p _ (i .long);
+        lawful = i .lawful;
+        stands =
             set-stands W (s .processes) p _ h (omega (arith, i .long .processes))
             (let x = processAt s p in crash-placed p (x .round) (x .estimate) (x .phase) inside (i .lawful) (i .stands p))
-            (λ o ne. i .stands o)
-      ; kept = set-kept s p _ (i .kept)
+            (λ o ne. i .stands o);
+        kept = set-kept s p _ (i .kept);
       }

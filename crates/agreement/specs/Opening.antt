@@ -2,19 +2,16 @@
 use Prim.Native.Nat.{ℕ, suc, zero, _-_, _≤_, _<_}
 use native.Mathlib.Omega.{arith}
 use mathlib.Core.Path.{_≡_, refl}
-use mathlib.Core.Bool.{Bool, true, false, not, _&&_}
+use mathlib.Core.Bool.{true, false}
 use mathlib.Core.List.{List, [], _∷_}
 use lib.ListN.{length, getD, replicate, length-replicate}
-use lib.Dec.{leb}
-use borrow.Author.Tests.{not-false, leb-true}
 use Rattle.model.specs.declared.Session.{Session}
 use Rattle.model.specs.Window.{window}
 use Rattle.model.specs.Board.{opened, idle, maxProcesses, maxRounds}
 use Rattle.model.specs.Refusal.{refusal, openTests, changed}
 use Rattle.model.specs.Machine.{openWithin, opening}
-use Rattle.model.specs.Sound.{sound, soundAt}
-use Rattle.laws.specs.Accepted.{none-holds}
-use Rattle.history.specs.Branch.{both-true}
+use Rattle.model.specs.Sound.{soundAt}
+use Rattle.laws.specs.Operations.{open-accepted, opened-sound}
 use Rattle.history.specs.Grow.{lawful-none}
 use Rattle.history.specs.Past.{past-none}
 use Rattle.walk.specs.Place.{Stands}
@@ -30,19 +27,31 @@ same-everywhere (suc k) (suc i) a = same-everywhere k i a
 opened-kept : (n L : ℕ) → Kept (opened n L) []
 unfolding opened
 opened-kept n L =
-    record
-    { values = λ j a b. same-everywhere maxRounds (j - 1) 0
-    ; marks = λ j e a b m f. past-none (f .past)
-    ; decision = λ some. absurd (some refl)
+    record {
+      values = λ j a b. same-everywhere maxRounds (j - 1) 0;
+      marks = λ j e a b m f. past-none (f .past);
+      decision = λ some. absurd (some refl);
     }
 
 pub opened-invariant : (W n L : ℕ) → n ≤ maxProcesses → L ≤ maxRounds → soundAt W (opened n L) ≡ true → Invariant W (opened n L) []
 unfolding opened
 opened-invariant W n L few low ok =
-    record
-    { sound = ok
-    ; long = record { values = simp length-replicate low; marks = simp length-replicate low; processes = simp length-replicate few }
-    ; lawful = lawful-none W n
-    ; stands = λ p. rw (same-everywhere maxProcesses p idle) tt
-    ; kept = opened-kept n L
+    record {
+      sound = ok;
+      long = record { values = simp length-replicate low; marks = simp length-replicate low; processes = simp length-replicate few };
+      lawful = lawful-none W n;
+      stands = λ p. rw (same-everywhere maxProcesses p idle) tt;
+      kept = opened-kept n L;
     }
+
+-- The session of an accepted opening.
+pub opening-kept : (n L : ℕ) → opening n L .code ≡ 0 → Invariant (window (opening n L .session .n)) (opening n L .session) []
+unfolding opening openWithin opened
+opening-kept n L = go (refusal (openTests maxProcesses maxRounds n L)) refl
+  where
+    go : (k : ℕ) → refusal (openTests maxProcesses maxRounds n L) ≡ k → changed k (opened 0 0) (opened n L) .code ≡ 0 →
+        Invariant (window (changed k (opened 0 0) (opened n L) .session .n)) (changed k (opened 0 0) (opened n L) .session) []
+    go zero e ok =
+        let a = open-accepted maxProcesses maxRounds n L e in
+        opened-invariant (window n) n L (a .1) (a .3) (opened-sound (window n) n L (a .0) (a .1) (a .2) (a .3))
+    go (suc k) e ok = absurd (omega arith)

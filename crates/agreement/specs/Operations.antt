@@ -4,9 +4,6 @@ use native.Mathlib.Omega.{arith}
 use mathlib.Core.Path.{_≡_, refl, sym, _∙_, ap, subst}
 use mathlib.Core.Bool.{Bool, true, false, cond, _&&_}
 use mathlib.Core.List.{List, [], _∷_}
-use lib.Dec.{leb, ltb, eqb}
-use lib.ListN.{length}
-use borrow.Author.Tests.{leb-true, ltb-true, eqb-true}
 use Rattle.model.specs.declared.Phase.{Phase}
 use Rattle.model.specs.declared.Phase.the-variants.{Idle, Waiting, Write, Scan, Adopt, Compare, Flag, CheckMark}
 use Rattle.model.specs.declared.Phase.the-variants.{CheckValue, Commit, Exhausted, Crashed, Decided}
@@ -18,13 +15,16 @@ use Rattle.model.specs.declared.Changed.{Changed}
 use Rattle.model.specs.declared.Stepped.{Stepped}
 use Rattle.model.specs.Window.{window}
 use Rattle.model.specs.Board.{processAt}
-use Rattle.model.specs.Step.{access, accessAt, counted, turn, written}
+use Rattle.model.specs.Step.{access, counted, turn, written}
 use Rattle.model.specs.Refusal.{refusal, proposeTests, stepTests, learnTests, crashTests, changed, stepped, standing, isOutside}
 use Rattle.model.specs.Machine.{proposed, worked, looked, crashed, propose, step, learn, crash}
-use Rattle.model.specs.Sound.{sound, soundAt, soundPhase, soundProcess}
-use Rattle.laws.specs.Ranges.{InRange}
+use Rattle.model.specs.Sound.{soundAt}
+use Rattle.laws.specs.Windows.{window-least}
+use Rattle.laws.specs.Phases.{PhaseSound, ProcessSound, process-facts}
+use Rattle.laws.specs.Ranges.{access-range}
+use Rattle.laws.specs.Sounds.{sound-facts, sound-process}
+use Rattle.laws.specs.Operations.{proposed-sound, worked-sound, looked-sound, crashed-sound}
 use Rattle.laws.specs.Accepted.{propose-accepted, step-accepted, learn-accepted, crash-accepted}
-use Rattle.history.specs.Branch.{both-true}
 use Rattle.history.specs.Event.{Event, proposal}
 use Rattle.walk.specs.Place.{recorded}
 use Rattle.agreement.specs.Calls.{ifAccepted}
@@ -35,9 +35,8 @@ abbrev pub Kept : Session → List Event → Type 0
 Kept s h = Invariant (window (s .n)) s h
 
 -- A process that has not proposed is idle, in round 0.
-idle-start : (W L r : ℕ) (φ : Phase) → isOutside (standing φ) ≡ true → soundPhase W L r φ ≡ true → r ≡ 0
-unfolding soundPhase
-idle-start W L r Idle o ok = eqb-true r 0 ok
+idle-start : (W L r : ℕ) (φ : Phase) → isOutside (standing φ) ≡ true → PhaseSound W L r φ → r ≡ 0
+idle-start W L r Idle o ok = ok
 idle-start W L r Waiting o ok = let z : _≡_ {A = ℕ} 0 1 = cc in absurd (omega arith)
 idle-start W L r Write o ok = let z : _≡_ {A = ℕ} 0 1 = cc in absurd (omega arith)
 idle-start W L r (Scan k) o ok = let z : _≡_ {A = ℕ} 0 1 = cc in absurd (omega arith)
@@ -51,82 +50,70 @@ idle-start W L r Exhausted o ok = let z : _≡_ {A = ℕ} 0 1 = cc in absurd (om
 idle-start W L r Crashed o ok = let z : _≡_ {A = ℕ} 0 1 = cc in absurd (omega arith)
 idle-start W L r Decided o ok = let z : _≡_ {A = ℕ} 0 1 = cc in absurd (omega arith)
 
-module _
-  (propose-sound : (s : Session) (p v : ℕ) → sound s ≡ true → sound (propose s p v .session) ≡ true)
-  (step-sound : (s : Session) (p : ℕ) (leader : Bool) (c : Counts) → sound s ≡ true → sound (step s p leader c .session) ≡ true)
-  (learn-sound : (s : Session) (p : ℕ) (c : Counts) → sound s ≡ true → sound (learn s p c .session) ≡ true)
-  (crash-sound : (s : Session) (p : ℕ) → sound s ≡ true → sound (crash s p .session) ≡ true)
-  (sound-process : (W : ℕ) (s : Session) (p : ℕ) → soundAt W s ≡ true → p < length (s .processes) → soundProcess W (s .limit) (processAt s p) ≡ true)
-  (access-range : (W L r : ℕ) (φ : Phase) (leader : Bool) → soundPhase W L r φ ≡ true → r ≤ L → InRange L (accessAt L r φ leader))
+-- What soundness says of process p.
+facts : {W : ℕ} {s : Session} {h : List Event} (p : ℕ) → Invariant W s h →
+    ProcessSound W (s .limit) (processAt s p .round) (processAt s p .estimate) (processAt s p .phase)
+facts {W} {s} p i = process-facts W (s .limit) (processAt s p) (sound-process W s p (i .sound))
+
+-- The machine's window is at least 1.
+wide : {s : Session} {h : List Event} → Kept s h → 1 ≤ window (s .n)
+wide {s} i = omega (arith, window-least (s .n) (sound-facts _ s (i .sound) .some))
+
+pub propose-kept : (s : Session) (p v : ℕ) (h : List Event) → Kept s h →
+    Kept (propose s p v .session) (ifAccepted (propose s p v .code) h (proposal v ∷ h))
+unfolding propose proposed
+propose-kept s p v h i = go (refusal (proposeTests s p v)) refl
   where
-  -- What soundness says of process p: its phase's clause, its round, and its estimate.
-  pub process-facts : {W : ℕ} {s : Session} {h : List Event} (p : ℕ) → Invariant W s h → p < s .n →
-      (soundPhase W (s .limit) (processAt s p .round) (processAt s p .phase) ≡ true)
-      × (processAt s p .round ≤ s .limit)
-      × (isOutside (standing (processAt s p .phase)) ≡ false → 0 < processAt s p .estimate)
-  unfolding soundProcess
-  process-facts {W} {s} p i low =
-      let q = processAt s p in
-      let e = cond (isOutside (standing (q .phase))) (eqb (q .estimate) 0) (ltb 0 (q .estimate)) in
-      let r = leb (q .round) (s .limit) in
-      let t = both-true (e && r) _ (sound-process W s p (i .sound) (omega (arith, i .long .processes))) in
-      let u = both-true e r (t .0) in
-      (t .1, leb-true _ _ (u .1), λ inside. ltb-true 0 (q .estimate) (rw inside at (u .0)))
+    go : (k : ℕ) → refusal (proposeTests s p v) ≡ k →
+        Kept (changed k s (proposed s p v) .session) (ifAccepted (changed k s (proposed s p v) .code) h (proposal v ∷ h))
+    go zero e =
+        let a = propose-accepted s p v e in
+        proposed-invariant p i (a .0) v (proposed-sound _ (wide i) s p (i .sound) v (a .0) (a .1))
+        (idle-start (window (s .n)) (s .limit) (processAt s p .round) (processAt s p .phase) (a .2) (facts p i .phase))
+    go (suc k) e = i
 
-  pub propose-kept : (s : Session) (p v : ℕ) (h : List Event) → Kept s h →
-      Kept (propose s p v .session) (ifAccepted (propose s p v .code) h (proposal v ∷ h))
-  unfolding propose proposed sound
-  propose-kept s p v h i = go (refusal (proposeTests s p v)) refl (propose-sound s p v (i .sound))
-    where
-      go : (k : ℕ) → refusal (proposeTests s p v) ≡ k → sound (changed k s (proposed s p v) .session) ≡ true →
-          Kept (changed k s (proposed s p v) .session) (ifAccepted (changed k s (proposed s p v) .code) h (proposal v ∷ h))
-      go zero e ok =
-          let a = propose-accepted s p v e in
-          let f = process-facts p i (a .0) in
-          proposed-invariant p i (a .0) v ok (idle-start _ _ _ _ (a .2) (f .0))
-      go (suc k) e ok = i
+pub learn-kept : (s : Session) (p : ℕ) (c : Counts) (h : List Event) → Kept s h → Kept (learn s p c .session) h
+unfolding learn looked turn written
+learn-kept s p c h i = go (refusal (learnTests s p c)) refl
+  where
+    go : (k : ℕ) → refusal (learnTests s p c) ≡ k → Kept (stepped k s (looked s p) c (counted ReadDecision c) .session) h
+    go zero e =
+        let low = learn-accepted s p c e .0 in
+        looked-invariant p i low (looked-sound _ (wide i) s p (i .sound) low)
+    go (suc k) e = i
 
-  pub learn-kept : (s : Session) (p : ℕ) (c : Counts) (h : List Event) → Kept s h → Kept (learn s p c .session) h
-  unfolding learn looked turn written sound
-  learn-kept s p c h i = go (refusal (learnTests s p c)) refl (learn-sound s p c (i .sound))
-    where
-      go : (k : ℕ) → refusal (learnTests s p c) ≡ k → sound (stepped k s (looked s p) c (counted ReadDecision c) .session) ≡ true →
-          Kept (stepped k s (looked s p) c (counted ReadDecision c) .session) h
-      go zero e ok = looked-invariant p i (learn-accepted s p c e .0) ok
-      go (suc k) e ok = i
+pub crash-kept : (s : Session) (p : ℕ) (h : List Event) → Kept s h → Kept (crash s p .session) h
+unfolding crash crashed
+crash-kept s p h i = go (refusal (crashTests s p)) refl
+  where
+    go : (k : ℕ) → refusal (crashTests s p) ≡ k → Kept (changed k s (crashed s p) .session) h
+    go zero e =
+        let a = crash-accepted s p e in
+        crashed-invariant p i (a .0) (crashed-sound _ (wide i) s p (i .sound) (a .0) (a .1)) (a .1)
+    go (suc k) e = i
 
-  pub crash-kept : (s : Session) (p : ℕ) (h : List Event) → Kept s h → Kept (crash s p .session) h
-  unfolding crash crashed sound
-  crash-kept s p h i = go (refusal (crashTests s p)) refl (crash-sound s p (i .sound))
-    where
-      go : (k : ℕ) → refusal (crashTests s p) ≡ k → sound (changed k s (crashed s p) .session) ≡ true →
-          Kept (changed k s (crashed s p) .session) h
-      go zero e ok = let a = crash-accepted s p e in crashed-invariant p i (a .0) ok (a .1)
-      go (suc k) e ok = i
+pub step-kept : (s : Session) (p : ℕ) (leader : Bool) (c : Counts) (h : List Event) → Kept s h →
+    Kept (step s p leader c .session)
+    (ifAccepted (step s p leader c .code) h (recorded p (processAt s p .round) (processAt s p .estimate) (processAt s p .phase) h))
+unfolding step access
+step-kept s p leader c h i = go (refusal (stepTests s p c)) refl
+  where
+    after : Session
+    after = worked (window (s .n)) s p leader
 
-  pub step-kept : (s : Session) (p : ℕ) (leader : Bool) (c : Counts) (h : List Event) → Kept s h →
-      Kept (step s p leader c .session)
-      (ifAccepted (step s p leader c .code) h (recorded p (processAt s p .round) (processAt s p .estimate) (processAt s p .phase) h))
-  unfolding step sound access
-  step-kept s p leader c h i = go (refusal (stepTests s p c)) refl (step-sound s p leader c (i .sound))
-    where
-      after : Session
-      after = worked (window (s .n)) s p leader
+    counts′ : Counts
+    counts′ = counted (access (s .limit) (processAt s p) leader) c
 
-      same-n : after .n ≡ s .n
-      same-n = worked-n (window (s .n)) s p leader
+    h′ : List Event
+    h′ = recorded p (processAt s p .round) (processAt s p .estimate) (processAt s p .phase) h
 
-      counts′ : Counts
-      counts′ = counted (access (s .limit) (processAt s p) leader) c
-
-      h′ : List Event
-      h′ = recorded p (processAt s p .round) (processAt s p .estimate) (processAt s p .phase) h
-
-      go : (k : ℕ) → refusal (stepTests s p c) ≡ k → sound (stepped k s after c counts′ .session) ≡ true →
-          Kept (stepped k s after c counts′ .session) (ifAccepted (stepped k s after c counts′ .code) h h′)
-      go zero e ok =
-          let low = step-accepted s p c e .0 in
-          let f = process-facts p i low in
-          subst (λ (n : ℕ). Invariant (window n) after h′) (sym same-n)
-          (worked-invariant p i low leader (subst (λ (n : ℕ). soundAt (window n) after ≡ true) same-n ok) (access-range (window (s .n)) (s .limit) (processAt s p .round) (processAt s p .phase) leader (f .0) (f .1)) (f .0) (f .2))
-      go (suc k) e ok = i
+    go : (k : ℕ) → refusal (stepTests s p c) ≡ k →
+        Kept (stepped k s after c counts′ .session) (ifAccepted (stepped k s after c counts′ .code) h h′)
+    go zero e =
+        let a = step-accepted s p c e in
+        let f = facts p i in
+        let q = processAt s p in
+        subst (λ (n : ℕ). Invariant (window n) after h′) (sym (worked-n (window (s .n)) s p leader))
+        (worked-invariant p i (a .0) leader (worked-sound _ (wide i) s p (i .sound) leader (a .0) (a .1))
+        (access-range (window (s .n)) (s .limit) (q .round) (q .phase) leader (f .round) (f .phase)) f)
+    go (suc k) e = i

@@ -43,7 +43,7 @@ pub record Rule (start : Session) (cs : List Call) (s : Session) : Type 0 where
   pub commitment : (R r u v e : ℕ) → Committed R v (past start cs) → Written r u e (past start cs) → R ≤ r → u ≡ v
 
 -- The claim: it holds of every list of calls from every accepted opening.
-pub AgreementRule : Type 0
+abbrev pub AgreementRule : Type 0
 AgreementRule =
     (n L : ℕ)
     → opening n L .code ≡ 0

@@ -10,11 +10,17 @@ use Rattle.model.specs.declared.Changed.{Changed}
 use Rattle.model.specs.declared.Stepped.{Stepped}
 use Rattle.model.specs.Refusal.{Test, refusal, changed, stepped, proposeTests, stepTests, learnTests, crashTests}
 use Rattle.model.specs.Machine
+use Rattle.model.specs.Machine.{opening}
 use Rattle.model.specs.Public
 use Rattle.model.specs.Sound.{sound}
-use Rattle.agreement.specs.Calls.{Call, propose, step, learn, crash, Promised, Answers, Run, none, call, left, code, fed, machine, past}
+use Rattle.laws.specs.Windows.{window-least, window-square}
+use Rattle.laws.specs.Sounds.{sound-facts}
+use Rattle.history.specs.Event.{Event}
+use Rattle.agreement.specs.Calls.{Call, propose, step, learn, crash, Promised, Answers, Run, none, call, left, code, fed, machine, noted, past}
 use Rattle.agreement.specs.Rule.{EachAsTheMachine, Rule, AgreementRule}
-use Rattle.agreement.specs.Operations.{Kept}
+use Rattle.agreement.specs.Operations.{Kept, propose-kept, step-kept, learn-kept, crash-kept}
+use Rattle.agreement.specs.Opening.{opening-kept}
+use Rattle.agreement.specs.Conclusions.{decided-agree, proposed-first, committed-only}
 
 -- A sound session is answered as the machine answers.
 sound-answers : (m : Session) (c : Call) → sound m ≡ true → Promised m c → Answers m c
@@ -64,3 +70,37 @@ never-unsound m (learn p c a) e three =
     not-returned 3 (learnTests m p c) (omega arith) (sym (stepped-code _ m _ c _) ∙ sym (ap (λ (x : Stepped). x .code) e) ∙ three)
 never-unsound m (crash p a) e three =
     not-returned 3 (crashTests m p) (omega arith) (sym (changed-code _ m _) ∙ sym (ap (λ (x : Changed). x .code) e) ∙ three)
+
+-- One operation keeps the invariant.
+kept-call : (m : Session) (c : Call) (h : List Event) → Kept m h → Kept (fed m c) (noted m c h)
+kept-call m (propose p v a) h i = propose-kept m p v h i
+kept-call m (step p leader c a) h i = step-kept m p leader c h i
+kept-call m (learn p c a) h i = learn-kept m p c h i
+kept-call m (crash p a) h i = crash-kept m p h i
+
+-- A list of calls: each is answered as the machine answers, the session is the machine's, and the machine keeps the invariant.
+followed : {start : Session} {cs : List Call} {s : Session} → Kept start [] → Run start cs s →
+    EachAsTheMachine start cs × (s ≡ machine start cs) × Kept (machine start cs) (past start cs)
+unfolding sound
+followed i none = (tt, refl, i)
+followed {start} i (call {cs} {s} run c promised) =
+    let f = followed i run in
+    let m = machine start cs in
+    let a = sound-answers m c (f .2 .sound) (subst (λ (x : Session). Promised x c) (f .1) promised) in
+    let l = answers-left m c a in
+    ((a, l, never-unsound m c a, f .0), l, kept-call m c (past start cs) (f .2))
+
+-- The agreement rule.
+pub agreement : AgreementRule
+agreement n L ok cs s run =
+    let start = opening n L .session in
+    let f = followed (opening-kept n L ok) run in
+    let i : Kept s (past start cs) = subst (λ (x : Session). Kept x (past start cs)) (sym (f .1)) (f .2) in
+    let some = sound-facts _ s (i .sound) .some in
+    record {
+      each-call = f .0;
+      session = f .1;
+      agreement = decided-agree i (window-least (s .n) some) (window-square (s .n));
+      validity = proposed-first i;
+      commitment = committed-only i (window-least (s .n) some) (window-square (s .n));
+    }

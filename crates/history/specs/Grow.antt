@@ -10,7 +10,7 @@ use native.Mathlib.Omega.{arith}
 use Rattle.history.specs.Event.{Event, proposal, write, flag, commit, top, last, Past}
 use Rattle.history.specs.Event.{Proposed, Wrote, Flagged, Passed, CommitLawful, Lawful}
 use Rattle.history.specs.Event.Past.{here, there}
-use Rattle.history.specs.Branch.{cond-cases}
+use Rattle.basics.specs.Bools.{cond-cases}
 use Rattle.history.specs.Past.{past-none, past-cases, proposed-past, written-past, passed-past, wrote-cases, flagged-cases}
 use Rattle.history.specs.Registers.{wrote-round}
 

@@ -1,6 +1,5 @@
 -- The past of a run, and what can be said of it.
 pub mod Event
-pub mod Branch
 pub mod Past
 pub mod Registers
 pub mod Grow

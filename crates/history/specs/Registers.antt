@@ -8,7 +8,7 @@ use native.Mathlib.Nat.{le-refl, le-trans}
 use native.Mathlib.Omega.{arith}
 use Rattle.history.specs.Event.{Event, proposal, write, flag, commit, top, last, Past, Wrote, Written, Flagged}
 use Rattle.history.specs.Event.Past.{here, there}
-use Rattle.history.specs.Branch.{cond-cases}
+use Rattle.basics.specs.Bools.{cond-cases}
 use Rattle.history.specs.Past.{past-before, written-past}
 
 -- ---- the highest written round

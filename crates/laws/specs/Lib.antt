@@ -1,4 +1,9 @@
 -- Laws about the definitions of model.
-pub mod Ranges
+pub mod Every
 pub mod Accepted
 pub mod Windows
+pub mod Phases
+pub mod Ranges
+pub mod Keeps
+pub mod Sounds
+pub mod Operations

@@ -12,7 +12,7 @@ use Rattle.model.specs.declared.Phase.{Phase}
 use Rattle.model.specs.declared.Phase.the-variants.{Waiting, CheckMark, CheckValue, Commit}
 use Rattle.history.specs.Event.{Event, commit, Flagged, CommitLawful}
 use Rattle.history.specs.Event.Past.{here, there}
-use Rattle.history.specs.Branch.{cond-cases}
+use Rattle.basics.specs.Bools.{cond-cases}
 use Rattle.history.specs.Past.{proposed-past}
 use Rattle.walk.specs.Place.{Unflagged, Placed}
 use Rattle.walk.specs.Kept.{finished-past}

@@ -15,7 +15,7 @@ use Rattle.model.specs.declared.Process.{Process}
 use Rattle.model.specs.declared.Access.the-variants.{Nothing, ReadValue}
 use Rattle.model.specs.Step.{process}
 use Rattle.history.specs.Event.{Event, top, last, Proposed, Lawful}
-use Rattle.history.specs.Branch.{cond-cases}
+use Rattle.basics.specs.Bools.{cond-cases}
 use Rattle.history.specs.Registers.{WrittenTo, wrote-top, last-above, last-written, last-fresh}
 use Rattle.walk.specs.Place.{Found, Finished, Placed, Stands}
 

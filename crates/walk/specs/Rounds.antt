@@ -13,7 +13,7 @@ use Rattle.model.specs.declared.Phase.the-variants.{Waiting, Write, Compare, Fl
 use Rattle.model.specs.Step.{goOn}
 use Rattle.history.specs.Event.{Event, write, flag, top, last, Proposed, Held, Contested, Compared}
 use Rattle.history.specs.Event.Past.{here, there}
-use Rattle.history.specs.Branch.{cond-cases}
+use Rattle.basics.specs.Bools.{cond-cases}
 use Rattle.history.specs.Past.{proposed-past}
 use Rattle.history.specs.Registers.{written-newest}
 use Rattle.walk.specs.Place.{Walked, Finished, Placed}

@@ -15,7 +15,7 @@ use Rattle.model.specs.Refusal.{standing, isOutside}
 use Rattle.history.specs.Event.{Event, proposal, Proposed, Committed, Lawful}
 use Rattle.history.specs.Event.Past.{here}
 use Rattle.history.specs.Past.{past-before, proposed-past}
-use Rattle.history.specs.Branch.{cond-cases}
+use Rattle.basics.specs.Bools.{cond-cases}
 use Rattle.walk.specs.Place.{Placed, Stands}
 
 -- A process that proposed waits in round 0.

@@ -1,0 +1,2 @@
+-- General lemmas that name nothing of this project.
+pub mod Bools
