@@ -1,8 +1,325 @@
 // The choice of a step: functions of one process' record and one value read, which change nothing.
 ghost use mathlib.Core.Path.{_≡_};
+ghost use mathlib.Core.Bool.{Bool, true, cond};
+ghost use mathlib.Core.List.{[], _∷_};
+ghost use Prim.Native.Nat.{ℕ, _+_, _-_, min};
+ghost use lib.Dec.{ltb, eqb};
 ghost use Rattle.model.specs.Window.{window as windowOf};
+ghost use Rattle.model.specs.Step.{access as accessOf, accessAt, process as processOf, nextAt, next as nextOf};
+ghost use Rattle.model.specs.Step.{goOn, learnt as learntOf, counted as countedOf};
+ghost use Rattle.model.specs.Refusal.{standing as standingOf, isOutside, isGone, isSpent, full as fullOf, refusal};
 use model::Access;
+use model::Counts;
+use model::Phase;
+use model::Process;
+use model::Standing;
 
-pub fn two() -> usize {
-    2
+// a - b, and 0 where b is above a.
+fn minus(a: usize, b: usize) -> usize
+    ensures { λ r. ⌜ r ≡ a - b ⌝ }
+{
+    if b < a { a - b } else { 0 }
+}
+
+// 01, "The board and the seats": the window of n processes.
+pub fn window(n: u8) -> usize
+    ensures { λ r. ⌜ r ≡ windowOf n ⌝ }
+{
+    let squared = n as usize;
+    let mut m: usize = 0;
+    while m * m < squared {
+        m += 1;
+    }
+    2 * m + 1
+}
+
+// 01, "One turn at a time", gate: a process that is told to lead reads the register of the next round, if there is one.
+fn gate_access(limit: usize, round: usize, leader: bool) -> Access
+    ensures { λ r. ⌜ r ≡ accessAt limit round Phase.Waiting leader ⌝ }
+{
+    if leader {
+        if round < limit {
+            return Access::ReadValue(round + 1);
+        }
+    }
+    Access::Nothing
+}
+
+// 01, "One turn at a time": the one register operation of a work turn.
+pub fn access(limit: usize, q: Process, leader: bool) -> Access
+    ensures { λ r. ⌜ r ≡ accessOf limit q leader ⌝ }
+{
+    let phase = q.phase;
+    let r = q.round;
+    match phase {
+        Phase::Idle => Access::Nothing,
+        Phase::Waiting => gate_access(limit, r, leader),
+        Phase::Write => Access::WriteValue(r),
+        Phase::Scan(k) => Access::ReadValue(k),
+        Phase::Adopt(k) => Access::ReadValue(k),
+        Phase::Compare(i) => Access::ReadValue(minus(r, i)),
+        Phase::Flag(i) => Access::SetMark(minus(r, i)),
+        Phase::CheckMark(i) => Access::ReadMark(minus(r, i)),
+        Phase::CheckValue(i) => Access::ReadValue(minus(r, i)),
+        Phase::Commit => Access::WriteDecision,
+        Phase::Exhausted => Access::Nothing,
+        Phase::Crashed => Access::Nothing,
+        Phase::Decided => Access::Nothing,
+    }
+}
+
+// A process' record.
+fn process(phase: Phase, round: usize, estimate: u32) -> Process
+    ensures { λ r. ⌜ r ≡ processOf phase round estimate ⌝ }
+{
+    Process {
+        phase: phase,
+        round: round,
+        estimate: estimate,
+    }
+}
+
+// 01, "One turn at a time", gate and seek: past the filled register of round k, to the next one or, at the last, to adopt it.
+fn upward(limit: usize, k: usize) -> Phase
+    ensures { λ r. ⌜ r ≡ cond (ltb k limit) (Phase.Scan (k + 1)) (Phase.Adopt limit) ⌝ }
+{
+    if k < limit {
+        Phase::Scan(k + 1)
+    } else {
+        Phase::Adopt(limit)
+    }
+}
+
+// 01, "One turn at a time", gate with hint yes. The window plays no part.
+fn lead(limit: usize, round: usize, estimate: u32, x: u32) -> Process
+    ensures { λ r. ⌜ ((W : ℕ) → r ≡ nextAt W limit round estimate Phase.Waiting true x) ⌝ }
+{
+    if round < limit {
+        if x == 0 {
+            process(Phase::Write, round + 1, estimate)
+        } else {
+            process(upward(limit, round + 1), round + 1, estimate)
+        }
+    } else {
+        process(Phase::Exhausted, round, estimate)
+    }
+}
+
+// 01, "One turn at a time", seek k: `blank` says whether the register of round k is blank.
+fn scan(limit: usize, k: usize, blank: bool) -> Phase
+    ensures { λ r. ⌜ r ≡ cond blank (Phase.Adopt (k - 1)) (cond (ltb k limit) (Phase.Scan (k + 1)) (Phase.Adopt limit)) ⌝ }
+{
+    if blank {
+        Phase::Adopt(minus(k, 1))
+    } else {
+        upward(limit, k)
+    }
+}
+
+// The smaller of two numbers.
+fn least(a: usize, b: usize) -> usize
+    ensures { λ r. ⌜ r ≡ min a b ⌝ }
+{
+    if a < b { a } else { b }
+}
+
+// Whether i + 1 is below n. The sum is made only where i is below n, so it fits.
+fn more(i: usize, n: usize) -> bool
+    ensures { λ r. ⌜ r ≡ ltb (i + 1) n ⌝ }
+{
+    if i < n { i + 1 < n } else { false }
+}
+
+// 01, "One turn at a time", "Go on".
+fn go_on(window: usize, round: usize, i: usize) -> Phase
+    ensures { λ r. ⌜ r ≡ goOn window round i ⌝ }
+{
+    if more(i, least(round, window)) {
+        Phase::Compare(i + 1)
+    } else if window <= round {
+        Phase::CheckMark(0)
+    } else {
+        Phase::Waiting
+    }
+}
+
+// 01, "One turn at a time", compare i: `equal` says whether the register holds the estimate.
+fn compare(window: usize, round: usize, i: usize, equal: bool) -> Phase
+    ensures { λ r. ⌜ r ≡ cond equal (goOn window round i) (Phase.Flag i) ⌝ }
+{
+    if equal {
+        go_on(window, round, i)
+    } else {
+        Phase::Flag(i)
+    }
+}
+
+// 01, "One turn at a time", check-mark i.
+fn check_mark(i: usize, unmarked: bool) -> Phase
+    ensures { λ r. ⌜ r ≡ cond unmarked (Phase.CheckValue i) Phase.Waiting ⌝ }
+{
+    if unmarked {
+        Phase::CheckValue(i)
+    } else {
+        Phase::Waiting
+    }
+}
+
+// 01, "One turn at a time", check-value i: `equal` says whether the register still holds the estimate.
+fn check_value(window: usize, i: usize, equal: bool) -> Phase
+    ensures { λ r. ⌜ r ≡ cond equal (cond (ltb (i + 1) window) (Phase.CheckMark (i + 1)) Phase.Commit) Phase.Waiting ⌝ }
+{
+    if equal {
+        if more(i, window) {
+            Phase::CheckMark(i + 1)
+        } else {
+            Phase::Commit
+        }
+    } else {
+        Phase::Waiting
+    }
+}
+
+// 01, "One turn at a time", take k: a blank leaves the estimate.
+fn adopted(estimate: u32, x: u32) -> u32
+    ensures { λ r. ⌜ r ≡ cond (eqb x 0) estimate x ⌝ }
+{
+    if x == 0 { estimate } else { x }
+}
+
+// 01, "One turn at a time": what a process becomes by a work turn that read x.
+pub fn next(window: usize, limit: usize, q: Process, leader: bool, x: u32) -> Process
+    ensures { λ r. ⌜ r ≡ nextOf window limit q leader x ⌝ }
+{
+    let phase = q.phase;
+    let r = q.round;
+    let e = q.estimate;
+    match phase {
+        Phase::Idle => q,
+        Phase::Waiting => { if leader { lead(limit, r, e, x) } else { q } }
+        Phase::Write => process(Phase::Compare(0), r, e),
+        Phase::Scan(k) => process(scan(limit, k, x == 0), r, e),
+        Phase::Adopt(k) => process(Phase::Compare(0), k, adopted(e, x)),
+        Phase::Compare(i) => process(compare(window, r, i, x == e), r, e),
+        Phase::Flag(i) => process(go_on(window, r, i), r, e),
+        Phase::CheckMark(i) => process(check_mark(i, x == 0), r, e),
+        Phase::CheckValue(i) => process(check_value(window, i, x == e), r, e),
+        Phase::Commit => process(Phase::Waiting, r, e),
+        Phase::Exhausted => q,
+        Phase::Crashed => q,
+        Phase::Decided => q,
+    }
+}
+
+// 01, "One turn at a time": what a process becomes by a look that read x.
+pub fn learnt(q: Process, x: u32) -> Process
+    ensures { λ r. ⌜ r ≡ learntOf q x ⌝ }
+{
+    if x == 0 {
+        q
+    } else {
+        process(Phase::Decided, q.round, x)
+    }
+}
+
+// 01, "Numbers returned": whether the process is out, works, is spent, or crashed or decided.
+pub fn standing(phase: Phase) -> Standing
+    ensures { λ r. ⌜ r ≡ standingOf phase ⌝ }
+{
+    match phase {
+        Phase::Idle => Standing::Outside,
+        Phase::Waiting => Standing::Active,
+        Phase::Write => Standing::Active,
+        Phase::Scan(_) => Standing::Active,
+        Phase::Adopt(_) => Standing::Active,
+        Phase::Compare(_) => Standing::Active,
+        Phase::Flag(_) => Standing::Active,
+        Phase::CheckMark(_) => Standing::Active,
+        Phase::CheckValue(_) => Standing::Active,
+        Phase::Commit => Standing::Active,
+        Phase::Exhausted => Standing::Spent,
+        Phase::Crashed => Standing::Gone,
+        Phase::Decided => Standing::Gone,
+    }
+}
+
+// 01, "Numbers returned", 16: whether some count has reached its largest number.
+pub fn full(c: Counts) -> bool
+    ensures { λ r. ⌜ r ≡ fullOf c ⌝ }
+{
+    (4294967295 <= c.reads) | (4294967295 <= c.writes) | (4294967295 <= c.contested)
+}
+
+// The three counts of a tally.
+fn counts(reads: u32, writes: u32, contested: u32) -> Counts
+    ensures { λ r. ⌜ r ≡ record { reads = reads; writes = writes; contested = contested } ⌝ }
+{
+    Counts {
+        reads: reads,
+        writes: writes,
+        contested: contested,
+    }
+}
+
+// 01, "One turn at a time": the tally after a register operation. A full tally stays as it is.
+pub fn counted(a: Access, c: Counts) -> Counts
+    ensures { λ r. ⌜ r ≡ cond (fullOf c) c (countedOf a c) ⌝ }
+{
+    if full(c) {
+        return c;
+    }
+    let reads = c.reads + 1;
+    let writes = c.writes + 1;
+    match a {
+        Access::Nothing => c,
+        Access::ReadValue(_) => counts(reads, c.writes, c.contested),
+        Access::WriteValue(_) => counts(c.reads, writes, c.contested),
+        Access::ReadMark(_) => counts(reads, c.writes, c.contested),
+        Access::SetMark(_) => counts(c.reads, writes, c.contested + 1),
+        Access::ReadDecision => counts(reads, c.writes, c.contested),
+        Access::WriteDecision => counts(c.reads, writes, c.contested),
+    }
+}
+
+// 01, "Numbers returned", 16; 0 for no refusal, here and below.
+fn full_refusal(c: Counts) -> u32
+    ensures { λ r. ⌜ r ≡ refusal ((fullOf c, 16) ∷ []) ⌝ }
+{
+    if full(c) { 16 } else { 0 }
+}
+
+// 01, "Numbers returned", crash: 7, 8, the tests of `crashTests` after the seat's number.
+pub fn turn_refusal(phase: Phase) -> u32
+    ensures { λ r. ⌜ r ≡ refusal ((isOutside (standingOf phase), 7) ∷ (isGone (standingOf phase), 8) ∷ []) ⌝ }
+{
+    match standing(phase) {
+        Standing::Outside => 7,
+        Standing::Gone => 8,
+        Standing::Active => 0,
+        Standing::Spent => 0,
+    }
+}
+
+// 01, "Numbers returned", look: 7, 8, 16, the tests of `learnTests` after the seat's number.
+pub fn learn_refusal(phase: Phase, c: Counts) -> u32
+    ensures { λ r. ⌜ r ≡ refusal ((isOutside (standingOf phase), 7) ∷ (isGone (standingOf phase), 8) ∷ (fullOf c, 16) ∷ []) ⌝ }
+{
+    match standing(phase) {
+        Standing::Outside => 7,
+        Standing::Gone => 8,
+        Standing::Active => full_refusal(c),
+        Standing::Spent => full_refusal(c),
+    }
+}
+
+// 01, "Numbers returned", work: 7, 8, 9, 16, the tests of `stepTests` after the seat's number.
+pub fn step_refusal(phase: Phase, c: Counts) -> u32
+    ensures { λ r. ⌜ r ≡ refusal ((isOutside (standingOf phase), 7) ∷ (isGone (standingOf phase), 8) ∷ (isSpent (standingOf phase), 9) ∷ (fullOf c, 16) ∷ []) ⌝ }
+{
+    match standing(phase) {
+        Standing::Outside => 7,
+        Standing::Gone => 8,
+        Standing::Spent => 9,
+        Standing::Active => full_refusal(c),
+    }
 }

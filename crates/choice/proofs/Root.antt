@@ -1,0 +1,37 @@
+-- Laws of the root rounded up, for the loop of `window`. Assumes nothing.
+use Prim.Native.Nat.{ℕ, suc, zero, _+_, _*_, _-_, _≤_, _<_}
+use mathlib.Core.Path.{_≡_, refl}
+use native.Mathlib.Nat.{mul-le-mul, lt-of-not-le}
+use native.Mathlib.Numerals.{add-one}
+use native.Mathlib.Omega.{arith}
+use borrow.Author.Tests.{le-leb, lt-leb}
+use Rattle.model.specs.Window.{rootFrom}
+
+-- Of two numbers the smaller has the smaller square.
+pub square-small : (m k : ℕ) → m ≤ k → m * m ≤ k * k
+square-small m k h = mul-le-mul h h
+
+-- The smaller square has the smaller root.
+pub root-small : (m k : ℕ) → m * m < k * k → m < k
+root-small m k h = lt-of-not-le (λ l. omega (arith, square-small k m l))
+
+-- A number is at most its square.
+square-above : (m : ℕ) → m ≤ m * m
+square-above zero = omega arith
+square-above (suc m) = omega (arith, mul-le-mul {n₁ = 1} {m₁ = suc m} {n₂ = suc m} {m₂ = suc m} (omega arith) (omega arith))
+
+-- Where the square of m reaches n, the search from m stops at m.
+pub root-found : (fuel m n : ℕ) → n ≤ m * m → rootFrom fuel m n ≡ m
+unfolding rootFrom
+root-found zero m n h = refl
+root-found (suc fuel) m n h = simp (le-leb _ _ h)
+
+-- Where it does not, the search goes on at m + 1.
+next-root : (fuel m n : ℕ) → m * m < n → rootFrom (suc fuel) m n ≡ rootFrom fuel (m + 1) n
+unfolding rootFrom
+next-root fuel m n h = simp (lt-leb _ _ h, add-one)
+
+pub root-above : (m n : ℕ) → m * m < n → rootFrom (n - m) m n ≡ rootFrom (n - (m + 1)) (m + 1) n
+root-above m n h =
+    let one : n - m ≡ suc (n - (m + 1)) = omega (arith, square-above m) in
+    rw one (next-root _ m n h)

@@ -1,0 +1,5 @@
+// The read-outs of a session.
+
+pub fn two() -> usize {
+    2
+}
