@@ -59,10 +59,6 @@ module _ (W L : ℕ) (wide : 1 ≤ W) where
       (λ u. let more = ltb-true k L u in (some, low, omega arith, refl))
       (λ u. (some, low, omega arith, refl)))
 
-  -- The value read is adopted; a blank leaves the estimate.
-  adopted-some : (e x : ℕ) → 0 < e → 0 < cond (eqb x 0) e x
-  adopted-some e x some = cond-cases (λ v. 0 < v) (eqb x 0) (λ b. some) (λ b. let filled = eqb-false x 0 b in omega arith)
-
   check-inside : (r e i x : ℕ) → 0 < e → r ≤ L → PhaseSound W L r (CheckValue i) → Inside W L (nextAt W L r e (CheckValue i) true x)
   unfolding nextAt
   check-inside r e i x some low f =
@@ -82,14 +78,19 @@ module _ (W L : ℕ) (wide : 1 ≤ W) where
   next-inside r e Waiting true x o some low f = lead-inside r e x some low
   next-inside r e Write leader x o some low f = (some, low, omega arith, refl)
   next-inside r e (Scan k) leader x o some low f = scan-inside r e k x some low f
-  next-inside r e (Adopt k) leader x o some low f = (adopted-some e x some, f .2, omega arith, refl)
+  next-inside r e (Adopt k) leader x o some low f = (
+    cond-cases (λ v. 0 < v) (eqb x 0) (λ b. some) (λ b. let filled = eqb-false x 0 b in omega arith),
+    f .2,
+    omega arith,
+    refl,
+  )
   next-inside r e (Compare i) leader x o some low f =
       cond-cases (λ φ. Inside W L (process φ r e)) (eqb x e)
       (λ b. go-on-inside r e i some low (f .0))
       (λ b. (some, low, f, refl))
   next-inside r e (Flag i) leader x o some low f = go-on-inside r e i some low (f .0)
   next-inside r e (CheckMark i) leader x o some low f =
-      cond-cases (λ φ. Inside W L (process φ r e)) (eqb x 0) (λ b. (some, low, f, refl)) (λ b. (some, low, tt, refl))
+      cond-cases (λ φ. Inside W L (process φ r e)) (eqb x 0) (λ b. (some, low, omega arith, refl)) (λ b. (some, low, omega arith, refl))
   next-inside r e (CheckValue i) leader x o some low f = check-inside r e i x some low f
   next-inside r e Commit leader x o some low f = (some, low, tt, refl)
   next-inside r e Exhausted leader x o some low f = (some, low, f, refl)
