@@ -9,3 +9,5 @@ pub mod Public
 pub mod ReadOut
 pub mod Schedule
 pub mod Runner
+pub mod Export
+pub mod Report
