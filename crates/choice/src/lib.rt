@@ -293,8 +293,8 @@ pub fn turn_refusal(phase: Phase) -> u32
     ensures { λ r. ⌜ r ≡ refusal ((isOutside (standingOf phase), 7) ∷ (isGone (standingOf phase), 8) ∷ []) ⌝ }
 {
     match standing(phase) {
-        Standing::Outside => 7,
-        Standing::Gone => 8,
+        Standing::Outside => 7, // a crash before the proposal
+        Standing::Gone => 8, // a crash after the end
         Standing::Active => 0,
         Standing::Spent => 0,
     }
@@ -305,8 +305,8 @@ pub fn learn_refusal(phase: Phase, c: Counts) -> u32
     ensures { λ r. ⌜ r ≡ refusal ((isOutside (standingOf phase), 7) ∷ (isGone (standingOf phase), 8) ∷ (fullOf c, 16) ∷ []) ⌝ }
 {
     match standing(phase) {
-        Standing::Outside => 7,
-        Standing::Gone => 8,
+        Standing::Outside => 7, // a look before the proposal
+        Standing::Gone => 8, // a look after the end
         Standing::Active => full_refusal(c),
         Standing::Spent => full_refusal(c),
     }
@@ -317,8 +317,8 @@ pub fn step_refusal(phase: Phase, c: Counts) -> u32
     ensures { λ r. ⌜ r ≡ refusal ((isOutside (standingOf phase), 7) ∷ (isGone (standingOf phase), 8) ∷ (isSpent (standingOf phase), 9) ∷ (fullOf c, 16) ∷ []) ⌝ }
 {
     match standing(phase) {
-        Standing::Outside => 7,
-        Standing::Gone => 8,
+        Standing::Outside => 7, // a step before the proposal
+        Standing::Gone => 8, // a step after the end
         Standing::Spent => 9,
         Standing::Active => full_refusal(c),
     }

@@ -1,0 +1,5 @@
+// Running a schedule.
+
+pub fn two() -> usize {
+    2
+}
