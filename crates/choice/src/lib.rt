@@ -1,6 +1,6 @@
 // The choice of a step: functions of one process' record and one value read, which change nothing.
 ghost use mathlib.Core.Path.{_≡_};
-ghost use mathlib.Core.Bool.{Bool, true, cond};
+ghost use mathlib.Core.Bool.{true, cond};
 ghost use mathlib.Core.List.{[], _∷_};
 ghost use Prim.Native.Nat.{ℕ, _+_, _-_, min};
 ghost use lib.Dec.{ltb, eqb};
@@ -25,9 +25,9 @@ fn minus(a: usize, b: usize) -> usize
 pub fn window(n: u8) -> usize
     ensures { λ r. ⌜ r ≡ windowOf n ⌝ }
 {
-    let squared = n as usize;
+    let wide = n as usize;
     let mut m: usize = 0;
-    while m * m < squared {
+    while m * m < wide {
         m += 1;
     }
     2 * m + 1

@@ -10,7 +10,10 @@ use Rattle.choice.proofs.go_on.Statement.{statement}
 use Rattle.choice.proofs.go_on.Tie as tie
 
 -- What `more` answers, in terms of the smaller of the round and the window.
-answer : (c : tie.After-more) → ltb (c .before .before .args .i + 1) (min (c .before .before .args .round) (c .before .before .args .window)) ≡ c .more .result
+answer :
+    (c : tie.After-more) →
+    let a = c .before .before .args in
+    ltb (a .i + 1) (min (a .round) (a .window)) ≡ c .more .result
 answer c = sym (rw (c .before .least .ensures) at (c .more .ensures))
 
 pub go-on-spec : {M : Type 1} → statement M
@@ -20,7 +23,8 @@ go-on-spec =
     (tie.spec
     (λ c κs. search needs)
     (λ c κs. search needs)
-    (λ c. let a = c .before .before .before .args in omega (arith, ltb-true (a .i + 1) (min (a .round) (a .window)) (answer (c .before) ∙ c .if1 .taken)))
+    (λ c. let a = c .before .before .before .args in
+    omega (arith, ltb-true (a .i + 1) (min (a .round) (a .window)) (answer (c .before) ∙ c .if1 .taken)))
     (λ c. simp (answer (c .before) ∙ c .if1 .taken))
     (λ c. simp (answer (c .before .before) ∙ c .before .if1 .left, le-leb _ _ (c .if2 .taken)))
     (λ c. simp (answer (c .before .before) ∙ c .before .if1 .left, lt-leb _ _ (c .if2 .left))))

@@ -10,10 +10,10 @@ use Rattle.choice.proofs.window.Statement.{statement}
 use Rattle.choice.proofs.window.Tie as tie
 
 abbrev Inv-loop : tie.InvT-loop
-Inv-loop n squared m₀ m = (m ≤ 16) × (rootUp n ≡ rootFrom (n - m) m n)
+Inv-loop n wide m₀ m = (m ≤ 16) × (rootUp n ≡ rootFrom (n - m) m n)
 
 abbrev μ-loop : tie.MeasureT-loop
-μ-loop n squared m₀ m = 16 - m
+μ-loop n wide m₀ m = 16 - m
 
 loop-holds : tie.Need-loop-holds Inv-loop μ-loop
 unfolding rootUp
