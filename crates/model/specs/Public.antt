@@ -16,6 +16,11 @@ ifSound s answer = cond (sound s) answer (record { code = 3; session = s })
 unfoldable pub ifSoundCounted : Session → Counts → Stepped → Stepped
 ifSoundCounted s c answer = cond (sound s) answer (record { code = 3; session = s; counts = c })
 
+-- An answer with the counts that the caller lent, as they stand at the end: "the caller lends its tally, which a turn updates where
+-- it stands".
+abbrev pub withCounts : Changed → Counts → Stepped
+withCounts a c = record { code = a .code; session = a .session; counts = c }
+
 -- "Proposal 3, 4, 5, 6."
 unfoldable pub propose : Session → (p v : ℕ) → Changed
 propose s p v = ifSound s (Machine.propose s p v)

@@ -1,0 +1,3 @@
+-- What several proofs of this crate share.
+pub mod Bounds
+pub mod Standing

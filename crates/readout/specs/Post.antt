@@ -1,0 +1,10 @@
+-- What the listing of the standing values gives.
+use Prim.Native.Nat.{ℕ, _≤_}
+use mathlib.Core.List.{List}
+use lib.ListN.{length, take}
+use Rattle.model.specs.ReadOut.{ListsOnce}
+
+-- The first `count` of the values, which are that many at least, list those that the registers hold, each once.
+pub record FirstRounds (registers values : List ℕ) (count : ℕ) : Type 0 where
+  pub once : ListsOnce registers (take count values)
+  pub low : count ≤ length values

@@ -1,0 +1,12 @@
+-- `session::seat_refusal` meets its contract: each return knows which tests hold. Assumes nothing.
+use borrow.Author.Tests.{le-leb, lt-leb, not-true, not-false}
+use Rattle.session.proofs.seat_refusal.Statement.{statement}
+use Rattle.session.proofs.seat_refusal.Tie as tie
+
+pub seat-refusal-spec : {M : Type 1} → statement M
+seat-refusal-spec =
+    tie.close
+    (tie.spec
+    (λ c. rw (not-true (c .before .args .sound) (c .if1 .taken)))
+    (λ c. rw (not-false (c .before .before .args .sound) (c .before .if1 .left), le-leb _ _ (c .if2 .taken)))
+    (λ c. rw (not-false (c .before .before .args .sound) (c .before .if1 .left), lt-leb _ _ (c .if2 .left))))
