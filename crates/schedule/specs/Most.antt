@@ -1,33 +1,15 @@
 -- How many entries a schedule can have: at most 10,921, the budget of document 01's board report.
-use Prim.Native.Nat.{ℕ, suc, zero, _+_, _*_, _-_, _/_, _≤_, _<_}
+use Prim.Native.Nat.{ℕ, suc, zero, _+_, _*_, _≤_}
 use native.Mathlib.Omega.{arith}
-use mathlib.Core.Path.{_≡_, refl, ap, sym, _∙_}
-use mathlib.Core.Bool.{Bool, true, false, cond, not, _&&_, true≢false, false≢true}
-use mathlib.Core.List.{List, [], _∷_, _++_}
+use mathlib.Core.Path.{_≡_, refl, ap}
+use mathlib.Core.Bool.{Bool, true, false, cond, not, _&&_, false≢true}
+use mathlib.Core.List.{List, [], _∷_}
 use lib.ListN.{length, length-append}
 use lib.Dec.{leb}
 use borrow.Author.Tests.{leb-true}
-use Rattle.model.specs.declared.Entry.{Entry}
-use Rattle.model.specs.Refusal.{refusal, openTests}
 use Rattle.model.specs.Sound.{every}
 use Rattle.model.specs.Window.{window}
-use Rattle.model.specs.Schedule.{
-  Run,
-  runAt,
-  runCount,
-  roundLimit,
-  processCount,
-  runsFrom,
-  runs,
-  headerEnd,
-  hasHeader,
-  inOrder,
-  wholeEntries,
-  entriesAt,
-  entriesOf,
-  entries,
-  scheduleRefusal,
-}
+use Rattle.model.specs.Schedule.{Run, runCount, roundLimit, processCount, runsFrom, runs, headerEnd, hasHeader, inOrder, wholeEntries, entriesAt, entriesOf, entries, scheduleRefusal}
 
 length-entriesAt : (s : List ℕ) (i k : ℕ) → length (entriesAt s i k) ≡ k
 length-entriesAt s i zero = refl
@@ -61,7 +43,8 @@ accepted true false c d e q h = absurd (omega arith)
 accepted false b c d e q h = absurd (omega arith)
 
 -- Of k runs, after a header of 4 + 4k bytes; with no run there is no entry.
-most-after : (s : List ℕ) (k : ℕ) → length s ≤ 65535 → 6 * length (entriesOf s (runsFrom s 0 k)) + (4 + 4 * k) ≤ length s
+most-after : (s : List ℕ) (k : ℕ) → length s ≤ 65535
+    → 6 * length (entriesOf s (runsFrom s 0 k)) + (4 + 4 * k) ≤ length s
     → length (entriesOf s (runsFrom s 0 k)) ≤ 10921
 most-after s zero l m = omega arith
 most-after s (suc k) l m = omega arith

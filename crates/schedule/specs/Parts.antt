@@ -19,20 +19,16 @@ use Rattle.model.specs.Schedule.{
   scheduleRefusal,
 }
 
--- Whether the runs are in order, after the header and within the schedule; and whether each is of whole entries.
-abbrev pub ordered : List ℕ → Bool
-ordered s = inOrder (headerEnd s) (length s) (runs s)
-
-abbrev pub allWhole : List ℕ → Bool
-allWhole s = every wholeEntries (runs s)
-
 -- The refusal of opening what the header asks for: 1, 2 or none.
 abbrev pub openingOf : List ℕ → ℕ
 openingOf s = refusal (openTests 64 256 (processCount s) (roundLimit s))
 
--- What the tests of the runs say, once the header and the opening are accepted.
+-- What the tests of the runs say, once the header and the opening are accepted: 11, then 12.
+abbrev pub wholeRefusal : List ℕ → ℕ
+wholeRefusal s = cond (not (every wholeEntries (runs s))) 12 0
+
 abbrev pub runsRefusal : List ℕ → ℕ
-runsRefusal s = cond (not (ordered s)) 11 (cond (not (allWhole s)) 12 0)
+runsRefusal s = cond (not (inOrder (headerEnd s) (length s) (runs s))) 11 (wholeRefusal s)
 
 -- Two tests in front of others: the first refusal among the two, else that of the others.
 in-front : (a b : Bool) (x : ℕ)

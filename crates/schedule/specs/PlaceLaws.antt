@@ -1,14 +1,14 @@
 -- Document 01, "Turn sheets": the reader hands out the schedule's entries, each once and in their order.
-use Prim.Native.Nat.{ℕ, suc, zero, _+_, _-_, _/_, _≤_, _<_}
+use Prim.Native.Nat.{ℕ, suc, zero, _+_, _-_, _/_}
 use native.Mathlib.Numerals.{add-one}
 use native.Mathlib.Omega.{arith}
-use mathlib.Core.Path.{_≡_, refl, ap, sym, _∙_}
+use mathlib.Core.Path.{_≡_, refl, sym, _∙_}
 use mathlib.Core.Bool.{Bool, true, false, cond, true≢false}
-use mathlib.Core.List.{List, [], _∷_, _++_}
+use mathlib.Core.List.{List, [], _∷_}
 use lib.Dec.{leb}
-use borrow.Author.Tests.{leb-true, leb-false, le-leb}
+use borrow.Author.Tests.{leb-true, leb-false}
 use Rattle.model.specs.declared.Entry.{Entry}
-use Rattle.model.specs.Schedule.{Run, runAt, runCount, runsFrom, runs, entryAt, entriesAt, entriesOf, entries}
+use Rattle.model.specs.Schedule.{runAt, runCount, runsFrom, runs, entryAt, entriesOf, entries}
 use Rattle.schedule.specs.Places.{
   hasEntry,
   openedRun,
@@ -29,7 +29,8 @@ use Rattle.schedule.specs.declared.Handed.{Handed}
 use Rattle.schedule.specs.declared.Handed.the-variants.{Next, End}
 
 -- Where no entry is left in a run, the runs still to be opened are the rest.
-none-left : (s : List ℕ) (p : Place) → hasEntry p ≡ false → rest s p ≡ entriesOf s (runsFrom s (p .run) (runCount s - p .run))
+none-left : (s : List ℕ) (p : Place) → hasEntry p ≡ false
+    → rest s p ≡ entriesOf s (runsFrom s (p .run) (runCount s - p .run))
 unfolding rest
 none-left s p h =
     let e : (p .end - p .at) / 6 ≡ 0 = omega (arith, leb-false 6 (p .end - p .at) h) in
@@ -110,8 +111,8 @@ advanced-proper s p = settled-proper s (passed p)
 
 -- ---- what a place hands out, and what is left behind it
 
--- Of the entries from a place on, the first is the one handed out and the others are those from the next place on; there is
--- none exactly where none is handed out.
+-- Of the entries from a place on, the first is the one handed out and the others are those from the next place on;
+-- there is none exactly where none is handed out.
 pub rest-handed : (s : List ℕ) (p : Place) → Proper s p → rest s p ≡ before (handed s p) (rest s (advanced s p))
 unfolding handed advanced
 rest-handed s p h = rw (settled-rest s (passed p)) (go (hasEntry p) refl)
@@ -122,7 +123,8 @@ rest-handed s p h = rw (settled-rest s (passed p)) (go (hasEntry p) refl)
     go false e = none-left s p e ∙ rw (runs-none s (p .run) (runCount s) (h .last e))
 
 -- The same by cases, for a loop that knows what was handed out.
-pub rest-next : (s : List ℕ) (p : Place) {e : Entry} → Proper s p → handed s p ≡ Next e → rest s p ≡ e ∷ rest s (advanced s p)
+pub rest-next : (s : List ℕ) (p : Place) {e : Entry} → Proper s p → handed s p ≡ Next e
+    → rest s p ≡ e ∷ rest s (advanced s p)
 rest-next s p h q = rest-handed s p h ∙ rw q
 
 pub rest-end : (s : List ℕ) (p : Place) → Proper s p → handed s p ≡ End → rest s p ≡ []

@@ -1,8 +1,9 @@
 -- Document 01, "Turn sheets": "A reader that stays attached to the sheet's bytes and its place hands the entries out."
--- A place names the next run to be opened, and the bytes of the current run, from `at` up to `end`, still to be handed out.
+-- A place names the next run to be opened, and which bytes of the current run, from `at` up to `end`, are still to be
+-- handed out.
 use Prim.Native.Nat.{ℕ, suc, zero, _+_, _-_, _/_, _≤_, _<_}
 use mathlib.Core.Path.{_≡_}
-use mathlib.Core.Bool.{Bool, true, false, cond}
+use mathlib.Core.Bool.{Bool, false, cond}
 use mathlib.Core.List.{List, [], _∷_, _++_}
 use lib.Dec.{leb}
 use Rattle.model.specs.declared.Entry.{Entry}

@@ -8,8 +8,8 @@ mod header;
 pub mod places;
 mod words;
 
-// A place in a schedule (01, "Turn sheets": "a reader .. its place"): run is the next run to be opened; of the current run the
-// bytes from at up to end are still to be handed out, 6 to an entry.
+// A place in a schedule (01, "Turn sheets": "a reader .. its place"): run is the next run to be opened; of the current run
+// the bytes from at up to end are still to be handed out, 6 to an entry.
 pub struct Place {
     pub run: usize,
     pub at: usize,

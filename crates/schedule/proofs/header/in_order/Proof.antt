@@ -1,4 +1,5 @@
--- `schedule::header::in_order` meets its contract: the invariant: the runs from i on, after `from`, decide. The measure is the count of runs left. Assumes nothing.
+-- `schedule::header::in_order` meets its contract: the invariant: the runs from i on, after `from`, decide. The
+-- measure is the count of runs left. Assumes nothing.
 use Prim.Native.Nat.{_-_}
 use native.Mathlib.Nat.{sub-zero}
 use mathlib.Core.Path.{_≡_, _∙_, sym, ap}
@@ -16,42 +17,23 @@ Inv-loop s count from₀ i₀ from i =
 abbrev μ-loop : tie.MeasureT-loop
 μ-loop s count from₀ i₀ from i = count - i
 
-run-count-requires : tie.Need-run-count-requires Inv-loop μ-loop
-run-count-requires c κs = search needs
-
-mul-from : tie.Need-mul-from Inv-loop μ-loop
-mul-from c = search needs
-
-add-from : tie.Need-add-from Inv-loop μ-loop
-add-from c = search needs
-
-loop-holds : tie.Need-loop-holds Inv-loop μ-loop
-loop-holds c = rw (sub-zero, c .run-count .ensures .0)
-
-run-at-requires : tie.Need-run-at-requires Inv-loop μ-loop
-run-at-requires c κs = search needs
-
 returns : tie.Need-returns Inv-loop μ-loop
 returns c =
     sym
     (c .before .before .before .before .loop .inv
-    ∙ order-early (c .before .before .run-at .ensures) _ (c .before .before .before .loop-test .taken) _ _ (c .if1 .taken))
-
-add-end : tie.Need-add-end Inv-loop μ-loop
-add-end c = search needs
+    ∙ order-early (c .before .before .run-at .ensures) _ (c .before .before .before .loop-test .taken) _ _
+    (c .if1 .taken))
 
 returns-2 : tie.Need-returns-2 Inv-loop μ-loop
 returns-2 c =
     let at = c .before .before .before .before in
     sym
     (at .before .before .loop .inv
-    ∙ order-long (at .run-at .ensures) _ (at .before .loop-test .taken) _ _ (c .before .before .if1 .left) (c .if2 .taken))
+    ∙ order-long (at .run-at .ensures) _ (at .before .loop-test .taken) _ _ (c .before .before .if1 .left)
+    (c .if2 .taken))
 
-add-i : tie.Need-add-i Inv-loop μ-loop
-add-i c = search needs
-
-loop-less : tie.Need-loop-less Inv-loop μ-loop
-loop-less c = search needs
+loop-holds : tie.Need-loop-holds Inv-loop μ-loop
+loop-holds c = rw (sub-zero, c .run-count .ensures .0)
 
 loop-again : tie.Need-loop-again Inv-loop μ-loop
 loop-again c =
@@ -68,15 +50,15 @@ in-order-spec =
     (tie.spec
     Inv-loop
     μ-loop
-    run-count-requires
-    mul-from
-    add-from
+    (λ c κs. search needs)
+    (λ c. search needs)
+    (λ c. search needs)
     loop-holds
-    run-at-requires
+    (λ c κs. search needs)
     returns
-    add-end
+    (λ c. search needs)
     returns-2
-    add-i
-    loop-less
+    (λ c. search needs)
+    (λ c. search needs)
     loop-again
     returns-3)

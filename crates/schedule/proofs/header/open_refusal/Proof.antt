@@ -1,4 +1,5 @@
--- `schedule::header::open_refusal` meets its contract: each test is one of the four of `openTests`, in their order. Assumes nothing.
+-- `schedule::header::open_refusal` meets its contract: each test is one of the four of `openTests`, in their order.
+-- Assumes nothing.
 use mathlib.Core.Path.{_≡_}
 use mathlib.Core.Bool.{cond, not, _&&_}
 use lib.Dec.{leb}
@@ -11,17 +12,19 @@ use Rattle.schedule.proofs.header.open_refusal.Tie as tie
 -- With a count of processes that is allowed, the round limit decides.
 past-count : (c : tie.After-window)
     → refusal (openTests 64 256 (c .before .before .before .args .n) (c .before .before .before .args .limit))
-    ≡ cond (not (leb (c .window .result) (c .before .before .before .args .limit) && leb (c .before .before .before .args .limit) 256)) 2 0
-past-count c = simp (le-leb 1 _ (c .before .before .if1 .left), le-leb _ 64 (c .before .if2 .left), ← c .window .ensures)
+    ≡ cond (not (leb (c .window .result) (c .before .before .before .args .limit) && leb
+    (c .before .before .before .args .limit) 256)) 2 0
+past-count c = simp (
+  le-leb 1 _ (c .before .before .if1 .left),
+  le-leb _ 64 (c .before .if2 .left),
+  ← c .window .ensures,
+)
 
 returns : tie.Need-returns
 returns c = simp (lt-leb 1 _ (c .if1 .taken))
 
 returns-2 : tie.Need-returns-2
 returns-2 c = simp (le-leb 1 _ (c .before .if1 .left), lt-leb _ 64 (c .if2 .taken))
-
-window-requires : tie.Need-window-requires
-window-requires c κs = search needs
 
 returns-3 : tie.Need-returns-3
 returns-3 c = rw (past-count (c .before), lt-leb _ _ (c .if3 .taken))
@@ -34,4 +37,4 @@ returns-5 c = rw (past-count (c .before .before), le-leb _ _ (c .before .if3 .le
 
 pub open-refusal-spec : {M : Type 1} → statement M
 open-refusal-spec =
-    tie.close (tie.spec returns returns-2 window-requires returns-3 returns-4 returns-5)
+    tie.close (tie.spec returns returns-2 (λ c κs. search needs) returns-3 returns-4 returns-5)

@@ -1,4 +1,5 @@
--- `schedule::header::whole` meets its contract: the invariant: the runs from i on decide. The measure is the count of runs left. Assumes nothing.
+-- `schedule::header::whole` meets its contract: the invariant: the runs from i on decide. The measure is the count of
+-- runs left. Assumes nothing.
 use Prim.Native.Nat.{_-_}
 use native.Mathlib.Nat.{sub-zero}
 use mathlib.Core.Path.{_≡_, _∙_, sym, ap}
@@ -15,14 +16,8 @@ Inv-loop s count i₀ i = every wholeEntries (runs s) ≡ every wholeEntries (ru
 abbrev μ-loop : tie.MeasureT-loop
 μ-loop s count i₀ i = count - i
 
-run-count-requires : tie.Need-run-count-requires Inv-loop μ-loop
-run-count-requires c κs = search needs
-
 loop-holds : tie.Need-loop-holds Inv-loop μ-loop
 loop-holds c = rw (sub-zero, c .run-count .ensures .0)
-
-run-at-requires : tie.Need-run-at-requires Inv-loop μ-loop
-run-at-requires c κs = search needs
 
 returns : tie.Need-returns Inv-loop μ-loop
 returns c =
@@ -30,15 +25,10 @@ returns c =
     (c .before .before .before .before .loop .inv
     ∙ whole-not (c .before .before .run-at .ensures) _ (c .before .before .before .loop-test .taken) (c .if1 .taken))
 
-add-i : tie.Need-add-i Inv-loop μ-loop
-add-i c = search needs
-
-loop-less : tie.Need-loop-less Inv-loop μ-loop
-loop-less c = search needs
-
 loop-again : tie.Need-loop-again Inv-loop μ-loop
 loop-again c =
-    c .before .before .before .before .loop .inv ∙ whole-on (c .before .before .run-at .ensures) _ (c .before .before .before .loop-test .taken) (c .if1 .left)
+    c .before .before .before .before .loop .inv
+    ∙ whole-on (c .before .before .run-at .ensures) _ (c .before .before .before .loop-test .taken) (c .if1 .left)
 
 returns-2 : tie.Need-returns-2 Inv-loop μ-loop
 returns-2 c = sym (c .before .loop .inv ∙ ap (every wholeEntries) (runs-none _ _ _ (c .loop-test .left)))
@@ -49,11 +39,11 @@ whole-spec =
     (tie.spec
     Inv-loop
     μ-loop
-    run-count-requires
+    (λ c κs. search needs)
     loop-holds
-    run-at-requires
+    (λ c κs. search needs)
     returns
-    add-i
-    loop-less
+    (λ c. search needs)
+    (λ c. search needs)
     loop-again
     returns-2)

@@ -1,4 +1,5 @@
--- `schedule::places::advance` meets its contract: by whether the run has an entry left; 6 more bytes then still lie before the end of the run, so the sum fits. Assumes nothing.
+-- `schedule::places::advance` meets its contract: by whether the run has an entry left; 6 more bytes then still lie
+-- before the end of the run, so the sum fits. Assumes nothing.
 use Prim.Native.Nat.{_-_}
 use native.Mathlib.Omega.{arith}
 use mathlib.Core.Path.{sym, _∙_}
@@ -8,19 +9,14 @@ use Rattle.schedule.specs.Places.{advanced}
 use Rattle.schedule.proofs.places.advance.Statement.{statement}
 use Rattle.schedule.proofs.places.advance.Tie as tie
 
-has-entry-requires : tie.Need-has-entry-requires
-has-entry-requires c κs = search needs
-
 add-t5 : tie.Need-add-t5
 add-t5 c =
     let p = c .before .before .before .before .args .place in
-    omega (arith, leb-true 6 (p .end - p .at) (sym (c .before .before .has-entry .ensures) ∙ c .before .if1 .taken), c .before .before .before .before .good)
-
-settle-requires : tie.Need-settle-requires
-settle-requires c κs = search needs
-
-settle-requires-2 : tie.Need-settle-requires-2
-settle-requires-2 c κs = search needs
+    omega (
+      arith,
+      leb-true 6 (p .end - p .at) (sym (c .before .before .has-entry .ensures) ∙ c .before .if1 .taken),
+      c .before .before .before .before .good,
+    )
 
 returns : tie.Need-returns
 unfolding advanced
@@ -33,4 +29,4 @@ returns-2 c = simp (← c .before .before .has-entry .ensures, c .before .if1 .l
 pub advance-spec : {M : Type 1} → statement M
 advance-spec =
     tie.close
-    (tie.spec has-entry-requires add-t5 settle-requires settle-requires-2 returns returns-2)
+    (tie.spec (λ c κs. search needs) add-t5 (λ c κs. search needs) (λ c κs. search needs) returns returns-2)

@@ -1,15 +1,13 @@
--- `schedule::places::begin` meets its contract: no run is open at the start, so the first run with an entry is opened. Assumes nothing.
+-- `schedule::places::begin` meets its contract: no run is open at the start, so the first run with an entry is
+-- opened. Assumes nothing.
 use borrow.Author.Needs.{needs}
 use Rattle.schedule.specs.Places.{begin, settled}
 use Rattle.schedule.proofs.places.begin.Statement.{statement}
 use Rattle.schedule.proofs.places.begin.Tie as tie
-
-open-from-requires : tie.Need-open-from-requires
-open-from-requires c κs = search needs
 
 returns : tie.Need-returns
 unfolding begin settled
 returns c = c .open-from .ensures
 
 pub begin-spec : {M : Type 1} → statement M
-begin-spec = tie.close (tie.spec open-from-requires returns)
+begin-spec = tie.close (tie.spec (λ c κs. search needs) returns)

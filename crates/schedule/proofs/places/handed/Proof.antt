@@ -4,12 +4,6 @@ use Rattle.schedule.specs.Places.{handed}
 use Rattle.schedule.proofs.places.handed.Statement.{statement}
 use Rattle.schedule.proofs.places.handed.Tie as tie
 
-has-entry-requires : tie.Need-has-entry-requires
-has-entry-requires c κs = search needs
-
-entry-at-requires : tie.Need-entry-at-requires
-entry-at-requires c κs = search needs
-
 returns : tie.Need-returns
 unfolding handed
 returns c = simp (← c .before .before .has-entry .ensures, c .before .if1 .taken, c .entry-at .ensures)
@@ -19,4 +13,4 @@ unfolding handed
 returns-2 c = simp (← c .before .has-entry .ensures, c .if1 .left)
 
 pub handed-spec : {M : Type 1} → statement M
-handed-spec = tie.close (tie.spec has-entry-requires entry-at-requires returns returns-2)
+handed-spec = tie.close (tie.spec (λ c κs. search needs) (λ c κs. search needs) returns returns-2)

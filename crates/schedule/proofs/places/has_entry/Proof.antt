@@ -1,4 +1,5 @@
--- `schedule::places::has_entry` meets its contract: where the place lies past the end of its run, no byte is left. Assumes nothing.
+-- `schedule::places::has_entry` meets its contract: where the place lies past the end of its run, no byte is left.
+-- Assumes nothing.
 use Prim.Native.Nat.{_-_, _<_}
 use native.Mathlib.Omega.{arith}
 use mathlib.Core.Path.{sym}
@@ -13,8 +14,5 @@ returns c =
     let h : p .end - p .at < 6 = omega arith in
     sym (lt-leb 6 _ h)
 
-returns-2 : tie.Need-returns-2
-returns-2 c = search needs
-
 pub has-entry-spec : {M : Type 1} → statement M
-has-entry-spec = tie.close (tie.spec returns returns-2)
+has-entry-spec = tie.close (tie.spec returns (λ c. search needs))

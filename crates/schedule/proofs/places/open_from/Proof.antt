@@ -1,4 +1,5 @@
--- `schedule::places::open_from` meets its contract: the invariant: what is asked for is the first run from i on that has an entry. The measure is the count of runs left. Assumes nothing.
+-- `schedule::places::open_from` meets its contract: the invariant: what is asked for is the first run from i on that
+-- has an entry. The measure is the count of runs left. Assumes nothing.
 use Prim.Native.Nat.{_-_}
 use mathlib.Core.Path.{_≡_, _∙_, sym}
 use borrow.Author.Needs.{needs}
@@ -14,20 +15,8 @@ Inv-loop s first count i₀ i = openFrom s first (runCount s - first) ≡ openFr
 abbrev μ-loop : tie.MeasureT-loop
 μ-loop s first count i₀ i = count - i
 
-run-count-requires : tie.Need-run-count-requires Inv-loop μ-loop
-run-count-requires c κs = search needs
-
 loop-holds : tie.Need-loop-holds Inv-loop μ-loop
 loop-holds c = rw (c .run-count .ensures .0)
-
-run-at-requires : tie.Need-run-at-requires Inv-loop μ-loop
-run-at-requires c κs = search needs
-
-add-t7 : tie.Need-add-t7 Inv-loop μ-loop
-add-t7 c = search needs
-
-add-t8 : tie.Need-add-t8 Inv-loop μ-loop
-add-t8 c = search needs
 
 returns : tie.Need-returns Inv-loop μ-loop
 returns c =
@@ -36,15 +25,10 @@ returns c =
     (at .before .before .loop .inv
     ∙ open-here (at .run-at .ensures) _ (at .before .loop-test .taken) (c .before .if1 .taken))
 
-add-i : tie.Need-add-i Inv-loop μ-loop
-add-i c = search needs
-
-loop-less : tie.Need-loop-less Inv-loop μ-loop
-loop-less c = search needs
-
 loop-again : tie.Need-loop-again Inv-loop μ-loop
 loop-again c =
-    c .before .before .before .before .loop .inv ∙ open-on (c .before .before .run-at .ensures) _ (c .before .before .before .loop-test .taken) (c .if1 .left)
+    c .before .before .before .before .loop .inv
+    ∙ open-on (c .before .before .run-at .ensures) _ (c .before .before .before .loop-test .taken) (c .if1 .left)
 
 returns-2 : tie.Need-returns-2 Inv-loop μ-loop
 returns-2 c = sym (c .before .loop .inv ∙ open-none _ _ _ (c .loop-test .left))
@@ -55,13 +39,13 @@ open-from-spec =
     (tie.spec
     Inv-loop
     μ-loop
-    run-count-requires
+    (λ c κs. search needs)
     loop-holds
-    run-at-requires
-    add-t7
-    add-t8
+    (λ c κs. search needs)
+    (λ c. search needs)
+    (λ c. search needs)
     returns
-    add-i
-    loop-less
+    (λ c. search needs)
+    (λ c. search needs)
     loop-again
     returns-2)

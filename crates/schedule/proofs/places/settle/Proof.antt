@@ -4,12 +4,6 @@ use Rattle.schedule.specs.Places.{settled}
 use Rattle.schedule.proofs.places.settle.Statement.{statement}
 use Rattle.schedule.proofs.places.settle.Tie as tie
 
-has-entry-requires : tie.Need-has-entry-requires
-has-entry-requires c κs = search needs
-
-open-from-requires : tie.Need-open-from-requires
-open-from-requires c κs = search needs
-
 returns : tie.Need-returns
 unfolding settled
 returns c = simp (← c .before .has-entry .ensures, c .if1 .taken)
@@ -19,4 +13,4 @@ unfolding settled
 returns-2 c = simp (← c .before .before .has-entry .ensures, c .before .if1 .left) (c .open-from .ensures)
 
 pub settle-spec : {M : Type 1} → statement M
-settle-spec = tie.close (tie.spec has-entry-requires open-from-requires returns returns-2)
+settle-spec = tie.close (tie.spec (λ c κs. search needs) (λ c κs. search needs) returns returns-2)

@@ -6,14 +6,8 @@ use Rattle.schedule.specs.Past.{byte-past}
 use Rattle.schedule.proofs.words.byte.Statement.{statement}
 use Rattle.schedule.proofs.words.byte.Tie as tie
 
-shared-slice-read-result : tie.Need-shared-slice-read-result
-shared-slice-read-result c = search needs
-
-returns : tie.Need-returns
-returns c = search needs
-
 returns-2 : tie.Need-returns-2
 returns-2 c = sym (byte-past (now (c .before .args .s)) (c .before .args .i) (c .if1 .left))
 
 pub byte-spec : {M : Type 1} → statement M
-byte-spec = tie.close (tie.spec shared-slice-read-result returns returns-2)
+byte-spec = tie.close (tie.spec (λ c. search needs) (λ c. search needs) returns-2)
