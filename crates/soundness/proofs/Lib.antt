@@ -1,2 +1,3 @@
--- What several proofs of this crate share.
+-- What the proofs of this crate lean on.
 pub mod Sized
+pub mod Pass

@@ -1,7 +1,7 @@
 // When a session is sound (document 01, "Numbers returned", last paragraph): the test that every public operation makes first.
 ghost use mathlib.Core.Path.{_≡_};
 ghost use Prim.Native.Nat.{min};
-ghost use mathlib.Core.Bool.{cond, not, _&&_};
+ghost use mathlib.Core.Bool.{cond, not, _&&_, _||_};
 ghost use lib.ListN.{drop};
 ghost use lib.Dec.{leb, ltb, eqb};
 ghost use Rattle.model.specs.Refusal.{standing, isOutside};
@@ -14,6 +14,12 @@ fn both(a: bool, b: bool) -> bool
     ensures { λ r. ⌜ r ≡ a && b ⌝ }
 {
     if a { b } else { false }
+}
+
+fn either(a: bool, b: bool) -> bool
+    ensures { λ r. ⌜ r ≡ a || b ⌝ }
+{
+    if a { true } else { b }
 }
 
 fn smaller(a: usize, b: usize) -> usize
@@ -95,6 +101,17 @@ pub fn process_sound(window: usize, limit: usize, q: Process) -> bool
     both(counted, phase_sound(window, limit, round, phase))
 }
 
+// One record of a session: a process of it, or one that has not proposed.
+fn record_sound(window: usize, limit: usize, seated: bool, q: Process) -> bool
+    ensures { λ r. ⌜ r ≡ (seated || isOutside (standing (q .phase))) && soundProcess window limit q ⌝ }
+{
+    let phase = q.phase;
+    both(
+        either(seated, outside(phase)),
+        process_sound(window, limit, q),
+    )
+}
+
 // The registers from an index on are blank.
 fn blank_from(values: &[u32], from: usize) -> bool
     ensures { λ r. ⌜ r ≡ every (λ x. eqb x 0) (drop from (now (values .entry))) ⌝ }
@@ -123,38 +140,6 @@ fn unmarked_from(marks: &[bool], from: usize) -> bool
     true
 }
 
-// The processes from an index on have not proposed.
-fn outside_from(s: Session, from: usize) -> bool
-    ensures { λ r. ⌜ r ≡ every (λ q. isOutside (standing (q .phase))) (drop from (s .processes)) ⌝ }
-{
-    let mut i = from;
-    while i < 64 {
-        let q = s.processes[i];
-        let phase = q.phase;
-        if !outside(phase) {
-            return false;
-        }
-        i += 1;
-    }
-    true
-}
-
-// Each record is sound.
-fn processes_sound(window: usize, s: Session) -> bool
-    ensures { λ r. ⌜ r ≡ every (soundProcess window (s .limit)) (s .processes) ⌝ }
-{
-    let limit = s.limit;
-    let mut i = 0;
-    while i < 64 {
-        let q = s.processes[i];
-        if !process_sound(window, limit, q) {
-            return false;
-        }
-        i += 1;
-    }
-    true
-}
-
 // The processes are 1 to 64, and the rounds as many as the window, to 256.
 fn counts_sound(window: usize, n: usize, limit: usize) -> bool
     ensures { λ r. ⌜ r ≡ (leb 1 n && leb n 64) && (leb window limit && leb limit 256) ⌝ }
@@ -162,7 +147,7 @@ fn counts_sound(window: usize, n: usize, limit: usize) -> bool
     both(both(1 <= n, n <= 64), both(window <= limit, limit <= 256))
 }
 
-// A session at a window.
+// A session at a window: its numbers, the registers and marks past the limit, and its records.
 pub fn sound_at(window: usize, s: Session) -> bool
     ensures { λ r. ⌜ r ≡ soundAt window s ⌝ }
 {
@@ -171,11 +156,18 @@ pub fn sound_at(window: usize, s: Session) -> bool
     if !counts_sound(window, n, limit) {
         return false;
     }
-    let registers = both(blank_from(&s.values, limit), unmarked_from(&s.marks, limit));
-    both(
-        both(registers, outside_from(s, n)),
-        processes_sound(window, s),
-    )
+    if !both(blank_from(&s.values, limit), unmarked_from(&s.marks, limit)) {
+        return false;
+    }
+    let mut i = 0;
+    while i < 64 {
+        let q = s.processes[i];
+        if !record_sound(window, limit, i < n, q) {
+            return false;
+        }
+        i += 1;
+    }
+    true
 }
 
 // A session: at the window of its number of processes.

@@ -6,7 +6,14 @@ use Rattle.soundness.proofs.process_sound.Tie as tie
 
 returns : tie.Need-returns
 unfolding soundProcess
-returns c = cc
+returns c =
+    rw (
+      c .both2 .ensures,
+      c .before .phase-sound .ensures,
+      c .before .before .both .ensures,
+      c .before .before .before .estimate-sound .ensures,
+      c .before .before .before .before .outside .ensures,
+    )
 
 pub process-sound-spec : {M : Type 1} → statement M
 process-sound-spec = tie.close (tie.spec (λ c κs. search needs) (λ c κs. search needs) (λ c κs. search needs) (λ c κs. search needs) (λ c κs. search needs) returns)

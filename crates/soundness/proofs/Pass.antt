@@ -1,0 +1,57 @@
+-- Two tests in one pass over a list: Q of every element, and P of those from n on. Assumes nothing.
+use Prim.Native.Nat.{ℕ, suc, _+_, _≤_, _<_, max}
+use mathlib.Core.Path.{_≡_, refl, sym, ap, _∙_}
+use mathlib.Core.Bool.{Bool, true, false, _&&_, _||_, and-false}
+use mathlib.Core.List.{List}
+use native.Mathlib.Numerals.{add-one}
+use native.Mathlib.Omega.{arith}
+use borrow.Author.Tests.{ltb-true, ltb-false}
+use lib.Dec.{ltb}
+use lib.ListN.{length, getD, drop, drop-of-length-le}
+use lib.Seq.{drop-cons}
+use Rattle.model.specs.Sound.{every}
+
+swap : (e q r : Bool) → (e && (q && r)) ≡ (q && (e && r))
+swap true q r = refl
+swap false q r = sym (and-false q)
+
+shuffle : (p e q r : Bool) → ((p && e) && (q && r)) ≡ ((p && q) && (e && r))
+shuffle true e q r = swap e q r
+shuffle false e q r = refl
+
+module _ {A : Type 0} (P Q : A → Bool) (n : ℕ) (xs : List A) where
+  -- What is left of the two tests at index i.
+  abbrev pub rest : ℕ → Bool
+  rest i = every P (drop (max n i) xs) && every Q (drop i xs)
+
+  pub begins : rest 0 ≡ (every P (drop n xs) && every Q xs)
+  begins = let e : max n 0 ≡ n = omega arith in rw e
+
+  pub ends : (i : ℕ) → length xs ≤ i → rest i ≡ true
+  ends i h =
+      let e : length xs ≤ max n i = omega arith in
+      rw (drop-of-length-le xs e, drop-of-length-le xs h)
+
+  -- The tests of the element at i.
+  abbrev pub here : ℕ → A → Bool
+  here i x = (ltb i n || P x) && Q x
+
+  goes : (i : ℕ) (d : A) → i < length xs → rest i ≡ (here i (getD xs i d) && rest (i + 1))
+  goes i d h = by (ltb i n) refl
+    where
+      by : (b : Bool) → ltb i n ≡ b → rest i ≡ (((b || P (getD xs i d)) && Q (getD xs i d)) && rest (i + 1))
+      by true t =
+          let e : max n i ≡ n = omega (arith, ltb-true i n t) in
+          let e′ : max n (i + 1) ≡ n = omega (arith, ltb-true i n t) in
+          rw (e, e′, add-one, drop-cons xs i d) (swap (every P (drop n xs)) (Q (getD xs i d)) (every Q (drop (suc i) xs)))
+      by false f =
+          let e : max n i ≡ i = omega (arith, ltb-false i n f) in
+          let e′ : max n (i + 1) ≡ i + 1 = omega (arith, ltb-false i n f) in
+          rw (e, e′, add-one, drop-cons xs i d)
+          (shuffle (P (getD xs i d)) (every P (drop (suc i) xs)) (Q (getD xs i d)) (every Q (drop (suc i) xs)))
+
+  pub more : (i : ℕ) (d : A) → i < length xs → here i (getD xs i d) ≡ true → rest i ≡ rest (i + 1)
+  more i d h p = goes i d h ∙ ap (λ b. b && rest (i + 1)) p
+
+  pub stop : (i : ℕ) (d : A) → i < length xs → here i (getD xs i d) ≡ false → rest i ≡ false
+  stop i d h p = goes i d h ∙ ap (λ b. b && rest (i + 1)) p
