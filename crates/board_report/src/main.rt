@@ -1,0 +1,2 @@
+// The board report's program.
+fn main() {}

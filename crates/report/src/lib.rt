@@ -1,0 +1,5 @@
+// The board report.
+
+pub fn two() -> usize {
+    2
+}

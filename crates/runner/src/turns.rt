@@ -1,0 +1,103 @@
+// What one entry does to the seat that it names, as functions of that seat's record, the tally and one value read.
+ghost use mathlib.Core.Path.{_≡_};
+ghost use mathlib.Core.Bool.{cond, not};
+ghost use mathlib.Core.List.{[], _∷_};
+ghost use lib.Dec.{leb, eqb};
+ghost use Rattle.model.specs.Refusal.{standing as standingOf, isOutside, refusal};
+ghost use Rattle.runner.specs.Uniform.{seatOf, rowOf, refusalOf, accessOf, becomes as becomesOf};
+use model::Access;
+use model::Counts;
+use model::Entry;
+use model::Phase;
+use model::Process;
+use model::Standing;
+
+// The seat that the entry names.
+pub fn seat_of(e: Entry) -> usize
+    ensures { λ r. ⌜ r ≡ seatOf e ⌝ }
+{
+    match e {
+        Entry::Propose(p, _) => p,
+        Entry::Step(p, _) => p,
+        Entry::Learn(p) => p,
+        Entry::Crash(p) => p,
+        Entry::Malformed => 0,
+    }
+}
+
+// The row of the seats' records to look at: that of seat p, and the first where n or more is named, which is refused.
+pub fn row(n: usize, p: usize) -> usize
+    ensures { λ r. ⌜ r ≡ rowOf n p ⌝ }
+{
+    if p < n { p } else { 0 }
+}
+
+// 01, "Numbers returned", 4: a seat number n or above comes before the later tests.
+fn seated(n: usize, p: usize, later: u32) -> u32
+    ensures { λ r. ⌜ r ≡ cond (leb n p) 4 later ⌝ }
+{
+    if n <= p { 4 } else { later }
+}
+
+// 01, "Numbers returned", proposal: 5, 6.
+fn propose_refusal(phase: Phase, v: u32) -> u32
+    ensures { λ r. ⌜ r ≡ refusal ((eqb v 0, 5) ∷ (not (isOutside (standingOf phase)), 6) ∷ []) ⌝ }
+{
+    if v == 0 {
+        return 5;
+    }
+    match choice::standing(phase) {
+        Standing::Gone => 6,
+        Standing::Spent => 6,
+        Standing::Active => 6,
+        Standing::Outside => 0,
+    }
+}
+
+// 01, "Numbers returned", Order: "each entry 13 first, then its operation's own order"; 0 for no refusal.
+pub fn refusal_of(n: usize, q: Process, c: Counts, e: Entry) -> u32
+    ensures { λ r. ⌜ r ≡ refusalOf n q c e ⌝ }
+{
+    let phase = q.phase;
+    match e {
+        Entry::Propose(p, v) => seated(n, p, propose_refusal(phase, v)),
+        Entry::Step(p, _) => seated(n, p, choice::step_refusal(phase, c)),
+        Entry::Learn(p) => seated(n, p, choice::learn_refusal(phase, c)),
+        Entry::Crash(p) => seated(n, p, choice::turn_refusal(phase)),
+        Entry::Malformed => 13,
+    }
+}
+
+// 01, "One turn at a time": the one register operation of the entry.
+pub fn access_of(limit: usize, q: Process, e: Entry) -> Access
+    ensures { λ r. ⌜ r ≡ accessOf limit q e ⌝ }
+{
+    match e {
+        Entry::Propose(_, _) => Access::Nothing,
+        Entry::Step(_, leader) => choice::access(limit, q, leader),
+        Entry::Learn(_) => Access::ReadDecision,
+        Entry::Crash(_) => Access::Nothing,
+        Entry::Malformed => Access::Nothing,
+    }
+}
+
+// 01, "One turn at a time": what the seat becomes by the entry, where x was read.
+pub fn becomes(window: usize, limit: usize, q: Process, e: Entry, x: u32) -> Process
+    ensures { λ r. ⌜ r ≡ becomesOf window limit q e x ⌝ }
+{
+    match e {
+        Entry::Propose(_, v) => Process {
+            phase: Phase::Waiting,
+            round: q.round,
+            estimate: v,
+        },
+        Entry::Step(_, leader) => choice::next(window, limit, q, leader, x),
+        Entry::Learn(_) => choice::learnt(q, x),
+        Entry::Crash(_) => Process {
+            phase: Phase::Crashed,
+            round: q.round,
+            estimate: q.estimate,
+        },
+        Entry::Malformed => q,
+    }
+}
