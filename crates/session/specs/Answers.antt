@@ -1,116 +1,98 @@
 -- The answer of an operation by the number of its refusal: the two tests that all operations share, 3 and 4, then its own.
-use Prim.Native.Nat.{ℕ, suc, zero, _<_, _≤_}
+use Prim.Native.Nat.{ℕ, suc, zero, _<_, _≤_, _%_}
 use native.Mathlib.Omega.{arith}
 use mathlib.Core.Path.{_≡_, refl, sym, _∙_, ap}
 use mathlib.Core.Bool.{Bool, true, false, cond}
 use lib.Dec.{leb}
 use borrow.Author.Tests.{leb-false}
+use Rattle.model.specs.declared.Process.{Process}
 use Rattle.model.specs.declared.Session.{Session}
 use Rattle.model.specs.declared.Counts.{Counts}
 use Rattle.model.specs.declared.Changed.{Changed}
 use Rattle.model.specs.declared.Stepped.{Stepped}
-use Rattle.model.specs.Board.{maxProcesses}
+use Rattle.model.specs.Board.{processAt, maxProcesses}
 use Rattle.model.specs.Window.{window}
 use Rattle.model.specs.Refusal.{changed, stepped}
 use Rattle.model.specs.Sound.{sound}
-use Rattle.model.specs.Public.{ifSound, ifSoundCounted}
 use Rattle.laws.specs.Sounds.{sound-facts}
 
--- The number of the first refusal: 3 where the session is not sound, 4 where there is no seat p, else rest, the number that the
--- operation's own tests give.
-abbrev pub tested : (sound : Bool) (n p rest : ℕ) → ℕ
-tested sound n p rest = cond sound (cond (leb n p) 4 rest) 3
+-- The number of the first refusal: 3 where the session is not sound, 4 where there is no process p, else that of the operation's own
+-- tests.
+abbrev pub tested : (sound : Bool) (n p own : ℕ) → ℕ
+tested sound n p own = cond sound (cond (leb n p) 4 own) 3
 
 -- By that number: refused, or accepted at 0.
 abbrev pub answer : {X : Type 0} (refused : ℕ → X) (accepted : X) → ℕ → X
 answer refused accepted zero = accepted
 answer refused accepted (suc k) = refused (suc k)
 
--- A session as it was, with a number.
+pub refuses : {X : Type 0} (refused : ℕ → X) (accepted : X) {k m : ℕ} → k ≡ m → (k ≡ 0 → ⊥) → refused k ≡ answer refused accepted m
+refuses refused accepted {k} e some = go k some ∙ ap (answer refused accepted) e
+  where
+    go : (j : ℕ) → (j ≡ 0 → ⊥) → refused j ≡ answer refused accepted j
+    go zero some′ = absurd (some′ refl)
+    go (suc j) some′ = refl
+
+pub accepts : {X : Type 0} (refused after : ℕ → X) {k m : ℕ} → k ≡ m → k ≡ 0 → after k ≡ answer refused (after 0) m
+accepts refused after e none = rw (← e, none)
+
+-- A session with a number, and with counts.
 abbrev pub kept : Session → ℕ → Changed
 kept s k = record { code = k; session = s }
 
 abbrev pub keptCounts : Session → Counts → ℕ → Stepped
 keptCounts s c k = record { code = k; session = s; counts = c }
 
--- The number that the first two tests give for a session and a seat, 0 for none.
-abbrev pub Seated : Session → (p seat : ℕ) → Type 0
-Seated s p seat = seat ≡ tested (sound s) (s .n) p 0
-
-pub seated : (s : Session) (p : ℕ) {b : Bool} {seat : ℕ} → b ≡ sound s → seat ≡ tested b (s .n) p 0 → Seated s p seat
-seated s p t e = cc
-
--- Where it is above 0, it is the answer's.
-seat-first : (b t : Bool) (rest seat : ℕ) → seat ≡ cond b (cond t 4 0) 3 → (seat ≡ 0 → ⊥) → seat ≡ cond b (cond t 4 rest) 3
-seat-first true true rest seat e some = e
-seat-first true false rest seat e some = absurd (some e)
-seat-first false t rest seat e some = e
-
--- Where it is 0, the session is sound and has the seat.
-seat-none : (b t : Bool) (seat : ℕ) → seat ≡ cond b (cond t 4 0) 3 → seat ≡ 0 → (b ≡ true) × (t ≡ false)
-seat-none true true seat e none = absurd (omega arith)
-seat-none true false seat e none = (refl, refl)
-seat-none false t seat e none = absurd (omega arith)
-
-module _ (s : Session) (p : ℕ) {seat : ℕ} (e : Seated s p seat) where
-  pub seat-is : seat ≡ 0 → (sound s ≡ true) × (p < s .n) × (s .n ≤ maxProcesses)
-  unfolding sound
-  seat-is none =
-      let a = seat-none (sound s) (leb (s .n) p) seat e none in
-      (a .0, leb-false (s .n) p (a .1), sound-facts (window (s .n)) s (a .0) .few)
-
-  -- The number of the whole operation is then that of its own tests.
-  own-first : {rest code : ℕ} → seat ≡ 0 → code ≡ rest → tested (sound s) (s .n) p rest ≡ code
-  own-first none k = let a = seat-none (sound s) (leb (s .n) p) seat e none in rw (a .0, a .1) (sym k)
-
-module _ {X : Type 0} (refused : ℕ → X) (accepted : X) where
-  refuses : (k : ℕ) → (k ≡ 0 → ⊥) → refused k ≡ answer refused accepted k
-  refuses zero some = absurd (some refl)
-  refuses (suc k) some = refl
-
-  module _ (s : Session) (p : ℕ) {seat : ℕ} (e : Seated s p seat) (rest : ℕ) where
-    -- Refused by the first two tests.
-    pub seat-refused : (seat ≡ 0 → ⊥) → refused seat ≡ answer refused accepted (tested (sound s) (s .n) p rest)
-    seat-refused some =
-        refuses seat some ∙ ap (answer refused accepted) (seat-first (sound s) (leb (s .n) p) rest seat e some)
-
-    -- Refused by the operation's own.
-    pub own-refused : {code : ℕ} → seat ≡ 0 → code ≡ rest → (code ≡ 0 → ⊥) →
-        refused code ≡ answer refused accepted (tested (sound s) (s .n) p rest)
-    own-refused {code} none k some = refuses code some ∙ ap (answer refused accepted) (sym (own-first s p e none k))
-
-    -- Accepted.
-    pub all-accepted : {code : ℕ} → seat ≡ 0 → code ≡ rest → code ≡ 0 →
-        accepted ≡ answer refused accepted (tested (sound s) (s .n) p rest)
-    all-accepted none k zero′ = ap (answer refused accepted) (sym (own-first s p e none k ∙ zero′))
-
 -- The definitions' answers are those.
-changed-is : (s t : Session) (k : ℕ) → changed k s t ≡ answer (kept s) (kept t 0) k
-changed-is s t zero = refl
-changed-is s t (suc k) = refl
+pub chosen-is : (s t : Session) (k : ℕ) → changed k s t ≡ answer (kept s) (kept t 0) k
+chosen-is s t zero = refl
+chosen-is s t (suc k) = refl
 
-stepped-is : (s t : Session) (c d : Counts) (k : ℕ) → stepped k s t c d ≡ answer (keptCounts s c) (keptCounts t d 0) k
-stepped-is s t c d zero = refl
-stepped-is s t c d (suc k) = refl
+-- After the two shared tests. (The machine's answers are those at `true`.)
+pub changed-is : (s t : Session) (b : Bool) (p own : ℕ) →
+    cond b (changed (cond (leb (s .n) p) 4 own) s t) (kept s 3) ≡ answer (kept s) (kept t 0) (tested b (s .n) p own)
+changed-is s t true p own = chosen-is s t (cond (leb (s .n) p) 4 own)
+changed-is s t false p own = refl
 
-pub if-sound : (s t : Session) (p rest : ℕ) →
-    ifSound s (changed (cond (leb (s .n) p) 4 rest) s t) ≡ answer (kept s) (kept t 0) (tested (sound s) (s .n) p rest)
-unfolding ifSound
-if-sound s t p rest = go (sound s)
+pub stepped-is : (s t : Session) (c d : Counts) (b : Bool) (p own : ℕ) →
+    cond b (stepped (cond (leb (s .n) p) 4 own) s t c d) (keptCounts s c 3)
+    ≡ answer (keptCounts s c) (keptCounts t d 0) (tested b (s .n) p own)
+stepped-is s t c d true p own = go (cond (leb (s .n) p) 4 own)
   where
-    go : (b : Bool) →
-        cond b (changed (cond (leb (s .n) p) 4 rest) s t) (kept s 3) ≡ answer (kept s) (kept t 0) (tested b (s .n) p rest)
-    go true = changed-is s t (cond (leb (s .n) p) 4 rest)
-    go false = refl
+    go : (k : ℕ) → stepped k s t c d ≡ answer (keptCounts s c) (keptCounts t d 0) k
+    go zero = refl
+    go (suc k) = refl
+stepped-is s t c d false p own = refl
 
-pub if-sound-counted : (s t : Session) (c d : Counts) (p rest : ℕ) →
-    ifSoundCounted s c (stepped (cond (leb (s .n) p) 4 rest) s t c d)
-    ≡ answer (keptCounts s c) (keptCounts t d 0) (tested (sound s) (s .n) p rest)
-unfolding ifSoundCounted
-if-sound-counted s t c d p rest = go (sound s)
+-- What an accepted operation knows.
+pub record Admitted (b : Bool) (n p own : ℕ) : Type 0 where
+  pub tests : b ≡ true
+  pub below : p < n
+  pub none : own ≡ 0
+
+pub admitted : (b : Bool) (n p own : ℕ) → tested b n p own ≡ 0 → Admitted b n p own
+admitted b n p own = go b (leb n p) refl
   where
-    go : (b : Bool) →
-        cond b (stepped (cond (leb (s .n) p) 4 rest) s t c d) (keptCounts s c 3)
-        ≡ answer (keptCounts s c) (keptCounts t d 0) (tested b (s .n) p rest)
-    go true = stepped-is s t c d (cond (leb (s .n) p) 4 rest)
-    go false = refl
+    go : (c t : Bool) → leb n p ≡ t → cond c (cond t 4 own) 3 ≡ 0 → Admitted c n p own
+    go true true et e = absurd (omega arith)
+    go true false et e = record { tests = refl; below = leb-false n p et; none = e }
+    go false t et e = absurd (omega arith)
+
+-- A sound session has few processes, so that the index at which the code reads one is its number.
+pub few : (s : Session) → sound s ≡ true → s .n ≤ maxProcesses
+unfolding sound
+few s t = sound-facts (window (s .n)) s t .few
+
+pub index-is : (s : Session) (p : ℕ) → sound s ≡ true → p < s .n → p % 64 ≡ p
+index-is s p t below = omega (arith, few s t)
+
+-- The number of the first refusal, with the own tests made on the record that was read.
+pub number : (s : Session) (p : ℕ) (own : Process → ℕ) {b : Bool} {k r : ℕ} → b ≡ sound s → k ≡ own (processAt s (p % 64)) →
+    r ≡ tested b (s .n) p k → r ≡ tested (sound s) (s .n) p (own (processAt s p))
+number s p own eb ek er = er ∙ rw (eb, ek) (go (sound s) (leb (s .n) p) refl refl)
+  where
+    go : (c t : Bool) → sound s ≡ c → leb (s .n) p ≡ t →
+        cond c (cond t 4 (own (processAt s (p % 64)))) 3 ≡ cond c (cond t 4 (own (processAt s p))) 3
+    go true true ec et = refl
+    go true false ec et = rw (index-is s p ec (leb-false (s .n) p et))
+    go false t ec et = refl

@@ -1,4 +1,4 @@
--- What the contracts of the register functions cite, and the laws of the operations' answers.
+-- What the contracts of the tests and of the registers' functions cite, and the laws of the operations' answers.
 pub mod Registers
 pub mod Answers
 pub mod Operations

@@ -1,10 +1,11 @@
--- Each operation's answer by the number of its refusal, and what an accepted one leaves, register by register.
-use Prim.Native.Nat.{ℕ, suc, zero}
-use native.Mathlib.Omega.{arith}
+-- Each operation's answer, by the number of its first refusal and by what the code leaves where it is 0.
+use Prim.Native.Nat.{ℕ, _%_, _≤_}
 use mathlib.Core.Path.{_≡_, refl, sym, _∙_}
 use mathlib.Core.Bool.{Bool, true, false, cond, not}
 use mathlib.Core.List.{List, [], _∷_}
+use native.Mathlib.Omega.{arith}
 use lib.Dec.{eqb}
+use Rattle.model.specs.declared.Phase.the-variants.{Waiting, Crashed}
 use Rattle.model.specs.declared.Access.{Access}
 use Rattle.model.specs.declared.Access.the-variants.{ReadDecision}
 use Rattle.model.specs.declared.Process.{Process}
@@ -12,129 +13,171 @@ use Rattle.model.specs.declared.Session.{Session}
 use Rattle.model.specs.declared.Counts.{Counts}
 use Rattle.model.specs.Window.{window}
 use Rattle.model.specs.Board.{processAt, withProcess, opened, maxProcesses, maxRounds}
-use Rattle.model.specs.Step.{access, next, learnt, found, written, turn, counted}
-use Rattle.model.specs.Refusal.{Test, refusal, changed, openTests, standingAt, isOutside, isGone, isSpent, full}
+use Rattle.model.specs.Step.{access, next, learnt, found, written, turn, counted, process}
+use Rattle.model.specs.Refusal.{Test, refusal, openTests, standing, isOutside, isGone, isSpent, full}
 use Rattle.model.specs.Sound.{sound}
 use Rattle.model.specs.Machine
 use Rattle.model.specs.Machine.{opening, openWithin, proposed, worked, looked, crashed}
 use Rattle.model.specs.Public
-use Rattle.laws.specs.Accepted.{NoneHolds, Numbered, none-holds}
-use Rattle.session.specs.Registers.{valuesAfter, marksAfter, decisionAfter, foundIn, placed, found-in, turn-placed, access-all}
-use Rattle.session.specs.Answers.{tested, answer, kept, keptCounts, Seated, seat-is, all-accepted, if-sound, if-sound-counted}
+use Rattle.model.specs.Public.{ifSound, ifSoundCounted}
+use Rattle.laws.specs.Accepted.{none-holds}
+use Rattle.laws.specs.Ranges.{InRange}
+use Rattle.session.specs.Registers.{valuesAfter, marksAfter, decisionAfter, foundIn, withTurn, found-in, turn-is, access-all}
+use Rattle.session.specs.Answers.{
+  tested,
+  answer,
+  refuses,
+  accepts,
+  kept,
+  keptCounts,
+  chosen-is,
+  changed-is,
+  stepped-is,
+  Admitted,
+  admitted,
+  few,
+  index-is,
+}
 
--- The tests of each operation after the seat's number.
-abbrev pub proposeOwn : Session → (p v : ℕ) → List Test
-proposeOwn s p v = (eqb v 0, 5) ∷ (not (isOutside (standingAt s p)), 6) ∷ []
+-- The tests of each operation after the process' number, on the record of the process.
+abbrev pub proposeOwn : (v : ℕ) → Process → List Test
+proposeOwn v q = (eqb v 0, 5) ∷ (not (isOutside (standing (q .phase))), 6) ∷ []
 
-abbrev pub crashOwn : Session → (p : ℕ) → List Test
-crashOwn s p = (isOutside (standingAt s p), 7) ∷ (isGone (standingAt s p), 8) ∷ []
+abbrev pub crashOwn : Process → List Test
+crashOwn q = (isOutside (standing (q .phase)), 7) ∷ (isGone (standing (q .phase)), 8) ∷ []
 
-abbrev pub learnOwn : Session → (p : ℕ) → Counts → List Test
-learnOwn s p c = (isOutside (standingAt s p), 7) ∷ (isGone (standingAt s p), 8) ∷ (full c, 16) ∷ []
+abbrev pub learnOwn : Counts → Process → List Test
+learnOwn c q = (isOutside (standing (q .phase)), 7) ∷ (isGone (standing (q .phase)), 8) ∷ (full c, 16) ∷ []
 
-abbrev pub stepOwn : Session → (p : ℕ) → Counts → List Test
-stepOwn s p c =
-    (isOutside (standingAt s p), 7) ∷ (isGone (standingAt s p), 8) ∷ (isSpent (standingAt s p), 9) ∷ (full c, 16) ∷ []
+abbrev pub stepOwn : Counts → Process → List Test
+stepOwn c q =
+    (isOutside (standing (q .phase)), 7)
+    ∷ (isGone (standing (q .phase)), 8)
+    ∷ (isSpent (standing (q .phase)), 9)
+    ∷ (full c, 16)
+    ∷ []
 
+-- Counts that are not full grow by an access.
+counts-grow : (c : Counts) {d : Counts} {a b : Access} → full c ≡ false → a ≡ b → d ≡ cond (full c) c (counted a c) → d ≡ counted b c
+counts-grow c unfull e k = k ∙ rw (unfull, e)
+
+-- The registers that a work turn leaves, and the process that the value read makes; i is the index of process p.
+pub worked-is : (s : Session) (p : ℕ) (leader : Bool) {i W x y : ℕ} {a : Access} {values : List ℕ} {marks : List Bool} {q : Process} →
+    InRange maxRounds (access (s .limit) (processAt s p) leader) →
+    i ≡ p →
+    a ≡ access (s .limit) (processAt s i) leader →
+    x ≡ foundIn (s .values) (s .marks) (s .decision) a →
+    values ≡ valuesAfter (s .values) a (processAt s i .estimate) →
+    marks ≡ marksAfter (s .marks) a →
+    y ≡ decisionAfter (s .decision) a (processAt s i .estimate) →
+    W ≡ window (s .n) →
+    q ≡ next W (s .limit) (processAt s i) leader x →
+    withTurn s i values marks y q ≡ worked (window (s .n)) s p leader
+unfolding worked
+worked-is s p leader ok ei ea ex ev em ey ew eq =
+    let a = access (s .limit) (processAt s p) leader in
+    rw (eq, ev, em, ey, ex, ew, ea, ei, ← found-in s a)
+    (sym (turn-is s p a (next (window (s .n)) (s .limit) (processAt s p) leader) ok))
+
+-- A look reads the decision, and writes nothing.
+pub looked-is : (s : Session) (p : ℕ) {i : ℕ} {q : Process} → i ≡ p → q ≡ learnt (processAt s i) (s .decision) →
+    withProcess s i q ≡ looked s p
+unfolding looked turn written found
+looked-is s p ei eq = rw (eq, ei)
+
+-- The operations by the number k of the first refusal: what they are, and what the code leaves where k is 0.
 module _ (s : Session) (p : ℕ) where
-  pub propose-answer : (v : ℕ) →
+  pub propose-is : (v : ℕ) →
       Public.propose s p v
-      ≡ answer (kept s) (kept (proposed s p v) 0) (tested (sound s) (s .n) p (refusal (proposeOwn s p v)))
-  unfolding Public.propose Machine.propose
-  propose-answer v = if-sound s (proposed s p v) p _
+      ≡ answer (kept s) (kept (proposed s p v) 0) (tested (sound s) (s .n) p (refusal (proposeOwn v (processAt s p))))
+  unfolding Public.propose Machine.propose ifSound
+  propose-is v = changed-is s (proposed s p v) (sound s) p _
 
-  pub crash-answer :
-      Public.crash s p ≡ answer (kept s) (kept (crashed s p) 0) (tested (sound s) (s .n) p (refusal (crashOwn s p)))
-  unfolding Public.crash Machine.crash
-  crash-answer = if-sound s (crashed s p) p _
+  pub crash-is :
+      Public.crash s p ≡ answer (kept s) (kept (crashed s p) 0) (tested (sound s) (s .n) p (refusal (crashOwn (processAt s p))))
+  unfolding Public.crash Machine.crash ifSound
+  crash-is = changed-is s (crashed s p) (sound s) p _
 
-  pub learn-answer : (c : Counts) →
+  pub learn-is : (c : Counts) →
       Public.learn s p c
       ≡ answer (keptCounts s c) (keptCounts (looked s p) (counted ReadDecision c) 0)
-      (tested (sound s) (s .n) p (refusal (learnOwn s p c)))
-  unfolding Public.learn Machine.learn
-  learn-answer c = if-sound-counted s (looked s p) c _ p _
+      (tested (sound s) (s .n) p (refusal (learnOwn c (processAt s p))))
+  unfolding Public.learn Machine.learn ifSoundCounted
+  learn-is c = stepped-is s (looked s p) c _ (sound s) p _
 
-  pub step-answer : (leader : Bool) (c : Counts) →
+  pub step-is : (leader : Bool) (c : Counts) →
       Public.step s p leader c
       ≡ answer (keptCounts s c)
       (keptCounts (worked (window (s .n)) s p leader) (counted (access (s .limit) (processAt s p) leader) c) 0)
-      (tested (sound s) (s .n) p (refusal (stepOwn s p c)))
-  unfolding Public.step Machine.step
-  step-answer leader c = if-sound-counted s (worked (window (s .n)) s p leader) c _ p _
+      (tested (sound s) (s .n) p (refusal (stepOwn c (processAt s p))))
+  unfolding Public.step Machine.step ifSoundCounted
+  step-is leader c = stepped-is s (worked (window (s .n)) s p leader) c _ (sound s) p _
 
-  -- An accepted turn's counts are not full, so that they grow.
-  pub learn-room : (c : Counts) → refusal (learnOwn s p c) ≡ 0 → full c ≡ false
-  learn-room c e = none-holds (learnOwn s p c) (omega arith) e .1 .1 .0
+  -- Accepted.
+  module _ {k : ℕ} (none : k ≡ 0) where
+    known : (own : ℕ) → k ≡ tested (sound s) (s .n) p own → Admitted (sound s) (s .n) p own
+    known own e = admitted (sound s) (s .n) p own (sym e ∙ none)
 
-  pub step-room : (c : Counts) → refusal (stepOwn s p c) ≡ 0 → full c ≡ false
-  step-room c e = none-holds (stepOwn s p c) (omega arith) e .1 .1 .1 .0
+    index : {own : ℕ} → Admitted (sound s) (s .n) p own → p % 64 ≡ p
+    index a = index-is s p (a .tests) (a .below)
 
--- The counts of an access, with the test for room that the code makes once more.
-pub counts-grow : (c : Counts) {d : Counts} {a b : Access} → full c ≡ false → a ≡ b → d ≡ cond (full c) c (counted a c) → d ≡ counted b c
-counts-grow c unfull e k = k ∙ rw (unfull, e)
+    pub propose-accepted : (v : ℕ) {q : Process} →
+        k ≡ tested (sound s) (s .n) p (refusal (proposeOwn v (processAt s p))) →
+        q ≡ process Waiting (processAt s (p % 64) .round) v →
+        kept (withProcess s (p % 64) q) k ≡ Public.propose s p v
+    unfolding proposed
+    propose-accepted v e eq =
+        rw (eq, index (known _ e)) (accepts (kept s) (kept (proposed s p v)) e none ∙ sym (propose-is v))
 
--- The registers that a work turn's access leaves in a sound session, and the process that the value read makes.
-pub worked-placed : (s : Session) (p : ℕ) (leader : Bool) {a : Access} {W x d : ℕ} {values : List ℕ} {marks : List Bool} {q : Process} →
-    sound s ≡ true →
-    a ≡ access (s .limit) (processAt s p) leader →
-    x ≡ foundIn (s .values) (s .marks) (s .decision) a →
-    values ≡ valuesAfter (s .values) a (processAt s p .estimate) →
-    marks ≡ marksAfter (s .marks) a →
-    d ≡ decisionAfter (s .decision) a (processAt s p .estimate) →
-    W ≡ window (s .n) →
-    q ≡ next W (s .limit) (processAt s p) leader x →
-    placed s p values marks d q ≡ worked (window (s .n)) s p leader
-unfolding worked sound
-worked-placed s p leader t ea ex ev em ed ew eq =
-    let a = access (s .limit) (processAt s p) leader in
-    rw (eq, ev, em, ed, ex, ew, ea, ← found-in s a)
-    (sym (turn-placed s p a (next (window (s .n)) (s .limit) (processAt s p) leader) (access-all (window (s .n)) s p leader t)))
+    pub crash-accepted : {q : Process} →
+        k ≡ tested (sound s) (s .n) p (refusal (crashOwn (processAt s p))) →
+        q ≡ process Crashed (processAt s (p % 64) .round) (processAt s (p % 64) .estimate) →
+        kept (withProcess s (p % 64) q) k ≡ Public.crash s p
+    unfolding crashed
+    crash-accepted e eq = rw (eq, index (known _ e)) (accepts (kept s) (kept (crashed s p)) e none ∙ sym crash-is)
 
--- A look reads the decision, and writes nothing.
-pub looked-placed : (s : Session) (p : ℕ) {q : Process} → q ≡ learnt (processAt s p) (s .decision) → withProcess s p q ≡ looked s p
-unfolding looked turn written found
-looked-placed s p e = rw e
+    pub learn-accepted : (c : Counts) {q : Process} {d : Counts} →
+        k ≡ tested (sound s) (s .n) p (refusal (learnOwn c (processAt s p))) →
+        q ≡ learnt (processAt s (p % 64)) (s .decision) →
+        d ≡ cond (full c) c (counted ReadDecision c) →
+        keptCounts (withProcess s (p % 64) q) d k ≡ Public.learn s p c
+    learn-accepted c e eq ed =
+        let a = known (refusal (learnOwn c (processAt s p))) e in
+        let room = none-holds (learnOwn c (processAt s p)) (omega arith) (a .none) .1 .1 .0 in
+        rw (looked-is s p (index a) eq, counts-grow c room refl ed)
+        (accepts (keptCounts s c) (keptCounts (looked s p) (counted ReadDecision c)) e none ∙ sym (learn-is c))
 
-module _ (s : Session) (p : ℕ) (c : Counts) {seat code : ℕ} {d : Counts} {q : Process} (e : Seated s p seat) (none : seat ≡ 0) where
-  -- An accepted look.
-  pub learn-accepted : code ≡ refusal (learnOwn s p c) → code ≡ 0 →
-      q ≡ learnt (processAt s p) (s .decision) →
-      d ≡ cond (full c) c (counted ReadDecision c) →
-      keptCounts (withProcess s p q) d 0 ≡ Public.learn s p c
-  learn-accepted k zero′ eq ed =
-      rw (looked-placed s p eq, counts-grow c (learn-room s p c (sym k ∙ zero′)) refl ed)
-      (all-accepted _ _ s p e _ none k zero′ ∙ sym (learn-answer s p c))
+    -- Where a work turn is accepted, n fits a byte.
+    pub step-few : (c : Counts) → k ≡ tested (sound s) (s .n) p (refusal (stepOwn c (processAt s p))) → s .n ≤ maxProcesses
+    step-few c e = few s (known (refusal (stepOwn c (processAt s p))) e .tests)
 
-  -- An accepted work turn, from the registers and the process that it leaves.
-  pub step-accepted : (leader : Bool) {a : Access} {W x y : ℕ} {values : List ℕ} {marks : List Bool} →
-      code ≡ refusal (stepOwn s p c) → code ≡ 0 →
-      a ≡ access (s .limit) (processAt s p) leader →
-      x ≡ foundIn (s .values) (s .marks) (s .decision) a →
-      values ≡ valuesAfter (s .values) a (processAt s p .estimate) →
-      marks ≡ marksAfter (s .marks) a →
-      y ≡ decisionAfter (s .decision) a (processAt s p .estimate) →
-      W ≡ window (s .n) →
-      q ≡ next W (s .limit) (processAt s p) leader x →
-      d ≡ cond (full c) c (counted a c) →
-      keptCounts (placed s p values marks y q) d 0 ≡ Public.step s p leader c
-  step-accepted leader k zero′ ea ex ev em ey ew eq ed =
-      rw (
-        worked-placed s p leader (seat-is s p e none .0) ea ex ev em ey ew eq,
-        counts-grow c (step-room s p c (sym k ∙ zero′)) ea ed,
-      )
-      (all-accepted _ _ s p e _ none k zero′ ∙ sym (step-answer s p leader c))
+    pub step-accepted : (leader : Bool) (c : Counts) {W x y : ℕ} {a : Access} {values : List ℕ} {marks : List Bool} {q : Process} {d : Counts} →
+        k ≡ tested (sound s) (s .n) p (refusal (stepOwn c (processAt s p))) →
+        a ≡ access (s .limit) (processAt s (p % 64)) leader →
+        x ≡ foundIn (s .values) (s .marks) (s .decision) a →
+        values ≡ valuesAfter (s .values) a (processAt s (p % 64) .estimate) →
+        marks ≡ marksAfter (s .marks) a →
+        y ≡ decisionAfter (s .decision) a (processAt s (p % 64) .estimate) →
+        W ≡ window (s .n) →
+        q ≡ next W (s .limit) (processAt s (p % 64)) leader x →
+        d ≡ cond (full c) c (counted a c) →
+        keptCounts (withTurn s (p % 64) values marks y q) d k ≡ Public.step s p leader c
+    unfolding sound
+    step-accepted leader c e ea ex ev em ey ew eq ed =
+        let a = known (refusal (stepOwn c (processAt s p))) e in
+        let room = none-holds (stepOwn c (processAt s p)) (omega arith) (a .none) .1 .1 .1 .0 in
+        let ok = access-all (window (s .n)) s p leader (a .tests) in
+        rw (worked-is s p leader ok (index a) ea ex ev em ey ew eq, counts-grow c room (rw (index a) at ea) ed)
+        (accepts (keptCounts s c) (keptCounts _ _) e none ∙ sym (step-is leader c))
 
--- An opening by the number of its refusal.
-module _ (n L : ℕ) {code : ℕ} {t : Session} (e : code ≡ refusal (openTests maxProcesses maxRounds n L)) where
-  pub open-refused : (code ≡ 0 → ⊥) → t ≡ opened 0 0 → kept t code ≡ opening n L
+-- An opening, where k is the number of its refusal.
+module _ (n L : ℕ) {k : ℕ} (e : k ≡ refusal (openTests maxProcesses maxRounds n L)) where
+  open-is : opening n L ≡ answer (kept (opened 0 0)) (kept (opened n L) 0) (refusal (openTests maxProcesses maxRounds n L))
   unfolding opening openWithin
-  open-refused some made = rw (made, ← e) (refused-is code some)
-    where
-      refused-is : (k : ℕ) → (k ≡ 0 → ⊥) → kept (opened 0 0) k ≡ changed k (opened 0 0) (opened n L)
-      refused-is zero none = absurd (none refl)
-      refused-is (suc k) none = refl
+  open-is = chosen-is (opened 0 0) (opened n L) (refusal (openTests maxProcesses maxRounds n L))
 
-  pub open-accepted : code ≡ 0 → t ≡ opened n L → kept t 0 ≡ opening n L
-  unfolding opening openWithin
-  open-accepted none made = rw (made, ← e, none)
+  pub open-refused : {t : Session} → (k ≡ 0 → ⊥) → t ≡ opened 0 0 → kept t k ≡ opening n L
+  open-refused some made = rw made (refuses (kept (opened 0 0)) _ e some ∙ sym open-is)
+
+  pub open-accepted : {t : Session} → k ≡ 0 → t ≡ opened n L → kept t k ≡ opening n L
+  open-accepted none made = rw made (accepts (kept (opened 0 0)) (kept (opened n L)) e none ∙ sym open-is)

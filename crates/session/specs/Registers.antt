@@ -70,8 +70,8 @@ found-in s ReadDecision = refl
 found-in s WriteDecision = refl
 
 -- The session with these registers, and another record for process p.
-abbrev pub placed : Session → (p : ℕ) → (values : List ℕ) (marks : List Bool) (decision : ℕ) → Process → Session
-placed s p values marks decision q =
+abbrev pub withTurn : Session → (p : ℕ) → (values : List ℕ) (marks : List Bool) (decision : ℕ) → Process → Session
+withTurn s p values marks decision q =
     record {
       n = s .n;
       limit = s .limit;
@@ -82,18 +82,18 @@ placed s p values marks decision q =
     }
 
 -- A turn, register by register, where its access is one of the registers.
-pub turn-placed : (s : Session) (p : ℕ) (a : Access) (becomes : ℕ → Process) → InRange maxRounds a →
+pub turn-is : (s : Session) (p : ℕ) (a : Access) (becomes : ℕ → Process) → InRange maxRounds a →
     turn s p a becomes
-    ≡ placed s p (valuesAfter (s .values) a (processAt s p .estimate)) (marksAfter (s .marks) a)
+    ≡ withTurn s p (valuesAfter (s .values) a (processAt s p .estimate)) (marksAfter (s .marks) a)
     (decisionAfter (s .decision) a (processAt s p .estimate)) (becomes (found s a))
 unfolding turn written
-turn-placed s p Nothing becomes ok = refl
-turn-placed s p (ReadValue r) becomes ok = refl
-turn-placed s p (WriteValue r) becomes ok = rw (lt-ltb (r - 1) maxRounds (omega arith))
-turn-placed s p (ReadMark r) becomes ok = refl
-turn-placed s p (SetMark r) becomes ok = rw (lt-ltb (r - 1) maxRounds (omega arith))
-turn-placed s p ReadDecision becomes ok = refl
-turn-placed s p WriteDecision becomes ok = refl
+turn-is s p Nothing becomes ok = refl
+turn-is s p (ReadValue r) becomes ok = refl
+turn-is s p (WriteValue r) becomes ok = rw (lt-ltb (r - 1) maxRounds (omega arith))
+turn-is s p (ReadMark r) becomes ok = refl
+turn-is s p (SetMark r) becomes ok = rw (lt-ltb (r - 1) maxRounds (omega arith))
+turn-is s p ReadDecision becomes ok = refl
+turn-is s p WriteDecision becomes ok = refl
 
 -- The registers 1 to L are among the array's.
 range-all : (L : ℕ) (a : Access) → L ≤ maxRounds → InRange L a → InRange maxRounds a

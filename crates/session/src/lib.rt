@@ -1,16 +1,17 @@
-// The operations on a session: opening, proposing, stepping, learning and crashing. Each tests whether the session is sound,
-// makes the tests of its refusals in their order, and then changes the session where it stands.
+// The operations on a session: opening, proposing, stepping, learning and crashing. Each makes its tests in their order, and
+// changes the session where it stands if none of them refuses.
 ghost use mathlib.Core.Path.{_≡_};
 ghost use mathlib.Core.Bool.{cond, not, true, false};
+ghost use mathlib.Core.List.{[], _∷_};
 ghost use Prim.Native.Nat.{_-_};
 ghost use lib.ListN.{getD, set};
-ghost use mathlib.Core.List.{[], _∷_};
-ghost use lib.Dec.{leb, ltb, eqb};
+ghost use lib.Dec.{ltb, eqb};
 ghost use Rattle.model.specs.Board.{opened as openedOf};
+ghost use Rattle.model.specs.Step.{bit, process};
 ghost use Rattle.model.specs.Refusal.{standing as standingOf, isOutside, refusal, openTests};
-ghost use Rattle.model.specs.Step.{bit};
 ghost use Rattle.model.specs.Machine.{opening};
 ghost use Rattle.model.specs.Public.{propose as proposeOf, step as stepOf, learn as learnOf, crash as crashOf};
+ghost use Rattle.session.specs.Answers.{tested};
 ghost use Rattle.session.specs.Registers.{foundIn, valuesAfter, marksAfter, decisionAfter};
 use model::Access;
 use model::Changed;
@@ -43,15 +44,15 @@ fn opened(n: usize, limit: usize) -> Session
     }
 }
 
-// 01, "Numbers returned", opening: 1, 2; 0 for no refusal.
+// 01, "Numbers returned", opening: 1, 2; 0 for no refusal, here and below.
 fn open_refusal(n: usize, limit: usize) -> u32
     ensures { λ r. ⌜ r ≡ refusal (openTests 64 256 n limit) ⌝ }
 {
     if n < 1 {
-        return 1;
+        return 1; // no process
     }
     if 64 < n {
-        return 1;
+        return 1; // too many
     }
     if limit < choice::window(n as u8) {
         return 2;
@@ -59,7 +60,7 @@ fn open_refusal(n: usize, limit: usize) -> u32
     if 256 < limit { 2 } else { 0 }
 }
 
-// 01, "Numbers returned", opening: 1, 2. Refused, the answer holds the session of no process and no round.
+// 01, "The board and the seats" and "Numbers returned", opening. Refused, the answer holds the session of no process and no round.
 pub fn open(n: usize, limit: usize) -> Changed
     ensures { λ r. ⌜ r ≡ opening n limit ⌝ }
 {
@@ -71,23 +72,24 @@ pub fn open(n: usize, limit: usize) -> Changed
         };
     }
     Changed {
-        code: 0,
+        code: code,
         session: opened(n, limit),
     }
 }
 
-// 01, "Numbers returned": 3 for a session that is not sound, then 4 for a seat number n or above.
-fn seat_refusal(sound: bool, n: usize, p: usize) -> u32
-    ensures { λ r. ⌜ r ≡ cond sound (refusal ((leb n p, 4) ∷ [])) 3 ⌝ }
+// 01, "Numbers returned": 3 for a session that is not sound, 4 for a process number n or above, then the number that the
+// operation's own tests give.
+pub fn first_refusal(sound: bool, n: usize, p: usize, own: u32) -> u32
+    ensures { λ r. ⌜ r ≡ tested sound n p own ⌝ }
 {
     if !sound {
         return 3;
     }
-    if n <= p { 4 } else { 0 }
+    if n <= p { 4 } else { own }
 }
 
-// 01, "Numbers returned", proposal: 5, 6, the tests of `proposeTests` after the seat's number.
-fn propose_refusal(v: u32, phase: Phase) -> u32
+// 01, "Numbers returned", proposal: 5, 6, the tests of `proposeTests` after the process' number.
+pub fn propose_refusal(v: u32, phase: Phase) -> u32
     ensures { λ r. ⌜ r ≡ refusal ((eqb v 0, 5) ∷ (not (isOutside (standingOf phase)), 6) ∷ []) ⌝ }
 {
     if v == 0 {
@@ -102,71 +104,69 @@ fn propose_refusal(v: u32, phase: Phase) -> u32
 }
 
 // 01, "One turn at a time": a proposal moves a seat from out to gate with own value v.
-pub fn propose(s: Session, p: usize, v: u32) -> Changed
-    ensures { λ r. ⌜ r ≡ proposeOf s p v ⌝ }
+pub fn proposed(q: Process, v: u32) -> Process
+    ensures { λ r. ⌜ r ≡ process Phase.Waiting (q .round) v ⌝ }
 {
-    let seat = seat_refusal(soundness::sound(s), s.n, p);
-    if seat != 0 {
-        return Changed {
-            code: seat,
-            session: s,
-        };
-    }
-    let q = s.processes[p];
-    let phase = q.phase;
-    let code = propose_refusal(v, phase);
-    if code != 0 {
-        return Changed {
-            code: code,
-            session: s,
-        };
-    }
-    let mut after = s;
-    after.processes[p] = Process {
+    Process {
         phase: Phase::Waiting,
         round: q.round,
         estimate: v,
-    };
-    Changed {
-        code: 0,
-        session: after,
     }
 }
 
 // 01, "One turn at a time": a crash moves a working or spent seat to crashed; round and own value remain.
+pub fn crashed(q: Process) -> Process
+    ensures { λ r. ⌜ r ≡ process Phase.Crashed (q .round) (q .estimate) ⌝ }
+{
+    let round = q.round;
+    let estimate = q.estimate;
+    Process {
+        phase: Phase::Crashed,
+        round: round,
+        estimate: estimate,
+    }
+}
+
+// 01, "One turn at a time", proposal. Here and below, i is p wherever the call is accepted: where it is not, the tests refuse.
+pub fn propose(s: Session, p: usize, v: u32) -> Changed
+    ensures { λ r. ⌜ r ≡ proposeOf s p v ⌝ }
+{
+    let i = p % 64;
+    let q = s.processes[i];
+    let phase = q.phase;
+    let own = propose_refusal(v, phase);
+    let code = first_refusal(soundness::sound(s), s.n, p, own);
+    let mut after = s;
+    if code == 0 {
+        after.processes[i] = proposed(q, v);
+    }
+    Changed {
+        code: code,
+        session: after,
+    }
+}
+
+// 01, "One turn at a time", crash.
 pub fn crash(s: Session, p: usize) -> Changed
     ensures { λ r. ⌜ r ≡ crashOf s p ⌝ }
 {
-    let seat = seat_refusal(soundness::sound(s), s.n, p);
-    if seat != 0 {
-        return Changed {
-            code: seat,
-            session: s,
-        };
-    }
-    let q = s.processes[p];
+    let i = p % 64;
+    let q = s.processes[i];
     let phase = q.phase;
-    let code = choice::turn_refusal(phase);
-    if code != 0 {
-        return Changed {
-            code: code,
-            session: s,
-        };
-    }
+    let own = choice::turn_refusal(phase);
+    let code = first_refusal(soundness::sound(s), s.n, p, own);
     let mut after = s;
-    after.processes[p] = Process {
-        phase: Phase::Crashed,
-        round: q.round,
-        estimate: q.estimate,
-    };
+    if code == 0 {
+        after.processes[i] = crashed(q);
+    }
     Changed {
-        code: 0,
+        code: code,
         session: after,
     }
 }
 
 // The index of the register of round r.
-fn place(r: usize) -> usize
+fn index(r: usize) -> usize
     ensures { λ i. ⌜ i ≡ r - 1 ⌝ }
 {
     if 0 < r { r - 1 } else { 0 }
@@ -176,7 +176,7 @@ fn place(r: usize) -> usize
 fn value_at(values: &[u32], r: usize) -> u32
     ensures { λ x. ⌜ x ≡ getD (now (values .entry)) (r - 1) 0 ⌝ }
 {
-    let i = place(r);
+    let i = index(r);
     if i < values.len() { values[i] } else { 0 }
 }
 
@@ -184,7 +184,7 @@ fn value_at(values: &[u32], r: usize) -> u32
 fn mark_at(marks: &[bool], r: usize) -> u32
     ensures { λ x. ⌜ x ≡ bit (getD (now (marks .entry)) (r - 1) false) ⌝ }
 {
-    let i = place(r);
+    let i = index(r);
     if i < marks.len() {
         if marks[i] {
             return 1;
@@ -212,7 +212,7 @@ pub fn read<'a>(values: &'a [u32], marks: &'a [bool], decision: u32, a: Access) 
 fn set_value(values: &mut [u32; 256], r: usize, e: u32)
     ensures { λ _. ⌜ now (values .exit) ≡ cond (ltb (r - 1) 256) (set (now (values .entry)) (r - 1) e) (now (values .entry)) ⌝ }
 {
-    let i = place(r);
+    let i = index(r);
     if i < 256 {
         values[i] = e;
     }
@@ -222,7 +222,7 @@ fn set_value(values: &mut [u32; 256], r: usize, e: u32)
 fn set_mark(marks: &mut [bool; 256], r: usize)
     ensures { λ _. ⌜ now (marks .exit) ≡ cond (ltb (r - 1) 256) (set (now (marks .entry)) (r - 1) true) (now (marks .entry)) ⌝ }
 {
-    let i = place(r);
+    let i = index(r);
     if i < 256 {
         marks[i] = true;
     }
@@ -273,71 +273,54 @@ pub fn decision_after(decision: u32, a: Access, e: u32) -> u32
     }
 }
 
-// 01, "One turn at a time": a work turn, one register operation and what the seat becomes by it.
+// 01, "One turn at a time": a work turn, one register operation and what the process becomes by the value read.
 pub fn step(s: Session, p: usize, leader: bool, c: Counts) -> Stepped
     ensures { λ r. ⌜ r ≡ stepOf s p leader c ⌝ }
 {
     let n = s.n;
     let limit = s.limit;
-    let seat = seat_refusal(soundness::sound(s), n, p);
-    if seat != 0 {
-        return Stepped {
-            code: seat,
-            session: s,
-            counts: c,
-        };
-    }
-    let q = s.processes[p];
+    let i = p % 64;
+    let q = s.processes[i];
     let phase = q.phase;
-    let code = choice::step_refusal(phase, c);
-    if code != 0 {
-        return Stepped {
-            code: code,
-            session: s,
-            counts: c,
-        };
-    }
-    let a = choice::access(limit, q, leader);
-    let x = read(&s.values, &s.marks, s.decision, a);
+    let own = choice::step_refusal(phase, c);
+    let code = first_refusal(soundness::sound(s), n, p, own);
     let mut after = s;
-    write_value(&mut after.values, a, q.estimate);
-    write_mark(&mut after.marks, a);
-    after.decision = decision_after(s.decision, a, q.estimate);
-    after.processes[p] = choice::next(choice::window(n as u8), limit, q, leader, x);
+    let mut counts = c;
+    if code == 0 {
+        let a = choice::access(limit, q, leader);
+        let x = read(&after.values, &after.marks, after.decision, a);
+        write_value(&mut after.values, a, q.estimate);
+        write_mark(&mut after.marks, a);
+        after.decision = decision_after(after.decision, a, q.estimate);
+        let window = choice::window(n as u8);
+        after.processes[i] = choice::next(window, limit, q, leader, x);
+        counts = choice::counted(a, c);
+    }
     Stepped {
-        code: 0,
+        code: code,
         session: after,
-        counts: choice::counted(a, c),
+        counts: counts,
     }
 }
 
-// 01, "One turn at a time": a look reads D; where it is filled, the seat is decided.
+// 01, "One turn at a time": a look reads D; where it is filled, the process is decided and takes its number.
 pub fn learn(s: Session, p: usize, c: Counts) -> Stepped
     ensures { λ r. ⌜ r ≡ learnOf s p c ⌝ }
 {
-    let seat = seat_refusal(soundness::sound(s), s.n, p);
-    if seat != 0 {
-        return Stepped {
-            code: seat,
-            session: s,
-            counts: c,
-        };
-    }
-    let q = s.processes[p];
+    let i = p % 64;
+    let q = s.processes[i];
     let phase = q.phase;
-    let code = choice::learn_refusal(phase, c);
-    if code != 0 {
-        return Stepped {
-            code: code,
-            session: s,
-            counts: c,
-        };
-    }
+    let own = choice::learn_refusal(phase, c);
+    let code = first_refusal(soundness::sound(s), s.n, p, own);
     let mut after = s;
-    after.processes[p] = choice::learnt(q, s.decision);
+    let mut counts = c;
+    if code == 0 {
+        after.processes[i] = choice::learnt(q, after.decision);
+        counts = choice::counted(Access::ReadDecision, c);
+    }
     Stepped {
-        code: 0,
+        code: code,
         session: after,
-        counts: choice::counted(Access::ReadDecision, c),
+        counts: counts,
     }
 }

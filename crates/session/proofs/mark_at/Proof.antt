@@ -11,6 +11,6 @@ mark-at-spec =
     (tie.spec
     (λ c κs. search needs)
     (λ c. search needs)
-    (λ c. rw (← c .before .before .before .place .ensures, c .if2 .taken))
-    (λ c. rw (← c .before .before .before .place .ensures, c .if2 .left))
-    (λ c. rw (← c .before .place .ensures, List·getD-eq-default (c .before .before .before .args .marks .now) false (c .if1 .left))))
+    (λ c. rw (← c .before .before .before .index .ensures, c .if2 .taken))
+    (λ c. rw (← c .before .before .before .index .ensures, c .if2 .left))
+    (λ c. rw (← c .before .index .ensures, List·getD-eq-default (c .before .before .before .args .marks .now) false (c .if1 .left))))

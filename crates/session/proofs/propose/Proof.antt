@@ -1,47 +1,29 @@
--- `session::propose` meets its contract: the two tests that all operations share, its own, and the changed process. Assumes nothing.
-use Prim.Native.Nat.{_<_}
-use native.Mathlib.Omega.{arith}
+-- `session::propose` meets its contract: by the number of its first refusal, and by the record that it stores. Assumes nothing.
 use mathlib.Core.Path.{_≡_, sym, _∙_}
 use borrow.Author.Needs.{needs}
-use Rattle.model.specs.Machine.{proposed}
-use Rattle.session.specs.Answers.{Seated, seated, seat-is, seat-refused, own-refused, all-accepted}
-use Rattle.session.specs.Operations.{propose-answer}
+use Rattle.model.specs.Sound.{sound}
+use Rattle.model.specs.Board.{processAt}
+use Rattle.model.specs.Refusal.{refusal}
+use Rattle.session.specs.Answers.{tested, number, refuses}
+use Rattle.session.specs.Operations.{proposeOwn, propose-is, propose-accepted}
 use Rattle.session.proofs.propose.Statement.{statement}
 use Rattle.session.proofs.propose.Tie as tie
 
-seat : (c : tie.After-seat-refusal) → Seated (c .before .before .args .t1) (c .before .before .args .p) (c .seat-refusal .result)
-seat c = seated _ _ (c .before .sound .ensures) (c .seat-refusal .ensures)
-
-below : (c : tie.Else1) → c .before .before .before .args .p < 64
-below c = omega (arith, seat-is _ _ (seat (c .before)) (c .if1 .left))
+-- The number of the first refusal.
+code : (c : tie.After-first-refusal) →
+    let a = c .before .before .before .before .args in
+    c .first-refusal .result ≡ tested (sound (a .t1)) (a .t1 .n) (a .p) (refusal (proposeOwn (a .v) (processAt (a .t1) (a .p))))
+code c = number _ _ (λ q. refusal (proposeOwn (c .before .before .before .before .args .v) q)) (c .before .sound .ensures) (c .before .before .propose-refusal .ensures) (c .first-refusal .ensures)
 
 returns : tie.Need-returns
-returns c = seat-refused _ _ _ _ (seat (c .before)) _ (c .if1 .taken) ∙ sym (propose-answer _ _ _)
+returns c = propose-accepted _ _ (c .before .if1 .taken) _ (code (c .before .before)) (c .proposed .ensures)
 
 returns-2 : tie.Need-returns-2
-returns-2 c =
-    let first = c .before .before .before in
-    own-refused _ _ _ _ (seat (first .before)) _ (first .if1 .left) (c .before .propose-refusal .ensures) (c .if2 .taken)
-    ∙ sym (propose-answer _ _ _)
+returns-2 c = refuses _ _ (code (c .before)) (c .if1 .left) ∙ sym (propose-is _ _ _)
 
-returns-3 : tie.Need-returns-3
-unfolding proposed
-returns-3 c =
-    let first = c .before .before .before in
-    all-accepted _ _ _ _ (seat (first .before)) _ (first .if1 .left) (c .before .propose-refusal .ensures) (c .if2 .left)
-    ∙ sym (propose-answer _ _ _)
-
+-- In the order of the code: the record's address and index, the tests, the new record, its address and index, the answers.
 pub propose-spec : {M : Type 1} → statement M
 propose-spec =
     tie.close
-    (tie.spec
-    (λ c κs. search needs)
-    (λ c κs. search needs)
-    returns
-    (λ c. omega (arith, below c))
-    below
-    (λ c κs. search needs)
-    returns-2
-    (λ c. omega (arith, below (c .before .before .before)))
-    (λ c. below (c .before .before .before))
-    returns-3)
+    (tie.spec (λ c. search needs) (λ c. search needs) (λ c κs. search needs) (λ c κs. search needs) (λ c κs. search needs)
+    (λ c κs. search needs) (λ c. search needs) (λ c. search needs) returns returns-2)

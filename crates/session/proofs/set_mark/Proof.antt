@@ -10,5 +10,5 @@ set-mark-spec =
     (tie.spec
     (λ c κs. search needs)
     (λ c. search needs)
-    (λ c. rw (← c .before .place .ensures, lt-ltb _ _ (c .if1 .taken)))
-    (λ c. rw (← c .before .place .ensures, le-ltb _ _ (c .if1 .left))))
+    (λ c. rw (← c .before .index .ensures, lt-ltb _ _ (c .if1 .taken)))
+    (λ c. rw (← c .before .index .ensures, le-ltb _ _ (c .if1 .left))))

@@ -12,5 +12,5 @@ value-at-spec =
     (λ c κs. search needs)
     (λ c. search needs)
     (λ c. search needs)
-    (λ c. rw (c .before .before .place .ensures))
-    (λ c. rw (← c .before .place .ensures) (sym (List·getD-eq-default (c .before .before .before .args .values .now) 0 (c .if1 .left)))))
+    (λ c. rw (c .before .before .index .ensures))
+    (λ c. rw (← c .before .index .ensures) (sym (List·getD-eq-default (c .before .before .before .args .values .now) 0 (c .if1 .left)))))

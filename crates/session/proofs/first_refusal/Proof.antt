@@ -1,10 +1,10 @@
--- `session::seat_refusal` meets its contract: each return knows which tests hold. Assumes nothing.
+-- `session::first_refusal` meets its contract: each return knows which tests hold. Assumes nothing.
 use borrow.Author.Tests.{le-leb, lt-leb, not-true, not-false}
-use Rattle.session.proofs.seat_refusal.Statement.{statement}
-use Rattle.session.proofs.seat_refusal.Tie as tie
+use Rattle.session.proofs.first_refusal.Statement.{statement}
+use Rattle.session.proofs.first_refusal.Tie as tie
 
-pub seat-refusal-spec : {M : Type 1} → statement M
-seat-refusal-spec =
+pub first-refusal-spec : {M : Type 1} → statement M
+first-refusal-spec =
     tie.close
     (tie.spec
     (λ c. rw (not-true (c .before .args .sound) (c .if1 .taken)))
