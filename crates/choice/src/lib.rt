@@ -222,34 +222,6 @@ pub fn learnt(q: Process, x: u32) -> Process
     }
 }
 
-// 01, "Numbers returned": whether the process is out, works, is spent, or crashed or decided.
-pub fn standing(phase: Phase) -> Standing
-    ensures { λ r. ⌜ r ≡ standingOf phase ⌝ }
-{
-    match phase {
-        Phase::Idle => Standing::Outside,
-        Phase::Waiting => Standing::Active,
-        Phase::Write => Standing::Active,
-        Phase::Scan(_) => Standing::Active,
-        Phase::Adopt(_) => Standing::Active,
-        Phase::Compare(_) => Standing::Active,
-        Phase::Flag(_) => Standing::Active,
-        Phase::CheckMark(_) => Standing::Active,
-        Phase::CheckValue(_) => Standing::Active,
-        Phase::Commit => Standing::Active,
-        Phase::Exhausted => Standing::Spent,
-        Phase::Crashed => Standing::Gone,
-        Phase::Decided => Standing::Gone,
-    }
-}
-
-// 01, "Numbers returned", 16: whether some count has reached its largest number.
-pub fn full(c: Counts) -> bool
-    ensures { λ r. ⌜ r ≡ fullOf c ⌝ }
-{
-    (4294967295 <= c.reads) | (4294967295 <= c.writes) | (4294967295 <= c.contested)
-}
-
 // The three counts of a tally.
 fn counts(reads: u32, writes: u32, contested: u32) -> Counts
     ensures { λ r. ⌜ r ≡ record { reads = reads; writes = writes; contested = contested } ⌝ }
@@ -265,7 +237,7 @@ fn counts(reads: u32, writes: u32, contested: u32) -> Counts
 pub fn counted(a: Access, c: Counts) -> Counts
     ensures { λ r. ⌜ r ≡ cond (fullOf c) c (countedOf a c) ⌝ }
 {
-    if full(c) {
+    if refusals::full(c) {
         return c;
     }
     let reads = c.reads + 1;
@@ -281,45 +253,3 @@ pub fn counted(a: Access, c: Counts) -> Counts
     }
 }
 
-// 01, "Numbers returned", 16; 0 for no refusal, here and below.
-fn full_refusal(c: Counts) -> u32
-    ensures { λ r. ⌜ r ≡ refusal ((fullOf c, 16) ∷ []) ⌝ }
-{
-    if full(c) { 16 } else { 0 }
-}
-
-// 01, "Numbers returned", crash: 7, 8, the tests of `crashTests` after the seat's number.
-pub fn turn_refusal(phase: Phase) -> u32
-    ensures { λ r. ⌜ r ≡ refusal ((isOutside (standingOf phase), 7) ∷ (isGone (standingOf phase), 8) ∷ []) ⌝ }
-{
-    match standing(phase) {
-        Standing::Outside => 7, // a crash before the proposal
-        Standing::Gone => 8, // a crash after the end
-        Standing::Active => 0,
-        Standing::Spent => 0,
-    }
-}
-
-// 01, "Numbers returned", look: 7, 8, 16, the tests of `learnTests` after the seat's number.
-pub fn learn_refusal(phase: Phase, c: Counts) -> u32
-    ensures { λ r. ⌜ r ≡ refusal ((isOutside (standingOf phase), 7) ∷ (isGone (standingOf phase), 8) ∷ (fullOf c, 16) ∷ []) ⌝ }
-{
-    match standing(phase) {
-        Standing::Outside => 7, // a look before the proposal
-        Standing::Gone => 8, // a look after the end
-        Standing::Active => full_refusal(c),
-        Standing::Spent => full_refusal(c),
-    }
-}
-
-// 01, "Numbers returned", work: 7, 8, 9, 16, the tests of `stepTests` after the seat's number.
-pub fn step_refusal(phase: Phase, c: Counts) -> u32
-    ensures { λ r. ⌜ r ≡ refusal ((isOutside (standingOf phase), 7) ∷ (isGone (standingOf phase), 8) ∷ (isSpent (standingOf phase), 9) ∷ (fullOf c, 16) ∷ []) ⌝ }
-{
-    match standing(phase) {
-        Standing::Outside => 7, // a step before the proposal
-        Standing::Gone => 8, // a step after the end
-        Standing::Spent => 9,
-        Standing::Active => full_refusal(c),
-    }
-}

@@ -15,7 +15,8 @@ use Rattle.model.specs.declared.Session.{Session}
 use Rattle.model.specs.Board.{processAt, withProcess, idle, maxProcesses, maxRounds}
 use Rattle.model.specs.Step.{written}
 use Rattle.model.specs.Refusal.{standing, isOutside}
-use Rattle.model.specs.Sound.{every, soundPhase, soundProcess, soundAt}
+use Rattle.model.specs.Window.{window}
+use Rattle.model.specs.Sound.{every, soundPhase, soundProcess, soundAt, sound}
 use Rattle.basics.specs.Bools.{and-left, and-right, and-both}
 use Rattle.laws.specs.Every.{every-get, every-set}
 use Rattle.laws.specs.Ranges.{InRange}
@@ -134,3 +135,12 @@ written-sound W s WriteDecision e ok f =
       outside = f .outside;
       each = f .each;
     }
+
+-- A sound session has at most 256 rounds and 64 processes.
+pub sound-low : (s : Session) → sound s ≡ true → s .limit ≤ maxRounds
+unfolding sound
+sound-low s t = sound-facts (window (s .n)) s t .low
+
+pub sound-few : (s : Session) → sound s ≡ true → s .n ≤ maxProcesses
+unfolding sound
+sound-few s t = sound-facts (window (s .n)) s t .few

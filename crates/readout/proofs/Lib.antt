@@ -1,3 +1,2 @@
 -- What several proofs of this crate share.
 pub mod Bounds
-pub mod Standing

@@ -4,7 +4,7 @@ use native.Mathlib.Omega.{arith}
 use native.Mathlib.Numerals.{add-one}
 use mathlib.Core.Path.{_≡_, refl, sym, _∙_, ap, subst₃}
 use mathlib.Core.Bool.{true, cond}
-use mathlib.Core.List.{List, [], _∷_}
+use mathlib.Core.List.{List, _∷_}
 use lib.ListN.{length}
 use borrow.Author.Tests.{ne-eqb, not-false, leb-true}
 use Rattle.model.specs.declared.Access.{Access}
@@ -17,9 +17,9 @@ use Rattle.model.specs.declared.Ran.{Ran}
 use Rattle.model.specs.Window.{window}
 use Rattle.model.specs.Board.{processAt, withProcess, opened, maxProcesses, maxRounds}
 use Rattle.model.specs.Step.{found, written, turn, counted}
-use Rattle.model.specs.Refusal.{full, stepped}
+use Rattle.model.specs.Refusal.{full}
 use Rattle.model.specs.Sound.{soundAt}
-use Rattle.model.specs.Runner.{ran, performed, runFrom, noCounts, run}
+use Rattle.model.specs.Runner.{ran, runFrom, noCounts, run}
 use Rattle.model.specs.Schedule.{processCount, roundLimit, entries, scheduleTests, scheduleRefusal}
 use Rattle.basics.specs.Bools.{and-left}
 use Rattle.laws.specs.Accepted.{none-holds}

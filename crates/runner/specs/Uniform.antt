@@ -2,7 +2,7 @@
 -- is what the machine does is `performed-uniform`.
 use Prim.Native.Nat.{ℕ, suc, zero, _<_, _≤_}
 use native.Mathlib.Omega.{arith}
-use mathlib.Core.Path.{_≡_, refl, sym, _∙_}
+use mathlib.Core.Path.{_≡_, refl}
 use mathlib.Core.Bool.{Bool, true, false, cond, not}
 use mathlib.Core.List.{List, [], _∷_}
 use lib.Dec.{leb, ltb, eqb}
@@ -13,11 +13,10 @@ use Rattle.model.specs.declared.Access.the-variants.{Nothing, ReadDecision}
 use Rattle.model.specs.declared.Process.{Process}
 use Rattle.model.specs.declared.Session.{Session}
 use Rattle.model.specs.declared.Counts.{Counts}
-use Rattle.model.specs.declared.Stepped.{Stepped}
 use Rattle.model.specs.declared.Entry.{Entry}
 use Rattle.model.specs.declared.Entry.the-variants.{Propose, Step, Learn, Crash, Malformed}
 use Rattle.model.specs.Window.{window}
-use Rattle.model.specs.Board.{processAt, withProcess}
+use Rattle.model.specs.Board.{processAt}
 use Rattle.model.specs.Step.{access, next, learnt, found, written, turn, counted, process}
 use Rattle.model.specs.Refusal.{Test, refusal, standing, isOutside, isGone, isSpent, full, changed, stepped}
 use Rattle.model.specs.Refusal.{proposeTests, crashTests}

@@ -2,7 +2,6 @@
 // tested for soundness: that every session of the run is sound is part of the loop's proof.
 ghost use mathlib.Core.Path.{_≡_};
 ghost use Prim.Native.Nat.{_<_};
-ghost use Rattle.model.specs.Board.{opened as openedOf};
 ghost use Rattle.model.specs.Step.{bit as bitOf};
 ghost use Rattle.model.specs.Runner.{ran as ranOf, noCounts, runFrom, run as runOf};
 ghost use Rattle.model.specs.Schedule.{entries};
@@ -10,8 +9,6 @@ ghost use Rattle.runner.specs.Carried.{Opened};
 use model::Access;
 use model::Counts;
 use model::Ending;
-use model::Phase;
-use model::Process;
 use model::Ran;
 use model::Session;
 use schedule::Handed;
@@ -31,25 +28,6 @@ fn bit(marked: bool) -> u32
     ensures { λ r. ⌜ r ≡ bitOf marked ⌝ }
 {
     if marked { 1 } else { 0 }
-}
-
-// 01, "The board and the seats": a session with every register blank and every seat out.
-fn opened(n: usize, limit: usize) -> Session
-    ensures { λ r. ⌜ r ≡ openedOf n limit ⌝ }
-{
-    let idle = Process {
-        phase: Phase::Idle,
-        round: 0,
-        estimate: 0,
-    };
-    Session {
-        n,
-        limit,
-        values: [0u32; 256],
-        marks: [false; 256],
-        decision: 0,
-        processes: [idle; 64],
-    }
 }
 
 // What a run gives: the number of entries carried out, the session, the tally and the ending.
@@ -120,9 +98,9 @@ pub fn run(schedule: &[u8], budget: usize) -> Ran
 {
     let code = schedule::refusal(schedule);
     if code != 0 {
-        return ran(0, opened(0, 0), no_counts(), Ending::Rejected(code));
+        return ran(0, opening::opened(0, 0), no_counts(), Ending::Rejected(code));
     }
     let n = schedule[0];
     let limit = wide(schedule[2]) + 256 * wide(schedule[3]);
-    carry(schedule, budget, choice::window(n), opened(wide(n), limit))
+    carry(schedule, budget, choice::window(n), opening::opened(wide(n), limit))
 }

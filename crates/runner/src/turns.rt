@@ -1,16 +1,13 @@
 // What one entry does to the seat that it names, as functions of that seat's record, the tally and one value read.
 ghost use mathlib.Core.Path.{_≡_};
-ghost use mathlib.Core.Bool.{cond, not};
-ghost use mathlib.Core.List.{[], _∷_};
-ghost use lib.Dec.{leb, eqb};
-ghost use Rattle.model.specs.Refusal.{standing as standingOf, isOutside, refusal};
+ghost use mathlib.Core.Bool.{cond};
+ghost use lib.Dec.{leb};
 ghost use Rattle.runner.specs.Uniform.{seatOf, rowOf, refusalOf, accessOf, becomes as becomesOf};
 use model::Access;
 use model::Counts;
 use model::Entry;
 use model::Phase;
 use model::Process;
-use model::Standing;
 
 // The seat that the entry names.
 pub fn seat_of(e: Entry) -> usize
@@ -39,31 +36,16 @@ fn seated(n: usize, p: usize, later: u32) -> u32
     if n <= p { 4 } else { later }
 }
 
-// 01, "Numbers returned", proposal: 5, 6.
-fn propose_refusal(phase: Phase, v: u32) -> u32
-    ensures { λ r. ⌜ r ≡ refusal ((eqb v 0, 5) ∷ (not (isOutside (standingOf phase)), 6) ∷ []) ⌝ }
-{
-    if v == 0 {
-        return 5;
-    }
-    match choice::standing(phase) {
-        Standing::Gone => 6,
-        Standing::Spent => 6,
-        Standing::Active => 6,
-        Standing::Outside => 0,
-    }
-}
-
 // 01, "Numbers returned", Order: "each entry 13 first, then its operation's own order"; 0 for no refusal.
 pub fn refusal_of(n: usize, q: Process, c: Counts, e: Entry) -> u32
     ensures { λ r. ⌜ r ≡ refusalOf n q c e ⌝ }
 {
     let phase = q.phase;
     match e {
-        Entry::Propose(p, v) => seated(n, p, propose_refusal(phase, v)),
-        Entry::Step(p, _) => seated(n, p, choice::step_refusal(phase, c)),
-        Entry::Learn(p) => seated(n, p, choice::learn_refusal(phase, c)),
-        Entry::Crash(p) => seated(n, p, choice::turn_refusal(phase)),
+        Entry::Propose(p, v) => seated(n, p, refusals::propose_refusal(v, phase)),
+        Entry::Step(p, _) => seated(n, p, refusals::step_refusal(phase, c)),
+        Entry::Learn(p) => seated(n, p, refusals::learn_refusal(phase, c)),
+        Entry::Crash(p) => seated(n, p, refusals::turn_refusal(phase)),
         Entry::Malformed => 13,
     }
 }

@@ -1,7 +1,6 @@
 // The tests of a schedule's header and runs. 01, "Turn sheets" and "Numbers returned", rows 10, 1, 2, 11 and 12.
 ghost use mathlib.Core.Path.{_≡_};
 ghost use lib.ListN.{length};
-ghost use Rattle.model.specs.Refusal.{openTests, refusal as refusalOf};
 ghost use Rattle.model.specs.Schedule.{hasHeader, headerEnd, inOrder, runs, wholeEntries};
 ghost use Rattle.model.specs.Sound.{every};
 use crate::words;
@@ -21,25 +20,6 @@ pub fn has_header(s: &[u8]) -> bool
         return false;
     }
     4 + 4 * count <= s.len()
-}
-
-// "1: seats not 1 to 64. 2: L below W or above 256."
-pub fn open_refusal(n: u8, limit: usize) -> u32
-    ensures { λ r. ⌜ r ≡ refusalOf (openTests 64 256 n limit) ⌝ }
-{
-    if n < 1 {
-        return 1;
-    }
-    if 64 < n {
-        return 1;
-    }
-    if limit < choice::window(n) {
-        return 2;
-    }
-    if 256 < limit {
-        return 2;
-    }
-    0
 }
 
 // "11: pairs unsorted, overlapping, before the end of the pairs, or past the sheet": from is where the run before ended.

@@ -32,7 +32,7 @@ pub fn refusal(s: &[u8]) -> u32
     if !header::has_header(s) {
         return 10;
     }
-    let opening = header::open_refusal(words::byte(s, 0), words::word16(s, 2));
+    let opening = opening::open_refusal(words::wide(words::byte(s, 0)), words::word16(s, 2));
     if opening != 0 {
         return opening;
     }

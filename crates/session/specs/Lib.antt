@@ -1,4 +1,3 @@
--- What the contracts of the tests and of the registers' functions cite, and the laws of the operations' answers.
-pub mod Registers
+-- The laws of the operations' answers.
 pub mod Answers
 pub mod Operations

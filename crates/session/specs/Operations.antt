@@ -12,17 +12,17 @@ use Rattle.model.specs.declared.Process.{Process}
 use Rattle.model.specs.declared.Session.{Session}
 use Rattle.model.specs.declared.Counts.{Counts}
 use Rattle.model.specs.Window.{window}
-use Rattle.model.specs.Board.{processAt, withProcess, opened, maxProcesses, maxRounds}
+use Rattle.model.specs.Board.{processAt, withProcess, maxProcesses, maxRounds}
 use Rattle.model.specs.Step.{access, next, learnt, found, written, turn, counted, process}
-use Rattle.model.specs.Refusal.{Test, refusal, openTests, standing, isOutside, isGone, isSpent, full}
+use Rattle.model.specs.Refusal.{Test, refusal, standing, isOutside, isGone, isSpent, full}
 use Rattle.model.specs.Sound.{sound}
 use Rattle.model.specs.Machine
-use Rattle.model.specs.Machine.{opening, openWithin, proposed, worked, looked, crashed}
+use Rattle.model.specs.Machine.{proposed, worked, looked, crashed}
 use Rattle.model.specs.Public
 use Rattle.model.specs.Public.{ifSound, ifSoundCounted}
 use Rattle.laws.specs.Accepted.{none-holds}
 use Rattle.laws.specs.Ranges.{InRange}
-use Rattle.session.specs.Registers.{valuesAfter, marksAfter, decisionAfter, foundIn, withTurn, found-in, turn-is, access-all}
+use Rattle.registers.specs.Registers.{valuesAfter, marksAfter, decisionAfter, foundIn, withTurn, found-in, turn-is, access-all}
 use Rattle.session.specs.Answers.{
   tested,
   answer,
@@ -169,15 +169,3 @@ module _ (s : Session) (p : ℕ) where
         let ok = access-all (window (s .n)) s p leader (a .tests) in
         rw (worked-is s p leader ok (index a) ea ex ev em ey ew eq, counts-grow c room (rw (index a) at ea) ed)
         (accepts (keptCounts s c) (keptCounts _ _) e none ∙ sym (step-is leader c))
-
--- An opening, where k is the number of its refusal.
-module _ (n L : ℕ) {k : ℕ} (e : k ≡ refusal (openTests maxProcesses maxRounds n L)) where
-  open-is : opening n L ≡ answer (kept (opened 0 0)) (kept (opened n L) 0) (refusal (openTests maxProcesses maxRounds n L))
-  unfolding opening openWithin
-  open-is = chosen-is (opened 0 0) (opened n L) (refusal (openTests maxProcesses maxRounds n L))
-
-  pub open-refused : {t : Session} → (k ≡ 0 → ⊥) → t ≡ opened 0 0 → kept t k ≡ opening n L
-  open-refused some made = rw made (refuses (kept (opened 0 0)) _ e some ∙ sym open-is)
-
-  pub open-accepted : {t : Session} → k ≡ 0 → t ≡ opened n L → kept t k ≡ opening n L
-  open-accepted none made = rw made (accepts (kept (opened 0 0)) (kept (opened n L)) e none ∙ sym open-is)

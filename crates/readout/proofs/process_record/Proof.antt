@@ -7,7 +7,7 @@ use borrow.Author.Needs.{needs}
 use borrow.Author.Tests.{not-true, not-false, le-leb, lt-leb}
 use Rattle.model.specs.Sound.{sound}
 use Rattle.model.specs.ReadOut.{processRecord}
-use Rattle.readout.proofs.Bounds.{sound-few}
+use Rattle.laws.specs.Sounds.{sound-few}
 use Rattle.readout.proofs.process_record.Statement.{statement}
 use Rattle.readout.proofs.process_record.Tie as tie
 

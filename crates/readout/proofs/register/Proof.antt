@@ -8,7 +8,8 @@ use borrow.Author.Needs.{needs}
 use borrow.Author.Tests.{not-true, not-false}
 use Rattle.model.specs.Sound.{sound}
 use Rattle.model.specs.ReadOut.{register}
-use Rattle.readout.proofs.Bounds.{sound-low, between}
+use Rattle.laws.specs.Sounds.{sound-low}
+use Rattle.readout.proofs.Bounds.{between}
 use Rattle.readout.proofs.register.Statement.{statement}
 use Rattle.readout.proofs.register.Tie as tie
 

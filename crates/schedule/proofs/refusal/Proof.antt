@@ -14,34 +14,34 @@ use Rattle.schedule.proofs.refusal.Tie as tie
 
 -- The opening's refusal, by what the header says.
 opening : (c : tie.After-open-refusal)
-    → c .open-refusal .result ≡ openingOf (now (c .before .before .before .before .before .before .args .s))
+    → c .open-refusal .result ≡ openingOf (now (c .before .before .before .before .before .before .before .args .s))
 opening c =
     c .open-refusal .ensures
-    ∙ ap₂ (λ (n L : ℕ). refusal (openTests 64 256 n L)) (c .before .before .byte .ensures)
+    ∙ ap₂ (λ (n L : ℕ). refusal (openTests 64 256 n L)) (c .before .before .wide .ensures ∙ c .before .before .before .byte .ensures)
     (c .before .word16 .ensures .0)
 
 -- With a header the opening decides, and the runs where it is accepted.
 past-header : (c : tie.After-open-refusal)
-    → scheduleRefusal (now (c .before .before .before .before .before .before .args .s))
+    → scheduleRefusal (now (c .before .before .before .before .before .before .before .args .s))
     ≡ cond (eqb (c .open-refusal .result) 0)
-    (runsRefusal (now (c .before .before .before .before .before .before .args .s)))
+    (runsRefusal (now (c .before .before .before .before .before .before .before .args .s)))
     (c .open-refusal .result)
 past-header c =
     rw (
       by-parts,
-      ← c .before .before .before .before .has-header .ensures,
-      c .before .before .before .if1 .left,
+      ← c .before .before .before .before .before .has-header .ensures,
+      c .before .before .before .before .if1 .left,
       ← opening c,
     )
 
 past-opening : (c : tie.Else2)
-    → scheduleRefusal (now (c .before .before .before .before .before .before .before .args .s))
-    ≡ runsRefusal (now (c .before .before .before .before .before .before .before .args .s))
+    → scheduleRefusal (now (c .before .before .before .before .before .before .before .before .args .s))
+    ≡ runsRefusal (now (c .before .before .before .before .before .before .before .before .args .s))
 past-opening c = rw (past-header (c .before), eq-eqb _ 0 (c .if2 .left))
 
 past-order : (c : tie.Else3)
-    → scheduleRefusal (now (c .before .before .before .before .before .before .before .before .before .args .s))
-    ≡ wholeRefusal (now (c .before .before .before .before .before .before .before .before .before .args .s))
+    → scheduleRefusal (now (c .before .before .before .before .before .before .before .before .before .before .args .s))
+    ≡ wholeRefusal (now (c .before .before .before .before .before .before .before .before .before .before .args .s))
 past-order c = rw (past-opening (c .before .before), ← c .before .in-order .ensures, c .if3 .left)
 
 returns : tie.Need-returns
@@ -67,6 +67,7 @@ refusal-spec =
     (tie.spec
     (λ c κs. search needs)
     returns
+    (λ c κs. search needs)
     (λ c κs. search needs)
     (λ c κs. search needs)
     (λ c κs. search needs)

@@ -1,0 +1,21 @@
+-- `refusals::learn_refusal` meets its contract: the standing of the phase says which test holds. Assumes nothing.
+use mathlib.Core.Path.{sym, _∙_}
+use borrow.Author.Needs.{needs}
+use Rattle.refusals.proofs.learn_refusal.Statement.{statement}
+use Rattle.refusals.proofs.learn_refusal.Tie as tie
+
+pub learn-refusal-spec : {M : Type 1} → statement M
+learn-refusal-spec =
+    tie.close
+    (tie.spec
+    (λ c κs. search needs)
+    (λ c. search needs)
+    (λ c. search needs)
+    (λ c. search needs)
+    (λ c κs. search needs)
+    (λ c. search needs)
+    (λ c κs. search needs)
+    (λ c. search needs)
+    (λ c. search needs)
+    (λ c. simp (sym (c .before .before .before .standing .ensures) ∙ c .before .enum-told3 .given .1) (c .full-refusal .ensures))
+    (λ c. simp (sym (c .before .before .before .standing .ensures) ∙ c .before .enum-told4 .given .1) (c .full-refusal2 .ensures)))

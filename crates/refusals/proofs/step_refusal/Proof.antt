@@ -1,0 +1,20 @@
+-- `refusals::step_refusal` meets its contract: the standing of the phase says which test holds. Assumes nothing.
+use mathlib.Core.Path.{sym, _∙_}
+use borrow.Author.Needs.{needs}
+use Rattle.refusals.proofs.step_refusal.Statement.{statement}
+use Rattle.refusals.proofs.step_refusal.Tie as tie
+
+pub step-refusal-spec : {M : Type 1} → statement M
+step-refusal-spec =
+    tie.close
+    (tie.spec
+    (λ c κs. search needs)
+    (λ c. search needs)
+    (λ c. search needs)
+    (λ c. search needs)
+    (λ c. search needs)
+    (λ c κs. search needs)
+    (λ c. search needs)
+    (λ c. search needs)
+    (λ c. search needs)
+    (λ c. simp (sym (c .before .before .before .standing .ensures) ∙ c .before .enum-told4 .given .1) (c .full-refusal .ensures)))

@@ -1,0 +1,2 @@
+-- What the contracts of the registers' functions cite.
+pub mod Registers
