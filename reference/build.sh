@@ -1,0 +1,38 @@
+#!/bin/sh
+# Builds the reference program and its unit tests into target/reference/ and
+# runs the tests. With the path of a libentry.a it also builds the differential
+# harness against that library; what follows goes to rustc for the harness.
+#
+# usage: reference/build.sh [LIBENTRY [--cfg janus_report]]
+set -eu
+
+library=
+if [ $# -gt 0 ]; then
+    library=$(cd "$(dirname "$1")" && pwd)
+    shift
+fi
+cd "$(dirname "$0")/.."
+out=target/reference
+mkdir -p "$out"
+
+build() {
+    rustc --edition 2021 -O -D warnings "$@"
+}
+
+uses="--extern janus_reference=$out/libjanus_reference.rlib"
+build --crate-type rlib --crate-name janus_reference \
+    reference/src/lib.rs -o "$out/libjanus_reference.rlib"
+build --crate-name reference $uses reference/src/main.rs -o "$out/reference"
+build --test --crate-name tests reference/src/lib.rs -o "$out/tests"
+if [ -n "$library" ]; then
+    build --crate-name differential $uses --check-cfg 'cfg(janus_report)' "$@" \
+        -L native="$library" -l static=entry \
+        reference/differential.rs -o "$out/differential"
+fi
+
+"$out/tests" >"$out/tests.txt" 2>&1 || {
+    cat "$out/tests.txt"
+    exit 1
+}
+passed=$(sed -n 's/^test result: ok\. \([0-9]*\) passed.*/\1/p' "$out/tests.txt")
+echo "reference: $passed tests passed"

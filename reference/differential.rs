@@ -1,0 +1,1378 @@
+//! Runs random sheets through the library under test and through the reference
+//! and compares what the C entry answers and leaves in its buffer.
+//!
+//! `differential [COUNT] [SEED]`: so many sheets (100,000 where left out) from
+//! that seed (the clock where left out). Sheet I of a seed is the same whatever
+//! the COUNT. It prints the seed, a table of what the sheets reached, and the
+//! time either side took. It ends with 1 at the first difference, after writing
+//! the sheet to `difference-SEED-INDEX.sheet`; a fault or an endless run of the
+//! library counts as one. It ends with 1, too, if anything that the table expects
+//! was never reached, which takes 50,000 sheets or so.
+//!
+//! The library is linked in statically as `entry` and exports
+//! `uint32_t janus_run(const uint8_t *sheet, size_t sheet_len, uint64_t budget,
+//! uint8_t *buffer, size_t buffer_len)`. Built with `--cfg janus_report` the
+//! harness compares the board report too; see `mod library`.
+
+use std::io::{self, Read, Write};
+use std::process::{Command, ExitCode, Stdio};
+use std::sync::mpsc::{channel, Receiver, RecvTimeoutError};
+use std::time::{Duration, Instant, SystemTime, UNIX_EPOCH};
+
+use janus_reference::runner::BUFFER;
+use janus_reference::schedule::MAX_BYTES;
+use janus_reference::{
+    entry, window, Access, Counts, Operation, Phase, Process, Refusal, Schedule, Session,
+};
+
+// ---------------------------------------------------------------- the library
+
+/// The C functions under test.
+mod library {
+    extern "C" {
+        fn janus_run(
+            sheet: *const u8,
+            sheet_len: usize,
+            budget: u64,
+            buffer: *mut u8,
+            buffer_len: usize,
+        ) -> u32;
+    }
+
+    pub fn run(sheet: &[u8], budget: u64, buffer: &mut [u8]) -> u32 {
+        let (from, to) = (sheet.as_ptr(), buffer.as_mut_ptr());
+        // SAFETY: both pointers stand with their own lengths.
+        unsafe { janus_run(from, sheet.len(), budget, to, buffer.len()) }
+    }
+
+    /// The place for the board report: a function that writes the report's text
+    /// to `out` and returns its length. Compared once `--cfg janus_report` is
+    /// given.
+    #[cfg(janus_report)]
+    pub fn report(sheet: &[u8], out: &mut [u8]) -> usize {
+        extern "C" {
+            fn janus_report(sheet: *const u8, len: usize, out: *mut u8, out_len: usize) -> usize;
+        }
+        let (from, to) = (sheet.as_ptr(), out.as_mut_ptr());
+        // SAFETY: both pointers stand with their own lengths.
+        unsafe { janus_report(from, sheet.len(), to, out.len()) }
+    }
+}
+
+// ---------------------------------------------------------------- random words
+
+/// The generator splitmix64.
+struct Random(u64);
+
+impl Random {
+    /// The generator of one sheet, by seed and index.
+    fn of(seed: u64, index: u64) -> Random {
+        let mut first = Random(seed);
+        let base = first.word();
+        let mut second = Random(base ^ index.wrapping_mul(0xd134_2543_de82_ef95));
+        Random(second.word())
+    }
+
+    fn word(&mut self) -> u64 {
+        self.0 = self.0.wrapping_add(0x9e37_79b9_7f4a_7c15);
+        let mut word = self.0;
+        word = (word ^ (word >> 30)).wrapping_mul(0xbf58_476d_1ce4_e5b9);
+        word = (word ^ (word >> 27)).wrapping_mul(0x94d0_49bb_1331_11eb);
+        word ^ (word >> 31)
+    }
+
+    /// A number below the bound, which is 1 or more.
+    fn below(&mut self, bound: usize) -> usize {
+        ((u128::from(self.word()) * bound as u128) >> 64) as usize
+    }
+
+    fn between(&mut self, low: usize, high: usize) -> usize {
+        low + self.below(high - low + 1)
+    }
+
+    /// True once in so many times; never for 0.
+    fn once_in(&mut self, odds: usize) -> bool {
+        odds != 0 && self.below(odds) == 0
+    }
+
+    fn pick<T: Copy>(&mut self, from: &[T]) -> T {
+        from[self.below(from.len())]
+    }
+
+    fn byte(&mut self) -> u8 {
+        self.word() as u8
+    }
+}
+
+// ---------------------------------------------------------------- sheets
+
+type Entry = [u8; 6];
+
+fn raw(kind: u8, process: usize, value: u32) -> Entry {
+    let [a, b, c, d] = value.to_le_bytes();
+    [kind, process as u8, a, b, c, d]
+}
+
+fn encode(operation: Operation) -> Entry {
+    match operation {
+        Operation::Propose { process, value } => raw(0, process, value),
+        Operation::Step { process, leader } => raw(1, process, u32::from(leader)),
+        Operation::Learn { process } => raw(2, process, 0),
+        Operation::Crash { process } => raw(3, process, 0),
+    }
+}
+
+/// The most entries a sheet can hold.
+const MOST_ENTRIES: usize = 10_921;
+
+/// Which process has the next turn.
+#[derive(Clone, Copy)]
+enum Style {
+    /// Each in its order, so many turns at a time.
+    RoundRobin(usize),
+    /// Any at any time.
+    Scattered,
+    /// Nearly always the same, which changes now and then.
+    Solo,
+    /// Any that is awake; processes fall asleep for long, at whatever stance.
+    Sleepers,
+    /// All come to put together, round after round; then one runs alone, while
+    /// the others wait until it is about to check the round they would write to.
+    Ambush,
+}
+
+/// Builds a list of entries along with the session they lead to, so that the
+/// list is not refused before it is meant to be.
+struct Composer<'r> {
+    random: &'r mut Random,
+    session: Session,
+    counts: Counts,
+    entries: Vec<Entry>,
+    style: Style,
+    current: usize,
+    asleep: u64,
+    runner: Option<usize>,
+    /// Odds of a look, a crash and a hint of no at each turn.
+    look: usize,
+    crash: usize,
+    hint_no: usize,
+}
+
+impl<'r> Composer<'r> {
+    fn new(random: &'r mut Random, n: usize, limit: usize) -> Composer<'r> {
+        let styles = [
+            Style::RoundRobin(random.between(1, 9)),
+            Style::RoundRobin(1),
+            Style::Scattered,
+            Style::Solo,
+            Style::Sleepers,
+            Style::Sleepers,
+            Style::Ambush,
+        ];
+        Composer {
+            style: random.pick(&styles),
+            look: random.pick(&[0, 0, 500, 100, 25, 6]),
+            crash: random.pick(&[0, 0, 800, 150, 30]),
+            hint_no: random.pick(&[0, 0, 40, 8, 2]),
+            current: random.below(n),
+            asleep: random.word(),
+            runner: None,
+            session: Session::open(n, limit).expect("a size within bounds"),
+            counts: Counts::default(),
+            entries: Vec::new(),
+            random,
+        }
+    }
+
+    fn n(&self) -> usize {
+        self.session.n
+    }
+
+    /// Adds the operation if it is accepted.
+    fn offer(&mut self, operation: Operation) -> bool {
+        if self.entries.len() == MOST_ENTRIES {
+            return false;
+        }
+        let answer = self
+            .session
+            .apply_trusted(operation, &mut self.counts, |_| {});
+        if answer.is_ok() {
+            self.entries.push(encode(operation));
+        }
+        answer.is_ok()
+    }
+
+    fn value(&mut self) -> u32 {
+        match self.random.below(8) {
+            0 => self.random.word() as u32 | 1,
+            1 => u32::MAX,
+            2 => self.random.pick(&[1, 257, 65_537, 1 << 24, 1 << 31]),
+            _ => self.random.between(1, 4) as u32,
+        }
+    }
+
+    /// Most processes propose, all the same value now and then.
+    fn proposals(&mut self) {
+        let alike = self.random.once_in(8).then(|| self.value());
+        let skipped = self.random.pick(&[0, 0, 2, 5]);
+        for process in 0..self.n() {
+            if !self.random.once_in(skipped) {
+                let value = alike.unwrap_or_else(|| self.value());
+                self.offer(Operation::Propose { process, value });
+            }
+        }
+    }
+
+    fn next_process(&mut self) -> usize {
+        let (n, random) = (self.session.n, &mut *self.random);
+        match self.style {
+            Style::RoundRobin(burst) if random.once_in(burst) => {
+                self.current = (self.current + 1) % n;
+            }
+            Style::RoundRobin(_) => {}
+            Style::Scattered => self.current = random.below(n),
+            Style::Solo if random.once_in(60) => self.current = random.below(n),
+            Style::Solo if random.once_in(10) => return random.below(n),
+            Style::Solo => {}
+            Style::Sleepers => return self.wakeful(),
+            Style::Ambush => return self.ambush(),
+        }
+        self.current
+    }
+
+    /// The next process awake; one wakes up or falls asleep now and then.
+    fn wakeful(&mut self) -> usize {
+        if self.random.once_in(12) {
+            self.asleep ^= 1 << self.random.below(64);
+            self.asleep ^= 1 << self.random.below(self.n());
+        }
+        for _ in 0..4 {
+            self.current = self.random.below(self.n());
+            if self.asleep >> self.current & 1 == 0 {
+                break;
+            }
+        }
+        self.current
+    }
+
+    /// The one that is least far, so that all come to put together; then a
+    /// runner alone, or one that writes behind it.
+    fn ambush(&mut self) -> usize {
+        let processes = &self.session.processes;
+        let far = |number: usize| Some((number, far(&processes[number])?));
+        if let Some((runner, _)) = self.runner.and_then(far) {
+            self.runner = self.runner.filter(|_| !self.random.once_in(200));
+            return match self.waiting_for(runner) {
+                Some(writer) if self.random.once_in(2) => writer,
+                _ => runner,
+            };
+        }
+        let (n, first) = (self.session.n, self.random.below(self.session.n));
+        let order = (0..n).map(|place| (first + place) % n);
+        let least = order.filter_map(far).min_by_key(|(_, far)| *far);
+        let next = least.map_or(first, |(number, _)| number);
+        let writes = processes[next].phase == Phase::Write;
+        self.runner = (writes && self.random.once_in(4 * n + 2)).then_some(next);
+        next
+    }
+
+    /// A process at put with another value, in the round that the runner checks.
+    fn waiting_for(&self, runner: usize) -> Option<usize> {
+        let runner = &self.session.processes[runner];
+        let (Phase::CheckMark(i) | Phase::CheckValue(i)) = runner.phase else {
+            return None;
+        };
+        let writes = |process: &Process| {
+            process.phase == Phase::Write
+                && process.round == runner.round - i
+                && process.estimate != runner.estimate
+        };
+        self.session.processes.iter().position(writes)
+    }
+
+    fn next_operation(&mut self) -> Operation {
+        let process = self.next_process();
+        if self.session.processes[process].phase == Phase::Idle {
+            let value = self.value();
+            return Operation::Propose { process, value };
+        }
+        if self.random.once_in(self.look) {
+            Operation::Learn { process }
+        } else if self.random.once_in(self.crash) {
+            Operation::Crash { process }
+        } else {
+            let leader = !self.random.once_in(self.hint_no);
+            Operation::Step { process, leader }
+        }
+    }
+
+    /// Turns in the sheet's style until there are so many entries.
+    fn contend(&mut self, target: usize) {
+        let mut tries = 4 * target + 50;
+        while self.entries.len() < target && tries > 0 {
+            tries -= 1;
+            let operation = self.next_operation();
+            self.offer(operation);
+        }
+    }
+
+    /// One process takes turns alone until it stands as asked, or is stuck.
+    fn alone(&mut self, process: usize, until: impl Fn(&Process) -> bool) {
+        let leader = true;
+        while !until(&self.session.processes[process])
+            && self.offer(Operation::Step { process, leader })
+        {}
+    }
+
+    /// Looks by every process, most of the time, from a random one on.
+    fn looks(&mut self) {
+        let first = self.random.below(self.n());
+        for place in 0..self.n() {
+            if !self.random.once_in(9) {
+                let process = (first + place) % self.n();
+                self.offer(Operation::Learn { process });
+            }
+        }
+    }
+
+    /// An end at which a state that differs shows in the code or the buffer.
+    fn tail(&mut self) {
+        let process = self.random.below(self.n());
+        match self.random.below(8) {
+            0 => {}
+            1 | 2 => self.looks(),
+            3 | 4 => {
+                self.alone(process, |p| p.phase == Phase::Commit);
+                let leader = true;
+                self.offer(Operation::Step { process, leader });
+                self.looks();
+            }
+            5 => {
+                self.alone(process, |p| p.phase == Phase::Commit);
+                self.looks();
+            }
+            6 => {
+                self.alone(process, |p| p.phase == Phase::Exhausted);
+                let entry = raw(1, process, self.random.below(2) as u32);
+                self.entries.push(entry);
+            }
+            _ => {
+                self.alone(process, |p| p.phase == Phase::Exhausted);
+                self.looks();
+            }
+        }
+        if self.random.once_in(3) {
+            self.refused();
+        }
+    }
+
+    /// An entry that may well be refused, and some after it.
+    fn refused(&mut self) {
+        let process = match self.random.below(6) {
+            0 => self.random.pick(&[self.n(), 63, 64, 255]),
+            _ => self.random.below(self.n()),
+        };
+        let kind = self.random.pick(&[0, 0, 1, 1, 2, 2, 3, 3, 4, 255]);
+        let value = self.random.pick(&[0, 0, 0, 1, 1, 2, 256, 1 << 31]);
+        self.entries.push(raw(kind, process, value));
+        for _ in 0..self.random.below(4) {
+            let process = self.random.below(self.n());
+            let kind = self.random.pick(&[0, 1, 2, 2, 3]);
+            let value = u32::from(kind < 2);
+            self.entries.push(raw(kind, process, value));
+        }
+    }
+
+    /// The sheet of the list, in some way of cutting it into runs.
+    fn sheet(mut self) -> Vec<u8> {
+        self.entries.truncate(MOST_ENTRIES);
+        let (n, limit) = (self.session.n, self.session.limit as u16);
+        assemble(self.random, n as u8, limit, &self.entries)
+    }
+}
+
+/// How far a process is: the rounds it has done, then gate, put, the rest. None
+/// if it is out or has no more turns.
+fn far(process: &Process) -> Option<(u32, u8)> {
+    match process.phase {
+        Phase::Idle | Phase::Exhausted | Phase::Crashed | Phase::Decided => None,
+        Phase::Waiting => Some((process.round, 0)),
+        Phase::Write => Some((process.round - 1, 1)),
+        _ => Some((process.round - 1, 2)),
+    }
+}
+
+/// Puts entries into one to sixteen runs, with ignored bytes between them.
+fn assemble(random: &mut Random, n: u8, limit: u16, entries: &[Entry]) -> Vec<u8> {
+    let roomy = entries.len() + 40 < MOST_ENTRIES;
+    let pairs = match random.below(3) {
+        0 if roomy => random.between(2, 16),
+        _ if entries.is_empty() => random.below(2),
+        _ => 1,
+    };
+    let mut cuts: Vec<usize> = (1..pairs)
+        .map(|_| random.between(0, entries.len()))
+        .collect();
+    cuts.sort_unstable();
+    cuts.push(entries.len());
+    let gaps = if roomy { random.pick(&[0, 0, 1, 9]) } else { 0 };
+    let (mut header, mut body, mut from) = (vec![n, pairs as u8], Vec::new(), 0);
+    header.extend(limit.to_le_bytes());
+    for &cut in &cuts[..pairs] {
+        body.extend((0..random.between(0, gaps)).map(|_| random.byte()));
+        let offset = 4 + 4 * pairs + body.len();
+        let run = entries[from..cut].concat();
+        header.extend((offset as u16).to_le_bytes());
+        header.extend((run.len() as u16).to_le_bytes());
+        body.extend(run);
+        from = cut;
+    }
+    body.extend((0..random.between(0, gaps)).map(|_| random.byte()));
+    [header, body].concat()
+}
+
+/// Seats and round limit, most of them small.
+fn size(random: &mut Random) -> (usize, usize) {
+    let n = match random.below(10) {
+        0..=4 => random.between(1, 6),
+        5..=7 => random.between(5, 20),
+        _ => random.between(1, 64),
+    };
+    let least = window(n) as usize;
+    let limit = match random.below(10) {
+        0..=3 => least,
+        4..=6 => random.between(least, least + 8),
+        7 | 8 => random.between(least, 64),
+        _ => random.pick(&[255, 256, 128, 200]),
+    };
+    (n, limit)
+}
+
+/// A sheet of so many entries or somewhat more, in order but for its end.
+fn composed(random: &mut Random, most: usize) -> Vec<u8> {
+    let (n, limit) = size(random);
+    let mut composer = Composer::new(random, n, limit);
+    composer.proposals();
+    let target = composer.random.between(0, most);
+    composer.contend(target);
+    composer.tail();
+    composer.sheet()
+}
+
+/// A sheet of few entries, many of them refused.
+fn short(random: &mut Random) -> Vec<u8> {
+    let (n, limit) = (random.between(1, 3), 5 + random.below(3));
+    let mut composer = Composer::new(random, n, limit);
+    if !composer.random.once_in(3) {
+        composer.proposals();
+    }
+    let target = composer.random.below(20);
+    composer.contend(target);
+    if composer.random.once_in(2) {
+        composer.refused();
+    }
+    composer.sheet()
+}
+
+/// A sheet filled to the last entry.
+fn longest(random: &mut Random) -> Vec<u8> {
+    let n = random.between(8, 64);
+    let mut composer = Composer::new(random, n, 256);
+    composer.proposals();
+    composer.contend(MOST_ENTRIES - n);
+    composer.looks();
+    let mut sheet = composer.sheet();
+    if random.once_in(2) {
+        sheet.resize(MAX_BYTES, 0);
+    }
+    sheet
+}
+
+/// A sheet over the most bytes, in order otherwise or not.
+fn too_long(random: &mut Random) -> Vec<u8> {
+    let mut sheet = composed(random, 20);
+    if random.once_in(2) {
+        damage(random, &mut sheet);
+    }
+    let length = MAX_BYTES + random.pick(&[1, 1, 2, 5000, 65_536]);
+    sheet.resize(length, 0);
+    sheet
+}
+
+/// Every n and an L at one of its borders.
+fn border(random: &mut Random) -> Vec<u8> {
+    let n = random.between(1, 64);
+    let least = window(n) as u16;
+    let limit = random.pick(&[least - 1, least - 1, least, 256, 257, least + 256]);
+    let seats = random.pick(&[n, n, n, n, n, 0, 65, n + 64]) as u8;
+    let entries = [raw(0, n - 1, 7), raw(1, n - 1, 1)];
+    assemble(random, seats, limit, &entries)
+}
+
+/// Bytes of no meaning, though the first ones may have one.
+fn noise(random: &mut Random) -> Vec<u8> {
+    let length = random.pick(&[0, 1, 2, 3, 4, 5, 8, 12, 30, 90]);
+    let mut sheet: Vec<u8> = (0..length).map(|_| random.byte()).collect();
+    let likely = [
+        random.between(1, 4) as u8,
+        random.below(18) as u8,
+        random.between(3, 12) as u8,
+        0,
+    ];
+    for (byte, likely) in sheet.iter_mut().zip(likely) {
+        if !random.once_in(8) {
+            *byte = likely;
+        }
+    }
+    sheet
+}
+
+/// One change for the worse, in a sheet of four bytes or more.
+fn damage(random: &mut Random, sheet: &mut Vec<u8>) {
+    match random.below(9) {
+        0 => sheet[0] = random.pick(&[0, 65, 66, 128, 255]),
+        1 => sheet[1] = random.pick(&[0, 1, 15, 16, 17, 18, 255]),
+        2 => damage_limit(random, sheet),
+        3..=5 => damage_pair(random, sheet),
+        6 => {
+            let length = random.between(0, sheet.len());
+            sheet.truncate(length.max(4));
+        }
+        7 => {
+            let place = sheet.len() - 1 - random.below(sheet.len().min(40));
+            sheet[place] = random.byte();
+        }
+        _ => {
+            let place = random.below(sheet.len());
+            sheet[place] ^= 1 << random.below(8);
+        }
+    }
+}
+
+fn damage_limit(random: &mut Random, sheet: &mut [u8]) {
+    let seats = usize::from(sheet[0]).clamp(1, 64);
+    let least = window(seats) as u16;
+    let limit: u16 = random.pick(&[0, 1, least - 1, 256, 257, 300, 65_535, least + 256]);
+    sheet[2..4].copy_from_slice(&limit.to_le_bytes());
+}
+
+/// Changes an offset or a length a little or wholly, swaps two pairs, moves the
+/// first run or empties the last.
+fn damage_pair(random: &mut Random, sheet: &mut [u8]) {
+    let pairs = usize::from(sheet[1]).min((sheet.len() - 4) / 4);
+    if pairs == 0 {
+        return;
+    }
+    if random.once_in(5) {
+        let (one, other) = (random.below(pairs), random.below(pairs));
+        for place in 4..8 {
+            sheet.swap(4 * one + place, 4 * other + place);
+        }
+        return;
+    }
+    if random.once_in(5) {
+        // The first run starts within the pairs.
+        let offset = (4 + 4 * pairs - random.between(1, 4)) as u16;
+        return sheet[4..6].copy_from_slice(&offset.to_le_bytes());
+    }
+    if random.once_in(5) {
+        // The last run becomes empty, near the end of the sheet.
+        let offset = (sheet.len() + random.below(3) - 1) as u16;
+        sheet[4 * pairs..4 * pairs + 2].copy_from_slice(&offset.to_le_bytes());
+        return sheet[4 * pairs + 2..4 * pairs + 4].fill(0);
+    }
+    let place = 4 + 2 * random.below(2 * pairs);
+    let old = u16::from_le_bytes([sheet[place], sheet[place + 1]]);
+    let change = random.pick(&[1, 2, 5, 6, 12, 65_535, 65_534, 65_530, 65_524]);
+    let new = match random.below(6) {
+        0 => random.word() as u16,
+        _ => old.wrapping_add(change),
+    };
+    sheet[place..place + 2].copy_from_slice(&new.to_le_bytes());
+}
+
+fn damaged(random: &mut Random) -> Vec<u8> {
+    let mut sheet = composed(random, 60);
+    for _ in 0..random.pick(&[1, 1, 1, 2, 3]) {
+        damage(random, &mut sheet);
+    }
+    sheet
+}
+
+/// One sheet with the budgets and the buffer length to try it with.
+struct Case {
+    sheet: Vec<u8>,
+    budgets: Vec<u64>,
+    buffer: usize,
+}
+
+fn entries_of(sheet: &[u8]) -> u64 {
+    Schedule::read(sheet).map_or(0, |schedule| schedule.entries().count() as u64)
+}
+
+impl Case {
+    fn of(random: &mut Random) -> Case {
+        let kind = random.below(1000);
+        let sheet = match kind {
+            0..=99 => short(random),
+            100..=599 => composed(random, 600),
+            600..=829 => damaged(random),
+            830..=909 => border(random),
+            910..=959 => noise(random),
+            960..=976 => composed(random, 30),
+            977..=993 => damaged(random),
+            994..=996 => longest(random),
+            _ => too_long(random),
+        };
+        let budgets = match kind {
+            0..=99 => (0..=entries_of(&sheet) + 2).collect(),
+            _ => vec![budget(random, entries_of(&sheet))],
+        };
+        let buffer = match kind {
+            960..=993 => random.pick(&[0, 255, 257]),
+            _ => BUFFER,
+        };
+        Case {
+            sheet,
+            budgets,
+            buffer,
+        }
+    }
+}
+
+/// Mostly more than enough, else near the end or anywhere before it.
+fn budget(random: &mut Random, entries: u64) -> u64 {
+    match random.below(12) {
+        0 => random.below(entries as usize + 1) as u64,
+        1 => entries.saturating_sub(random.below(3) as u64),
+        2 => entries + random.below(3) as u64,
+        3 => 1 << 32,
+        4 => (1 << 32) + random.below(10) as u64,
+        5 => 1 << 63,
+        _ => u64::MAX,
+    }
+}
+
+// ---------------------------------------------------------------- coverage
+
+/// Names each thing that the sheets are expected to reach.
+macro_rules! events {
+    ($($event:ident: $name:literal,)*) => {
+        #[derive(Clone, Copy)]
+        enum Event { $($event,)* }
+        const EVENTS: &[&str] = &[$($name,)*];
+    };
+}
+
+events! {
+    Proposed: "proposal",
+    GateNo: "gate, hint no",
+    GateNoLast: "gate in round L, hint no",
+    GateSpent: "gate in round L, hint yes: spent",
+    GatePut: "gate, blank: put",
+    GateSeek: "gate, filled: seek r + 1",
+    GateTake: "gate, round L filled: take L",
+    PutBlank: "put into a blank register",
+    PutSame: "put over the same value",
+    PutOther: "put over another value",
+    SeekTake: "seek k, blank: take k - 1",
+    SeekOn: "seek k, filled: seek k + 1",
+    SeekLast: "seek L, filled: take L",
+    TakeSame: "take, own value as before",
+    TakeOther: "take, another value adopted",
+    TakeChanged: "take, register changed since seen",
+    TakeAhead: "take k, k above r",
+    CompareOn: "compare i, equal: compare i + 1",
+    CompareChecks: "compare i, equal: check-mark 0",
+    CompareGate: "compare i, equal: gate",
+    CompareFlag: "compare 0, different: flag 0",
+    CompareFlagBack: "compare i, different: flag i, i above 0",
+    FlagOn: "flag i: compare i + 1",
+    FlagChecks: "flag i: check-mark 0",
+    FlagGate: "flag i: gate",
+    FlagAgain: "flag of a round marked before",
+    MarkedNow: "check-mark 0, marked: gate",
+    MarkedBack: "check-mark i, marked: gate, i above 0",
+    Unmarked: "check-mark i, unmarked: check-value i",
+    ValueOtherNow: "check-value 0, different: gate",
+    ValueOtherBack: "check-value i, different: gate, i above 0",
+    ValueOn: "check-value i, equal: check-mark i + 1",
+    ValueCommit: "check-value W - 1, equal: commit",
+    CommitFirst: "commit into blank D",
+    CommitAgain: "commit into filled D",
+    LookBlank: "look, D blank",
+    LookSame: "look, D has the own value",
+    LookOther: "look, D has another value",
+    NoSeats: "1: no seats",
+    ManySeats: "1: over 64 seats",
+    OneFirst: "1 where 2 would follow",
+    LimitLow: "2: L below W",
+    LimitHigh: "2: L above 256",
+    TwoFirst: "2 where 11 would follow",
+    NoSeatPropose: "4: proposal",
+    NoSeatWork: "4: work",
+    NoSeatLook: "4: look",
+    NoSeatCrash: "4: crash",
+    BlankOut: "5: seat out",
+    BlankOther: "5 where 6 would follow",
+    Twice: "6: seat not out",
+    OutWork: "7: work",
+    OutLook: "7: look",
+    OutCrash: "7: crash",
+    CrashedWork: "8: work, crashed",
+    CrashedLook: "8: look, crashed",
+    CrashedCrash: "8: crash, crashed",
+    DecidedWork: "8: work, decided",
+    DecidedLook: "8: look, decided",
+    DecidedCrash: "8: crash, decided",
+    SpentYes: "9: hint yes",
+    SpentNo: "9: hint no",
+    TooShort: "10: under 4 bytes",
+    TooLong: "10: over 65,535 bytes",
+    ManyPairs: "10: over 16 pairs",
+    NoRoom: "10: too short for its pairs",
+    TenFirst: "10 where 1 would follow",
+    PairEarly: "11: before the end of the pairs",
+    PairUnsorted: "11: before the run before it",
+    PairOverlaps: "11: within the run before it",
+    PairPast: "11: past the sheet",
+    ElevenFirst: "11 in a pair after a run of wrong length",
+    RunLength: "12",
+    WrongKind: "13: kind",
+    WrongWork: "13: value of work",
+    WrongLook: "13: value of look",
+    WrongCrash: "13: value of crash",
+    ThirteenFirst: "13 where 4 would follow",
+    Buffer0: "15: 0 bytes",
+    Buffer255: "15: 255 bytes",
+    Buffer257: "15: 257 bytes",
+    FifteenFirst: "15 where a refusal of the sheet would follow",
+    Finished: "0",
+    FinishedExactly: "0, budget just enough",
+    FinishedEmpty: "0, no entries",
+    BudgetEnded: "100",
+    BudgetZero: "100, budget 0",
+    BudgetLast: "100, one entry short",
+}
+
+const STANCES: [&str; 13] = [
+    "out",
+    "gate",
+    "put",
+    "seek",
+    "take",
+    "compare",
+    "flag",
+    "check-mark",
+    "check-value",
+    "commit",
+    "spent",
+    "crashed",
+    "decided",
+];
+
+fn stance(phase: Phase) -> usize {
+    match phase {
+        Phase::Idle => 0,
+        Phase::Waiting => 1,
+        Phase::Write => 2,
+        Phase::Scan(_) => 3,
+        Phase::Adopt(_) => 4,
+        Phase::Compare(_) => 5,
+        Phase::Flag(_) => 6,
+        Phase::CheckMark(_) => 7,
+        Phase::CheckValue(_) => 8,
+        Phase::Commit => 9,
+        Phase::Exhausted => 10,
+        Phase::Crashed => 11,
+        Phase::Decided => 12,
+    }
+}
+
+/// What happened at a stance: turns, looks at blank and filled D, crashes.
+#[derive(Clone, Copy, Default)]
+struct AtStance {
+    works: u64,
+    blank: u64,
+    filled: u64,
+    crashes: u64,
+    stood: u64,
+}
+
+struct Coverage {
+    events: [u64; EVENTS.len()],
+    stances: [AtStance; STANCES.len()],
+    /// By n: commits, sheets with L = W, and refusals of L = W - 1.
+    commits: [u64; 65],
+    least: [u64; 65],
+    below: [u64; 65],
+    entries: u64,
+}
+
+impl Coverage {
+    fn new() -> Coverage {
+        Coverage {
+            events: [0; EVENTS.len()],
+            stances: [AtStance::default(); STANCES.len()],
+            commits: [0; 65],
+            least: [0; 65],
+            below: [0; 65],
+            entries: 0,
+        }
+    }
+
+    fn note(&mut self, event: Event) {
+        self.events[event as usize] += 1;
+    }
+
+    fn note_if(&mut self, happened: bool, event: Event) {
+        self.events[event as usize] += u64::from(happened);
+    }
+
+    /// Runs the sheet once more, entry by entry, noting what it reaches.
+    fn observe(&mut self, sheet: &[u8], budget: u64) {
+        let schedule = match Schedule::read(sheet) {
+            Ok(schedule) => schedule,
+            Err(refusal) => return self.sheet_refused(sheet, refusal),
+        };
+        let mut observer = Observer {
+            session: schedule.open(),
+            counts: Counts::default(),
+            seen: [0; 64],
+        };
+        let least = observer.session.limit == window(observer.session.n);
+        self.least[observer.session.n] += u64::from(least);
+        let (mut done, total) = (0, schedule.entries().count() as u64);
+        for entry in schedule.entries() {
+            if done == budget {
+                self.note(Event::BudgetEnded);
+                self.note_if(budget == 0, Event::BudgetZero);
+                self.note_if(budget + 1 == total, Event::BudgetLast);
+                break;
+            }
+            if !observer.entry(entry, self) {
+                break;
+            }
+            done += 1;
+        }
+        self.entries += done;
+        if done == total {
+            self.note(Event::Finished);
+            self.note_if(done == budget, Event::FinishedExactly);
+            self.note_if(done == 0, Event::FinishedEmpty);
+        }
+        for process in &observer.session.processes[..observer.session.n] {
+            self.stances[stance(process.phase)].stood += 1;
+        }
+    }
+
+    /// Notes why a sheet was refused, by the bytes alone.
+    fn sheet_refused(&mut self, sheet: &[u8], refusal: Refusal) {
+        match refusal {
+            Refusal::Sheet => self.ten(sheet),
+            Refusal::Processes => {
+                self.note(match sheet[0] {
+                    0 => Event::NoSeats,
+                    _ => Event::ManySeats,
+                });
+                let limit = u16::from_le_bytes([sheet[2], sheet[3]]);
+                self.note_if(limit < 3 || limit > 256, Event::OneFirst);
+            }
+            Refusal::Limit => self.two(sheet),
+            Refusal::Pairs => self.eleven(sheet),
+            _ => self.note(Event::RunLength),
+        }
+    }
+
+    fn ten(&mut self, sheet: &[u8]) {
+        if sheet.len() < 4 {
+            return self.note(Event::TooShort);
+        }
+        self.note(if sheet.len() > MAX_BYTES {
+            Event::TooLong
+        } else if sheet[1] > 16 {
+            Event::ManyPairs
+        } else {
+            Event::NoRoom
+        });
+        self.note_if(sheet[0] == 0 || sheet[0] > 64, Event::TenFirst);
+    }
+
+    fn two(&mut self, sheet: &[u8]) {
+        let n = usize::from(sheet[0]);
+        let limit = u32::from(u16::from_le_bytes([sheet[2], sheet[3]]));
+        self.note(if limit < window(n) {
+            Event::LimitLow
+        } else {
+            Event::LimitHigh
+        });
+        self.below[n] += u64::from(limit + 1 == window(n));
+        let mut opened = sheet.to_vec();
+        opened[2..4].copy_from_slice(&256u16.to_le_bytes());
+        let next = Schedule::read(&opened).err();
+        self.note_if(next == Some(Refusal::Pairs), Event::TwoFirst);
+    }
+
+    fn eleven(&mut self, sheet: &[u8]) {
+        let start = 4 + 4 * usize::from(sheet[1]);
+        let (mut last, mut free, mut uneven) = (0, start, false);
+        for pair in sheet[4..start].chunks_exact(4) {
+            let offset = usize::from(u16::from_le_bytes([pair[0], pair[1]]));
+            let length = usize::from(u16::from_le_bytes([pair[2], pair[3]]));
+            let event = if offset < start {
+                Event::PairEarly
+            } else if offset < last {
+                Event::PairUnsorted
+            } else if offset < free {
+                Event::PairOverlaps
+            } else if offset + length > sheet.len() {
+                Event::PairPast
+            } else {
+                (last, free) = (offset, offset + length);
+                uneven |= length % 6 != 0;
+                continue;
+            };
+            self.note(event);
+            return self.note_if(uneven, Event::ElevenFirst);
+        }
+    }
+
+    fn entry_refused(&mut self, entry: &[u8], session: &Session, refusal: Refusal) {
+        let (kind, number) = (usize::from(entry[0]), usize::from(entry[1]));
+        let phase = session.processes[number.min(63)].phase;
+        let crashed = phase == Phase::Crashed;
+        use Event::*;
+        self.note(match refusal {
+            Refusal::NoProcess => [NoSeatPropose, NoSeatWork, NoSeatLook, NoSeatCrash][kind],
+            Refusal::BlankProposal if phase == Phase::Idle => BlankOut,
+            Refusal::BlankProposal => BlankOther,
+            Refusal::Proposed => Twice,
+            Refusal::Idle => [OutWork, OutLook, OutCrash][kind - 1],
+            Refusal::Ended if crashed => [CrashedWork, CrashedLook, CrashedCrash][kind - 1],
+            Refusal::Ended => [DecidedWork, DecidedLook, DecidedCrash][kind - 1],
+            Refusal::Exhausted if entry[2] == 1 => SpentYes,
+            Refusal::Exhausted => SpentNo,
+            _ if kind > 3 => WrongKind,
+            _ => [WrongKind, WrongWork, WrongLook, WrongCrash][kind],
+        });
+        let beyond = number >= session.n;
+        self.note_if(refusal == Refusal::Entry && beyond, ThirteenFirst);
+    }
+
+    fn wrong_buffer(&mut self, case: &Case) {
+        self.note(match case.buffer {
+            0 => Event::Buffer0,
+            255 => Event::Buffer255,
+            _ => Event::Buffer257,
+        });
+        let refused = Schedule::read(&case.sheet).is_err();
+        self.note_if(refused, Event::FifteenFirst);
+    }
+}
+
+/// A session whose turns are noted.
+struct Observer {
+    session: Session,
+    counts: Counts,
+    /// What each process last saw in a filled register at gate or in seek.
+    seen: [u32; 64],
+}
+
+impl Observer {
+    /// Carries out and notes one entry; false where it is refused.
+    fn entry(&mut self, entry: &[u8], coverage: &mut Coverage) -> bool {
+        let operation = match Operation::decode(entry) {
+            Ok(operation) => operation,
+            Err(refusal) => {
+                coverage.entry_refused(entry, &self.session, refusal);
+                return false;
+            }
+        };
+        let number = operation.process();
+        let before = self.session.processes[number.min(63)];
+        let overwritten = self.overwritten(&before);
+        let mut access = None;
+        let answer = self
+            .session
+            .apply_trusted(operation, &mut self.counts, |made| access = Some(made));
+        if let Err(refusal) = answer {
+            coverage.entry_refused(entry, &self.session, refusal);
+            return false;
+        }
+        let after = self.session.processes[number];
+        let at = &mut coverage.stances[stance(before.phase)];
+        match operation {
+            Operation::Propose { .. } => coverage.note(Event::Proposed),
+            Operation::Crash { .. } => at.crashes += 1,
+            Operation::Learn { .. } => look(before, after, coverage),
+            Operation::Step { .. } => {
+                at.works += 1;
+                let event = self.step(number, before, after, access, overwritten);
+                coverage.note(event);
+                self.more(number, before, after, access, coverage);
+            }
+        }
+        true
+    }
+
+    /// What a write of this process would go over: T[r], C[r - i] or D.
+    fn overwritten(&self, process: &Process) -> u32 {
+        let (registers, round) = (&self.session.registers, process.round as usize);
+        match process.phase {
+            Phase::Write => registers.values[round - 1],
+            Phase::Flag(i) => u32::from(registers.marks[round - 1 - i as usize]),
+            Phase::Commit => registers.decision,
+            _ => 0,
+        }
+    }
+
+    /// The event of an accepted work turn, by the stances on either side.
+    fn step(
+        &self,
+        number: usize,
+        before: Process,
+        after: Process,
+        access: Option<Access>,
+        overwritten: u32,
+    ) -> Event {
+        use Event::*;
+        match (before.phase, after.phase) {
+            (Phase::Waiting, Phase::Waiting) if before.round == self.session.limit => GateNoLast,
+            (Phase::Waiting, Phase::Waiting) => GateNo,
+            (Phase::Waiting, Phase::Exhausted) => GateSpent,
+            (Phase::Waiting, Phase::Write) => GatePut,
+            (Phase::Waiting, Phase::Scan(_)) => GateSeek,
+            (Phase::Waiting, _) => GateTake,
+            (Phase::Write, _) if overwritten == 0 => PutBlank,
+            (Phase::Write, _) if overwritten == before.estimate => PutSame,
+            (Phase::Write, _) => PutOther,
+            (Phase::Scan(_), Phase::Scan(_)) => SeekOn,
+            (Phase::Scan(k), Phase::Adopt(to)) if k == to => SeekLast,
+            (Phase::Scan(_), _) => SeekTake,
+            (Phase::Adopt(k), _) if access != Some(Access::ValueRead(k, self.seen[number])) => {
+                TakeChanged
+            }
+            (Phase::Adopt(_), _) if before.estimate == after.estimate => TakeSame,
+            (Phase::Adopt(_), _) => TakeOther,
+            _ => later_step(before, after, overwritten),
+        }
+    }
+
+    /// What a turn may be beside its own event.
+    fn more(
+        &mut self,
+        number: usize,
+        before: Process,
+        after: Process,
+        access: Option<Access>,
+        coverage: &mut Coverage,
+    ) {
+        match (before.phase, access) {
+            (Phase::Waiting | Phase::Scan(_), Some(Access::ValueRead(_, value))) if value != 0 => {
+                self.seen[number] = value;
+            }
+            (Phase::Adopt(_), _) => coverage.note_if(after.round > before.round, Event::TakeAhead),
+            (Phase::Commit, _) => coverage.commits[self.session.n] += 1,
+            _ => {}
+        }
+    }
+}
+
+/// The event of a turn from compare to commit.
+fn later_step(before: Process, after: Process, overwritten: u32) -> Event {
+    use Event::*;
+    match (before.phase, after.phase) {
+        (Phase::Compare(0), Phase::Flag(_)) => CompareFlag,
+        (Phase::Compare(_), Phase::Flag(_)) => CompareFlagBack,
+        (Phase::Compare(_), Phase::Compare(_)) => CompareOn,
+        (Phase::Compare(_), Phase::CheckMark(_)) => CompareChecks,
+        (Phase::Compare(_), _) => CompareGate,
+        (Phase::Flag(_), _) if overwritten == 1 => FlagAgain,
+        (Phase::Flag(_), Phase::Compare(_)) => FlagOn,
+        (Phase::Flag(_), Phase::CheckMark(_)) => FlagChecks,
+        (Phase::Flag(_), _) => FlagGate,
+        (Phase::CheckMark(0), Phase::Waiting) => MarkedNow,
+        (Phase::CheckMark(_), Phase::Waiting) => MarkedBack,
+        (Phase::CheckMark(_), _) => Unmarked,
+        (Phase::CheckValue(0), Phase::Waiting) => ValueOtherNow,
+        (Phase::CheckValue(_), Phase::Waiting) => ValueOtherBack,
+        (Phase::CheckValue(_), Phase::CheckMark(_)) => ValueOn,
+        (Phase::CheckValue(_), _) => ValueCommit,
+        _ if overwritten == 0 => CommitFirst,
+        _ => CommitAgain,
+    }
+}
+
+fn look(before: Process, after: Process, coverage: &mut Coverage) {
+    let at = &mut coverage.stances[stance(before.phase)];
+    if after.phase != Phase::Decided {
+        at.blank += 1;
+        return coverage.note(Event::LookBlank);
+    }
+    at.filled += 1;
+    coverage.note(if before.estimate == after.estimate {
+        Event::LookSame
+    } else {
+        Event::LookOther
+    });
+}
+
+// ---------------------------------------------------------------- the table
+
+impl Coverage {
+    /// Prints all that was reached; returns what was expected and was not.
+    fn print(&self) -> Vec<String> {
+        let mut missing = Vec::new();
+        println!("{:46} {:>12}", "reached", "times");
+        for (name, &times) in EVENTS.iter().zip(&self.events) {
+            println!("{name:46} {times:12}");
+            if times == 0 {
+                missing.push((*name).to_string());
+            }
+        }
+        self.print_stances(&mut missing);
+        for (name, by_n) in [
+            ("a commit", &self.commits),
+            ("L = W opened", &self.least),
+            ("L = W - 1 refused", &self.below),
+        ] {
+            let reached = by_n[1..].iter().filter(|times| **times > 0).count();
+            println!("n with {name}: {reached} of 64");
+            if reached < 64 {
+                missing.push(format!("{name} for every n"));
+            }
+        }
+        missing
+    }
+
+    fn print_stances(&self, missing: &mut Vec<String>) {
+        println!(
+            "{:11} {:>12} {:>10} {:>10} {:>10} {:>12}",
+            "stance", "work", "look blank", "look D", "crash", "at the end"
+        );
+        for (place, (name, at)) in STANCES.iter().zip(&self.stances).enumerate() {
+            let times = [at.works, at.blank, at.filled, at.crashes, at.stood];
+            let [works, blank, filled, crashes, stood] = times;
+            println!("{name:11} {works:12} {blank:10} {filled:10} {crashes:10} {stood:12}");
+            // Gate to commit take all four, spent all but work, the rest none.
+            let expected = match place {
+                1..=9 => 0..5,
+                10 => 1..5,
+                _ => 4..5,
+            };
+            if times[expected].contains(&0) {
+                missing.push(format!("something at {name}"));
+            }
+        }
+    }
+}
+
+// ---------------------------------------------------------------- the comparison
+
+/// The time spent in the calls of either side. No benchmark: each sheet is run
+/// once, and the reference, which goes first, meets it cold.
+#[derive(Default)]
+struct Clock {
+    library: Duration,
+    reference: Duration,
+    calls: u64,
+}
+
+/// Bytes on either side of the lent buffer, which no call may touch.
+const GUARD: usize = 64;
+
+/// Calls both sides with equal buffers; what differs, in words.
+fn compare(case: &Case, budget: u64, fill: u8, clock: &mut Clock) -> Result<(), String> {
+    let mut ours = [fill; GUARD + BUFFER + 1 + GUARD];
+    let mut theirs = ours;
+    let lent = GUARD..GUARD + case.buffer;
+    let start = Instant::now();
+    let expected = entry(&case.sheet, budget, &mut ours[lent.clone()]);
+    let between = Instant::now();
+    let answer = library::run(&case.sheet, budget, &mut theirs[lent]);
+    clock.library += between.elapsed();
+    clock.reference += between - start;
+    clock.calls += 1;
+    if answer != expected {
+        return Err(format!("code: library {answer}, reference {expected}"));
+    }
+    let unequal = (0..ours.len()).find(|place| ours[*place] != theirs[*place]);
+    unequal.map_or(Ok(()), |place| {
+        let (theirs, ours) = (theirs[place], ours[place]);
+        let byte = place as i64 - GUARD as i64;
+        Err(format!(
+            "code {answer}, buffer byte {byte}: library {theirs}, reference {ours}"
+        ))
+    })
+}
+
+/// Compares the board report of a sheet, once the library has one.
+#[cfg(janus_report)]
+fn compare_report(case: &Case) -> Result<(), String> {
+    let expected = janus_reference::report(&case.sheet);
+    let mut out = [0; 8192];
+    let length = library::report(&case.sheet, &mut out);
+    let text = out.get(..length).unwrap_or(&[]);
+    if text == expected.as_bytes() {
+        return Ok(());
+    }
+    let text = String::from_utf8_lossy(text);
+    Err(format!("report: library\n{text}reference\n{expected}"))
+}
+
+#[cfg(not(janus_report))]
+fn compare_report(_: &Case) -> Result<(), String> {
+    Ok(())
+}
+
+/// Runs one case with each of its budgets.
+fn run_case(
+    random: &mut Random,
+    coverage: &mut Coverage,
+    clock: &mut Clock,
+) -> Result<(), (Case, String)> {
+    let case = Case::of(random);
+    let fill = random.byte();
+    for &budget in &case.budgets {
+        if let Err(words) = compare(&case, budget, fill, clock) {
+            let words = format!("budget {budget}, buffer {}: {words}", case.buffer);
+            return Err((case, words));
+        }
+        if case.buffer == BUFFER {
+            coverage.observe(&case.sheet, budget);
+        } else {
+            coverage.wrong_buffer(&case);
+        }
+    }
+    compare_report(&case).map_err(|words| (case, words))
+}
+
+/// COUNT and SEED of the command line, or none where they are not numbers.
+fn arguments() -> Option<(u64, u64)> {
+    let words: Vec<String> = std::env::args().skip(1).collect();
+    let count = words.first().map_or(Ok(100_000), |word| word.parse());
+    let clock = || SystemTime::now().duration_since(UNIX_EPOCH);
+    let seed = match words.get(1) {
+        Some(word) => word.parse().ok(),
+        None => clock().ok().map(|since| since.as_nanos() as u64),
+    };
+    (words.len() <= 2).then_some((count.ok()?, seed?))
+}
+
+fn print_clock(count: u64, coverage: &Coverage, clock: &Clock) {
+    let (calls, entries) = (clock.calls, coverage.entries);
+    println!("{count} sheets, {calls} calls, {entries} entries carried out");
+    for (name, time) in [("library", clock.library), ("reference", clock.reference)] {
+        let seconds = time.as_secs_f64();
+        let (sheets, rate) = (calls as f64 / seconds, entries as f64 / seconds);
+        println!("{name:9} {seconds:8.3} s {sheets:12.0} calls/s {rate:12.0} entries/s");
+    }
+}
+
+/// Keeps the sheet of a case that went wrong, with words on it.
+fn keep(seed: u64, index: u64, sheet: &[u8], words: &str) -> ExitCode {
+    let file = format!("difference-{seed}-{index}.sheet");
+    println!("difference: seed {seed} index {index}: {words}");
+    match std::fs::write(&file, sheet) {
+        Ok(()) => println!("sheet written to {file}"),
+        Err(error) => println!("{file} could not be written: {error}"),
+    }
+    ExitCode::FAILURE
+}
+
+/// Runs all cases, with a byte 0 on standard output before each.
+fn work(count: u64, seed: u64) -> io::Result<ExitCode> {
+    println!("seed {seed}");
+    let (mut coverage, mut clock) = (Coverage::new(), Clock::default());
+    for index in 0..count {
+        io::stdout().write_all(&[0])?;
+        io::stdout().flush()?;
+        let mut random = Random::of(seed, index);
+        if let Err((case, words)) = run_case(&mut random, &mut coverage, &mut clock) {
+            return Ok(keep(seed, index, &case.sheet, &words));
+        }
+    }
+    let missing = coverage.print();
+    print_clock(count, &coverage, &clock);
+    for name in &missing {
+        println!("never reached: {name}");
+    }
+    if !missing.is_empty() {
+        return Ok(ExitCode::FAILURE);
+    }
+    println!("differential: {count} sheets, no difference");
+    Ok(ExitCode::SUCCESS)
+}
+
+/// Set for the process that runs the cases.
+const WORKER: &str = "DIFFERENTIAL_WORKER";
+/// How long one case may take.
+const PATIENCE: Duration = Duration::from_secs(60);
+
+/// Has another process run the cases, so that a fault or an endless run of the
+/// library is a difference with its sheet like any other.
+fn supervise(count: u64, seed: u64) -> io::Result<ExitCode> {
+    let mut worker = Command::new(std::env::current_exe()?)
+        .args([count.to_string(), seed.to_string()])
+        .env(WORKER, "")
+        .stdout(Stdio::piped())
+        .spawn()?;
+    let chunks = chunks_of(worker.stdout.take().expect("a piped output"));
+    let mut begun: u64 = 0;
+    let endless = loop {
+        match chunks.recv_timeout(PATIENCE) {
+            Ok(mut chunk) => {
+                let length = chunk.len();
+                chunk.retain(|byte| *byte != 0);
+                begun += (length - chunk.len()) as u64;
+                io::stdout().write_all(&chunk)?;
+            }
+            Err(RecvTimeoutError::Disconnected) => break false,
+            Err(RecvTimeoutError::Timeout) => break true,
+        }
+    };
+    if endless {
+        worker.kill()?;
+    }
+    let status = worker.wait()?;
+    if let Some(code) = status.code() {
+        return Ok(ExitCode::from(code as u8));
+    }
+    let index = begun.saturating_sub(1);
+    let case = Case::of(&mut Random::of(seed, index));
+    let end = match endless {
+        true => format!("no answer in {PATIENCE:?}"),
+        false => format!("a fault ({status})"),
+    };
+    let words = format!("{end}, one of the budgets {:?}", case.budgets);
+    Ok(keep(seed, index, &case.sheet, &words))
+}
+
+/// What is read from a pipe, for as long as it is open.
+fn chunks_of(mut pipe: impl Read + Send + 'static) -> Receiver<Vec<u8>> {
+    let (sender, receiver) = channel();
+    std::thread::spawn(move || {
+        let mut chunk = [0; 4096];
+        while let Ok(length @ 1..) = pipe.read(&mut chunk) {
+            if sender.send(chunk[..length].to_vec()).is_err() {
+                break;
+            }
+        }
+    });
+    receiver
+}
+
+fn main() -> ExitCode {
+    let Some((count, seed)) = arguments() else {
+        eprintln!("usage: differential [COUNT] [SEED]");
+        return ExitCode::from(2);
+    };
+    let part = match std::env::var_os(WORKER) {
+        Some(_) => work,
+        None => supervise,
+    };
+    part(count, seed).unwrap_or_else(|error| {
+        eprintln!("differential: {error}");
+        ExitCode::from(2)
+    })
+}

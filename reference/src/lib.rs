@@ -1,0 +1,47 @@
+//! A board of the Janus algorithm, written by hand from document 01 alone.
+//!
+//! It shares no table, code or generator with the proved implementation. It is
+//! the second reading of document 01 that random sheets are run against, and
+//! the yardstick of the benchmark; so state is changed in place, no entry
+//! allocates, and no session is copied.
+//!
+//! Names follow the field; document 01's own term stands at each definition:
+//!
+//! | here | in document 01 |
+//! |---|---|
+//! | process | seat |
+//! | phase | stance |
+//! | estimate | own value |
+//! | decision | D |
+//! | counts | tally |
+//! | schedule | turn sheet |
+//! | leader | hint |
+//! | step | work turn |
+//! | learn | look |
+//!
+//! Words that are printed are document 01's.
+
+#![forbid(unsafe_code)]
+
+pub mod board;
+pub mod phase;
+pub mod readout;
+pub mod refusal;
+pub mod report;
+pub mod runner;
+pub mod schedule;
+pub mod session;
+pub mod sound;
+pub mod trace;
+
+#[cfg(test)]
+mod tests;
+
+pub use board::{Access, Counts, Registers};
+pub use phase::{Phase, Process};
+pub use refusal::Refusal;
+pub use report::report;
+pub use runner::{entry, run, Ending};
+pub use schedule::{Operation, Schedule};
+pub use session::{window, Session};
+pub use trace::trace;

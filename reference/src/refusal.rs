@@ -1,0 +1,49 @@
+//! The numbers returned. (01, "Numbers returned".)
+
+/// A row of the table in 01, "Numbers returned"; `code` gives its number.
+#[derive(Clone, Copy, PartialEq, Eq, Debug)]
+#[repr(u8)]
+pub enum Refusal {
+    /// Seats not 1 to 64.
+    Processes = 1,
+    /// L below W or above 256.
+    Limit = 2,
+    /// Session not sound.
+    Unsound = 3,
+    /// Seat number n or above.
+    NoProcess = 4,
+    /// Proposal of 0.
+    BlankProposal = 5,
+    /// Proposal, seat not out.
+    Proposed = 6,
+    /// Work, look or crash, seat out.
+    Idle = 7,
+    /// Work, look or crash, seat crashed or decided.
+    Ended = 8,
+    /// Work, seat spent.
+    Exhausted = 9,
+    /// Sheet under 4 or over 65,535 bytes, over 16 pairs, or too short for its
+    /// pairs.
+    Sheet = 10,
+    /// Pairs unsorted, overlapping, before the end of the pairs, or past the
+    /// sheet.
+    Pairs = 11,
+    /// A run's length not a multiple of 6.
+    RunLength = 12,
+    /// Entry with an unknown kind or a wrong value.
+    Entry = 13,
+    /// Read-out of a round not 1 to L.
+    NoRound = 14,
+    /// Lent buffer of wrong length.
+    Buffer = 15,
+    /// Work or look, some tally count already 4,294,967,295.
+    CountsFull = 16,
+}
+
+impl Refusal {
+    /// The number returned.
+    #[inline]
+    pub const fn code(self) -> u32 {
+        self as u32
+    }
+}

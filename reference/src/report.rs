@@ -1,0 +1,62 @@
+//! The board report. (01, "The board report".)
+
+use std::fmt::Write;
+
+use crate::board::Counts;
+use crate::phase::{Phase, Process};
+use crate::runner::{run, Ending};
+use crate::schedule::Schedule;
+use crate::session::Session;
+
+/// The program's budget, as many entries as a sheet can hold.
+pub const BUDGET: u64 = 10_921;
+
+/// The lines printed for a sheet, each ended by a line feed.
+pub fn report(sheet: &[u8]) -> String {
+    let schedule = match Schedule::read(sheet) {
+        Ok(schedule) => schedule,
+        Err(refusal) => return format!("sheet refused {}\n", refusal.code()),
+    };
+    let mut session = schedule.open();
+    let mut counts = Counts::default();
+    let ending = run(&schedule, BUDGET, &mut session, &mut counts);
+    let mut text = String::new();
+    write_report(&mut text, ending, &counts, &session).expect("a string takes every line");
+    text
+}
+
+fn write_report(
+    text: &mut String,
+    ending: Ending,
+    counts: &Counts,
+    session: &Session,
+) -> std::fmt::Result {
+    match ending {
+        Ending::Refused(refusal, index) => {
+            writeln!(text, "outcome refused {} {index}", refusal.code())?;
+        }
+        Ending::Finished(done) | Ending::BudgetEnded(done) => {
+            writeln!(text, "outcome finished {done}")?;
+        }
+    }
+    let (reads, writes, contested) = (counts.reads, counts.writes, counts.contested);
+    writeln!(text, "tally {reads} {writes} {contested}")?;
+    let (highest, decision) = (session.highest_filled(), session.registers.decision);
+    writeln!(text, "board {highest} {decision}")?;
+    for (number, process) in session.processes[..session.n].iter().enumerate() {
+        write!(text, "seat {number} ")?;
+        write_seat(text, process)?;
+    }
+    Ok(())
+}
+
+fn write_seat(text: &mut String, process: &Process) -> std::fmt::Result {
+    let (round, value) = (process.round, process.estimate);
+    match process.phase {
+        Phase::Idle => writeln!(text, "out"),
+        Phase::Exhausted => writeln!(text, "spent {value}"),
+        Phase::Crashed => writeln!(text, "crashed"),
+        Phase::Decided => writeln!(text, "decided {value}"),
+        _ => writeln!(text, "working {round} {value}"),
+    }
+}

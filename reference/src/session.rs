@@ -1,0 +1,216 @@
+//! The session and the operations on it.
+//! (01, "The board and the seats" and "One turn at a time".)
+
+use crate::board::{Access, Board, Counts, Registers};
+use crate::phase::{Bounds, Phase, Process};
+use crate::refusal::Refusal;
+use crate::schedule::Operation;
+
+/// The most processes of a session. (01: seats n, 1 to 64.)
+pub const MAX_PROCESSES: usize = 64;
+/// The most rounds of a session. (01: round limit L, at most 256.)
+pub const MAX_ROUNDS: usize = 256;
+
+/// W for each n. (01: 2 times the root of n, rounded up, plus 1.)
+const WINDOWS: [u32; MAX_PROCESSES + 1] = windows();
+
+const fn windows() -> [u32; MAX_PROCESSES + 1] {
+    let mut table = [0; MAX_PROCESSES + 1];
+    let (mut n, mut root) = (0, 0);
+    while n <= MAX_PROCESSES {
+        while root * root < n {
+            root += 1;
+        }
+        table[n] = 2 * root as u32 + 1;
+        n += 1;
+    }
+    table
+}
+
+/// The window of n processes, n from 1 to 64. (01: W.)
+#[inline]
+pub const fn window(n: usize) -> u32 {
+    WINDOWS[n]
+}
+
+/// One agreement. (01: a session.)
+#[derive(Clone, PartialEq, Eq, Debug)]
+pub struct Session {
+    /// The number of processes. (01: seats n.)
+    pub n: usize,
+    /// The round limit. (01: L.)
+    pub limit: u32,
+    /// The shared registers. (01: the board.)
+    pub registers: Registers,
+    /// The processes. (01: the row of seats.)
+    pub processes: [Process; MAX_PROCESSES],
+}
+
+/// 01, "Numbers returned", opening: 1, then 2.
+pub(crate) fn check_opening(n: usize, limit: usize) -> Result<(), Refusal> {
+    if n == 0 || n > MAX_PROCESSES {
+        return Err(Refusal::Processes);
+    }
+    if limit < window(n) as usize || limit > MAX_ROUNDS {
+        return Err(Refusal::Limit);
+    }
+    Ok(())
+}
+
+impl Session {
+    /// Opens a session. (01, order: 1, 2.)
+    pub fn open(n: usize, limit: usize) -> Result<Session, Refusal> {
+        check_opening(n, limit)?;
+        Ok(Session::blank(n, limit as u32))
+    }
+
+    /// An open session of a size that `check_opening` let pass.
+    #[inline]
+    pub(crate) fn blank(n: usize, limit: u32) -> Session {
+        Session {
+            n,
+            limit,
+            registers: Registers::BLANK,
+            processes: [Process::IDLE; MAX_PROCESSES],
+        }
+    }
+
+    /// A process takes up a value. (01, order: 3, 4, 5, 6.)
+    pub fn propose(&mut self, process: usize, value: u32) -> Result<(), Refusal> {
+        self.check_sound()?;
+        self.propose_trusted(process, value)
+    }
+
+    /// One step of a process. (01: work turn; order: 3, 4, 7, 8, 9, 16.)
+    pub fn step(
+        &mut self,
+        process: usize,
+        leader: bool,
+        counts: &mut Counts,
+    ) -> Result<(), Refusal> {
+        self.check_sound()?;
+        self.step_trusted(process, leader, counts, |_| {})
+    }
+
+    /// One reading of the decision. (01: look; order: 3, 4, 7, 8, 16.)
+    pub fn learn(&mut self, process: usize, counts: &mut Counts) -> Result<(), Refusal> {
+        self.check_sound()?;
+        self.learn_trusted(process, counts, |_| {})
+    }
+
+    /// A process stops for good. (01, order: 3, 4, 7, 8.)
+    pub fn crash(&mut self, process: usize) -> Result<(), Refusal> {
+        self.check_sound()?;
+        self.crash_trusted(process)
+    }
+
+    /// Carries out one operation on a session known to be sound: one that was
+    /// opened and has only been operated on since. Soundness is kept by every
+    /// operation, so 3 cannot come up and is not tested once more. The register
+    /// operation, if there is one, is shown to `watch`.
+    #[inline]
+    pub fn apply_trusted(
+        &mut self,
+        operation: Operation,
+        counts: &mut Counts,
+        watch: impl FnMut(Access),
+    ) -> Result<(), Refusal> {
+        match operation {
+            Operation::Propose { process, value } => self.propose_trusted(process, value),
+            Operation::Step { process, leader } => {
+                self.step_trusted(process, leader, counts, watch)
+            }
+            Operation::Learn { process } => self.learn_trusted(process, counts, watch),
+            Operation::Crash { process } => self.crash_trusted(process),
+        }
+    }
+
+    #[inline]
+    fn propose_trusted(&mut self, process: usize, value: u32) -> Result<(), Refusal> {
+        let process = present(&mut self.processes[..self.n], process)?;
+        if value == 0 {
+            return Err(Refusal::BlankProposal);
+        }
+        if process.phase != Phase::Idle {
+            return Err(Refusal::Proposed);
+        }
+        process.phase = Phase::Waiting;
+        process.estimate = value;
+        Ok(())
+    }
+
+    #[inline]
+    fn step_trusted(
+        &mut self,
+        process: usize,
+        leader: bool,
+        counts: &mut Counts,
+        watch: impl FnMut(Access),
+    ) -> Result<(), Refusal> {
+        let bounds = Bounds {
+            limit: self.limit,
+            window: window(self.n),
+        };
+        let process = alive(&mut self.processes[..self.n], process)?;
+        if process.phase == Phase::Exhausted {
+            return Err(Refusal::Exhausted);
+        }
+        let mut board = board(&mut self.registers, counts, watch)?;
+        process.step(leader, bounds, &mut board);
+        Ok(())
+    }
+
+    #[inline]
+    fn learn_trusted(
+        &mut self,
+        process: usize,
+        counts: &mut Counts,
+        watch: impl FnMut(Access),
+    ) -> Result<(), Refusal> {
+        let process = alive(&mut self.processes[..self.n], process)?;
+        let mut board = board(&mut self.registers, counts, watch)?;
+        process.learn(&mut board);
+        Ok(())
+    }
+
+    #[inline]
+    fn crash_trusted(&mut self, process: usize) -> Result<(), Refusal> {
+        let process = alive(&mut self.processes[..self.n], process)?;
+        process.phase = Phase::Crashed;
+        Ok(())
+    }
+}
+
+/// The registers for one operation that counts, or 16.
+#[inline]
+fn board<'a, W: FnMut(Access)>(
+    registers: &'a mut Registers,
+    counts: &'a mut Counts,
+    watch: W,
+) -> Result<Board<'a, W>, Refusal> {
+    if counts.full() {
+        return Err(Refusal::CountsFull);
+    }
+    Ok(Board {
+        registers,
+        counts,
+        watch,
+    })
+}
+
+/// The process of that number among the session's n, or 4.
+#[inline]
+fn present(processes: &mut [Process], process: usize) -> Result<&mut Process, Refusal> {
+    processes.get_mut(process).ok_or(Refusal::NoProcess)
+}
+
+/// The process of that number, working or spent, or 4, 7, 8 in this order.
+#[inline]
+fn alive(processes: &mut [Process], process: usize) -> Result<&mut Process, Refusal> {
+    let process = present(processes, process)?;
+    match process.phase {
+        Phase::Idle => Err(Refusal::Idle),
+        Phase::Crashed | Phase::Decided => Err(Refusal::Ended),
+        _ => Ok(process),
+    }
+}

@@ -1,0 +1,61 @@
+//! The soundness of a session. (01, "A session is sound if", at the end of
+//! "Numbers returned".)
+
+use crate::board::Registers;
+use crate::phase::{Phase, Process};
+use crate::refusal::Refusal;
+use crate::session::{check_opening, window, Session};
+
+impl Session {
+    /// 01, "Numbers returned", 3.
+    pub(crate) fn check_sound(&self) -> Result<(), Refusal> {
+        if self.is_sound() {
+            Ok(())
+        } else {
+            Err(Refusal::Unsound)
+        }
+    }
+
+    /// Whether the session is sound.
+    pub fn is_sound(&self) -> bool {
+        if check_opening(self.n, self.limit as usize).is_err() {
+            return false;
+        }
+        let (limit, window) = (self.limit, window(self.n));
+        let (seated, rest) = self.processes.split_at(self.n);
+        blank_past(&self.registers, limit as usize)
+            && seated.iter().all(|process| record(process, limit, window))
+            && rest.iter().all(|process| *process == Process::IDLE)
+    }
+}
+
+/// Registers and marks past L are blank and unmarked.
+fn blank_past(registers: &Registers, limit: usize) -> bool {
+    registers.values[limit..].iter().all(|value| *value == 0)
+        && registers.marks[limit..].iter().all(|marked| !marked)
+}
+
+/// Out has round 0 and value 0, every other stance a value above 0, a round of
+/// at most L, and a place that fits.
+fn record(process: &Process, limit: u32, window: u32) -> bool {
+    if process.phase == Phase::Idle {
+        return process.round == 0 && process.estimate == 0;
+    }
+    process.estimate > 0
+        && process.round <= limit
+        && place(process.phase, process.round, limit, window)
+}
+
+/// The bounds of each stance's place in the walk, in a round r of at most L.
+fn place(phase: Phase, r: u32, limit: u32, window: u32) -> bool {
+    match phase {
+        Phase::Idle | Phase::Waiting | Phase::Crashed | Phase::Decided => true,
+        Phase::Write => r >= 1,
+        Phase::Scan(k) => 1 <= r && r < k && k <= limit,
+        Phase::Adopt(k) => 1 <= r && r <= k && k <= limit,
+        Phase::Compare(i) | Phase::Flag(i) => r >= 1 && i < r.min(window),
+        Phase::CheckMark(i) | Phase::CheckValue(i) => r >= window && i < window,
+        Phase::Commit => r >= window,
+        Phase::Exhausted => r == limit,
+    }
+}

@@ -1,0 +1,127 @@
+//! Random lists of operations: the agreement rule holds, every session stays
+//! sound, and a sheet gives what its entries give one after another.
+
+use super::*;
+use crate::{run, Ending, Phase, Schedule};
+
+/// The generator splitmix64.
+struct Random(u64);
+
+impl Random {
+    fn below(&mut self, bound: u64) -> u64 {
+        self.0 = self.0.wrapping_add(0x9e37_79b9_7f4a_7c15);
+        let mut word = self.0;
+        word = (word ^ (word >> 30)).wrapping_mul(0xbf58_476d_1ce4_e5b9);
+        word = (word ^ (word >> 27)).wrapping_mul(0x94d0_49bb_1331_11eb);
+        (word ^ (word >> 31)) % bound
+    }
+}
+
+/// What the agreement rule of 01 speaks of, gathered along a list.
+#[derive(Default)]
+struct History {
+    proposed: Vec<u32>,
+    written: Vec<(u32, u32)>,
+    committed: Vec<(u32, u32)>,
+}
+
+impl History {
+    /// An accepted operation on a process that stood so before it.
+    fn note(&mut self, operation: Operation, before: Process) {
+        let (round, value) = (before.round, before.estimate);
+        match (operation, before.phase) {
+            (Operation::Propose { value, .. }, _) => self.proposed.push(value),
+            (Operation::Step { .. }, Phase::Write) => self.written.push((round, value)),
+            (Operation::Step { .. }, Phase::Commit) => {
+                assert!(self.proposed.contains(&value));
+                self.committed.push((round, value));
+            }
+            _ => {}
+        }
+    }
+
+    fn check(&self, session: &Session) {
+        for &(round, value) in &self.committed {
+            let mut later = self.written.iter().filter(|(written, _)| *written >= round);
+            assert!(later.all(|(_, written)| *written == value));
+        }
+        let decided = |process: &&Process| process.phase == Phase::Decided;
+        for process in session.processes.iter().filter(decided) {
+            assert_eq!(process.estimate, session.registers.decision);
+        }
+    }
+}
+
+fn random_operation(random: &mut Random, n: usize) -> Operation {
+    let beyond = u64::from(random.below(50) == 0);
+    let process = random.below(n as u64 + beyond) as usize;
+    match random.below(400) {
+        0 => Operation::Crash { process },
+        1..=3 => Operation::Learn { process },
+        4..=19 => {
+            let value = random.below(4) as u32;
+            Operation::Propose { process, value }
+        }
+        kind => {
+            let leader = kind > 40;
+            Operation::Step { process, leader }
+        }
+    }
+}
+
+fn public(session: &mut Session, operation: Operation, counts: &mut Counts) -> Result<(), Refusal> {
+    match operation {
+        Operation::Propose { process, value } => session.propose(process, value),
+        Operation::Step { process, leader } => session.step(process, leader, counts),
+        Operation::Learn { process } => session.learn(process, counts),
+        Operation::Crash { process } => session.crash(process),
+    }
+}
+
+/// A list in bursts: where it led, its accepted operations, its commits.
+fn random_list(seed: u64, length: usize) -> (Case, Vec<[u8; 6]>, usize) {
+    let mut random = Random(seed);
+    let n = 1 + random.below(6) as usize;
+    let limit = crate::window(n) as usize + random.below(9) as usize;
+    let (mut case, mut history) = (Case::open(n, limit), History::default());
+    let (mut accepted, mut operation) = (Vec::new(), random_operation(&mut random, n));
+    for _ in 0..length {
+        if random.below(3) == 0 || !matches!(operation, Operation::Step { .. }) {
+            operation = random_operation(&mut random, n);
+        }
+        let before = case.session.clone();
+        let answer = public(&mut case.session, operation, &mut case.counts);
+        assert!(case.session.is_sound());
+        match answer {
+            Ok(()) => {
+                history.note(operation, before.processes[operation.process()]);
+                accepted.push(encode(operation));
+            }
+            Err(_) => assert_eq!(case.session, before),
+        }
+        history.check(&case.session);
+    }
+    (case, accepted, history.committed.len())
+}
+
+#[test]
+fn agreement_and_soundness_on_random_lists() {
+    let mut commits = 0;
+    for seed in 0..300 {
+        commits += random_list(seed, 600).2;
+    }
+    assert!(commits > 100, "{commits} commits");
+}
+
+#[test]
+fn a_sheet_gives_what_its_entries_give() {
+    for seed in 1000..1100 {
+        let (case, accepted, _) = random_list(seed, 500);
+        let bytes = sheet(case.session.n as u8, case.session.limit as u16, &accepted);
+        let schedule = Schedule::read(&bytes).ok().expect("a sheet in order");
+        let (mut session, mut counts) = (schedule.open(), Counts::default());
+        let ending = run(&schedule, u64::MAX, &mut session, &mut counts);
+        assert_eq!(ending, Ending::Finished(accepted.len() as u64));
+        assert_eq!((session, counts), (case.session, case.counts));
+    }
+}
