@@ -12,7 +12,6 @@ use model::Ending;
 use model::Ran;
 use model::Session;
 use schedule::Handed;
-use schedule::places;
 
 mod turns;
 
@@ -60,9 +59,9 @@ fn carry(schedule: &[u8], budget: usize, window: usize, mut s: Session) -> Ran
 {
     let mut c = no_counts();
     let mut k: usize = 0;
-    let mut place = places::begin(schedule);
+    let mut place = reader::first_place(schedule);
     loop {
-        let Handed::Next(e) = places::handed(schedule, place) else {
+        let Handed::Next(e) = reader::entry_at(schedule, place) else {
             return ran(k, s, c, Ending::Finished);
         };
         if budget <= k {
@@ -88,7 +87,7 @@ fn carry(schedule: &[u8], budget: usize, window: usize, mut s: Session) -> Ran
         s.processes[p] = turns::becomes(window, s.limit, q, e, x);
         c = choice::counted(a, c);
         k += 1;
-        place = places::advance(schedule, place);
+        place = reader::place_after(schedule, place);
     }
 }
 

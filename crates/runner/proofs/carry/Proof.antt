@@ -46,7 +46,7 @@ entry-of c = c .before .before .before .before .before .before .e .given .0 .0
 
 -- The entry is the one handed out, and the budget allows it.
 next-of : (c : Here) → handed (start-of c .args .schedule .now) (loop-of c .loop .place) ≡ Next (entry-of c)
-next-of c = let d = c .before .before .before .before .before .before in sym (d .before .before .handed .ensures) ∙ d .e .given .1
+next-of c = let d = c .before .before .before .before .before .before in sym (d .before .before .entry-at .ensures) ∙ d .e .given .1
 
 left-of : (c : Here) → loop-of c .loop .k < start-of c .args .budget
 left-of c = c .before .before .before .before .if1 .left
@@ -96,8 +96,8 @@ touch c =
 loop-holds : tie.Need-loop-holds Inv-loop μ-loop
 loop-holds c =
     record {
-      same = rw (c .begin .ensures, c .before .no-counts .ensures, sub-zero, begin-rest);
-      proper = rw (c .begin .ensures) (begin-proper _);
+      same = rw (c .first-place .ensures, c .before .no-counts .ensures, sub-zero, begin-rest);
+      proper = rw (c .first-place .ensures) (begin-proper _);
       within = omega arith;
       opened = c .before .before .before .pre;
     }
@@ -106,7 +106,7 @@ loop-holds c =
 returns : tie.Need-returns Inv-loop μ-loop
 returns c =
     let h = c .before .before .before in
-    c .ran .ensures ∙ sym (ends (h .before .loop .inv) (sym (h .handed .ensures) ∙ c .before .enum-told .given .1))
+    c .ran .ensures ∙ sym (ends (h .before .loop .inv) (sym (h .entry-at .ensures) ∙ c .before .enum-told .given .1))
 
 -- Budget ended.
 returns-2 : tie.Need-returns-2 Inv-loop μ-loop
@@ -114,7 +114,7 @@ returns-2 c =
     let d = c .before .before .before in
     let h = d .before .before in
     c .ran2 .ensures
-    ∙ sym (spent (h .before .loop .inv) (sym (h .handed .ensures) ∙ d .e .given .1) (c .before .if1 .taken))
+    ∙ sym (spent (h .before .loop .inv) (sym (h .entry-at .ensures) ∙ d .e .given .1) (c .before .if1 .taken))
 
 -- Refused.
 returns-3 : tie.Need-returns-3 Inv-loop μ-loop
@@ -129,7 +129,7 @@ add-k c = let r = c .before .before .before .before .before in omega (arith, lef
 loop-less : tie.Need-loop-less Inv-loop μ-loop
 loop-less c =
     let r = c .before .before .before .before .before .before in
-    shorter (loop-of r .loop .inv) (next-of r) (c .advance .ensures)
+    shorter (loop-of r .loop .inv) (next-of r) (c .place-after .ensures)
 
 -- Carried out.
 loop-again : tie.Need-loop-again Inv-loop μ-loop
@@ -142,7 +142,7 @@ loop-again c =
     (touch (d .before))
     (d .becomes .ensures)
     (c .before .counted .ensures)
-    (c .advance .ensures)
+    (c .place-after .ensures)
 
 -- In the order of the code. The registers are those of the four arms that have one.
 pub carry-spec : {M : Type 1} → statement M
