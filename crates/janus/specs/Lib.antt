@@ -1,0 +1,2 @@
+-- What the entry from C leans on.
+pub mod Bytes
