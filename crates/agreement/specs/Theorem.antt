@@ -26,15 +26,15 @@ use Rattle.agreement.specs.Conclusions.{decided-agree, proposed-first, c
 sound-answers : (m : Session) (c : Call) → sound m ≡ true → Promised m c → Answers m c
 unfolding Public.propose Public.step Public.learn Public.crash Public.ifSound Public.ifSoundCounted
 sound-answers m (propose p v a) ok e = e ∙ rw ok
-sound-answers m (step p leader c a) ok e = e ∙ rw ok
-sound-answers m (learn p c a) ok e = e ∙ rw ok
+sound-answers m (step p leader c a c′) ok e = e ∙ rw ok
+sound-answers m (learn p c a c′) ok e = e ∙ rw ok
 sound-answers m (crash p a) ok e = e ∙ rw ok
 
 -- The call left the session that the machine went on to.
 answers-left : (m : Session) (c : Call) → Answers m c → left c ≡ fed m c
 answers-left m (propose p v a) e = ap (λ (x : Changed). x .session) e
-answers-left m (step p leader c a) e = ap (λ (x : Stepped). x .session) e
-answers-left m (learn p c a) e = ap (λ (x : Stepped). x .session) e
+answers-left m (step p leader c a c′) e = ap (λ (x : Stepped). x .session) e
+answers-left m (learn p c a c′) e = ap (λ (x : Stepped). x .session) e
 answers-left m (crash p a) e = ap (λ (x : Changed). x .session) e
 
 -- No test of the list has the number k.
@@ -64,9 +64,9 @@ never-unsound : (m : Session) (c : Call) → Answers m c → code c ≡ 3 → �
 unfolding Machine.propose Machine.step Machine.learn Machine.crash
 never-unsound m (propose p v a) e three =
     not-returned 3 (proposeTests m p v) (omega arith) (sym (changed-code _ m _) ∙ sym (ap (λ (x : Changed). x .code) e) ∙ three)
-never-unsound m (step p leader c a) e three =
+never-unsound m (step p leader c a c′) e three =
     not-returned 3 (stepTests m p c) (omega arith) (sym (stepped-code _ m _ c _) ∙ sym (ap (λ (x : Stepped). x .code) e) ∙ three)
-never-unsound m (learn p c a) e three =
+never-unsound m (learn p c a c′) e three =
     not-returned 3 (learnTests m p c) (omega arith) (sym (stepped-code _ m _ c _) ∙ sym (ap (λ (x : Stepped). x .code) e) ∙ three)
 never-unsound m (crash p a) e three =
     not-returned 3 (crashTests m p) (omega arith) (sym (changed-code _ m _) ∙ sym (ap (λ (x : Changed). x .code) e) ∙ three)
@@ -74,8 +74,8 @@ never-unsound m (crash p a) e three =
 -- One operation keeps the invariant.
 kept-call : (m : Session) (c : Call) (h : List Event) → Kept m h → Kept (fed m c) (noted m c h)
 kept-call m (propose p v a) h i = propose-kept m p v h i
-kept-call m (step p leader c a) h i = step-kept m p leader c h i
-kept-call m (learn p c a) h i = learn-kept m p c h i
+kept-call m (step p leader c a c′) h i = step-kept m p leader c h i
+kept-call m (learn p c a c′) h i = learn-kept m p c h i
 kept-call m (crash p a) h i = crash-kept m p h i
 
 -- A list of calls: each is answered as the machine answers, the session is the machine's, and the machine keeps the invariant.

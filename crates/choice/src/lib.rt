@@ -252,4 +252,3 @@ pub fn counted(a: Access, c: Counts) -> Counts
         Access::WriteDecision => counts(c.reads, writes, c.contested),
     }
 }
-

@@ -97,9 +97,19 @@ pub fn run(schedule: &[u8], budget: usize) -> Ran
 {
     let code = schedule::refusal(schedule);
     if code != 0 {
-        return ran(0, opening::opened(0, 0), no_counts(), Ending::Rejected(code));
+        return ran(
+            0,
+            opening::opened(0, 0),
+            no_counts(),
+            Ending::Rejected(code),
+        );
     }
     let n = schedule[0];
     let limit = wide(schedule[2]) + 256 * wide(schedule[3]);
-    carry(schedule, budget, choice::window(n), opening::opened(wide(n), limit))
+    carry(
+        schedule,
+        budget,
+        choice::window(n),
+        opening::opened(wide(n), limit),
+    )
 }

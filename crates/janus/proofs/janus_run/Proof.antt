@@ -55,9 +55,10 @@ returns-3 c =
     let m = put .before .before in
     let a = m .before in
     let size = a .before .before .if1 .left in
-    let ran = a .before .run .ensures in
-    (answered _ _ _ size ran (a .ending-code .ensures),
-     leaves _ _ _ size ran (put .put-decided .ensures ∙ made (a .before .run .result .ending) _ _ (m .match .keys2)))
+    let ran = a .before .run .ensures in (
+      answered _ _ _ size ran (a .ending-code .ensures),
+      leaves _ _ _ size ran (put .put-decided .ensures ∙ made (a .before .run .result .ending) _ _ (m .match .keys2)),
+    )
 
 -- In the order of the code.
 pub janus-run-spec : {M : Type 1} → statement M
