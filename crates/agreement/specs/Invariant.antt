@@ -20,7 +20,7 @@ use Rattle.model.specs.Machine.{proposed, worked, looked, crashed}
 use Rattle.model.specs.Sound.{soundAt}
 use Rattle.laws.specs.Phases.{ProcessSound, inside-some}
 use Rattle.laws.specs.Ranges.{InRange}
-use Rattle.laws.specs.Operations.{written-n}
+use Rattle.laws.specs.Operations.{written-same}
 use Rattle.history.specs.Event.{Event, proposal, Lawful, Past, here, there, Committed}
 use Rattle.history.specs.Grow.{lawful-proposal}
 use Rattle.walk.specs.Place.{recorded, Stands, Placed}
@@ -36,21 +36,11 @@ pub record Invariant (W : ℕ) (s : Session) (h : List Event) : Type 0 where
   pub stands : (p : ℕ) → Stands W p (processAt s p) h
   pub kept : Kept s h
 
--- ---- a write changes neither n, nor the limit, nor the processes
+-- ---- a turn changes neither n nor the lengths
 
 pub worked-n : (W : ℕ) (s : Session) (p : ℕ) (leader : Bool) → (worked W s p leader) .n ≡ s .n
 unfolding worked turn
-worked-n W s p leader = written-n s _ _
-
-written-processes : (s : Session) (a : Access) (e : ℕ) → (written s a e) .processes ≡ s .processes
-unfolding written
-written-processes s Nothing e = refl
-written-processes s (ReadValue j) e = refl
-written-processes s (WriteValue j) e = refl
-written-processes s (ReadMark j) e = refl
-written-processes s (SetMark j) e = refl
-written-processes s ReadDecision e = refl
-written-processes s WriteDecision e = refl
+worked-n W s p leader = written-same s _ _ .n
 
 written-long : (s : Session) (a : Access) (e : ℕ) → Long s → Long (written s a e)
 unfolding written
@@ -97,9 +87,9 @@ module _ {W : ℕ} {s : Session} {h : List Event} (p : ℕ) (i : Invariant W s h
       record {
         sound = ok;
         long = set-long s′ p _ (written-long s a (q .estimate) (i .long));
-        lawful = subst (λ (n : ℕ). Lawful W n h′) (sym (written-n s a (q .estimate))) (step-lawful (s .limit) p (q .round) (q .estimate) (q .phase) low (inside-some f) (f .phase) (i .lawful) (i .stands p));
+        lawful = subst (λ (n : ℕ). Lawful W n h′) (sym (written-same s a (q .estimate) .n)) (step-lawful (s .limit) p (q .round) (q .estimate) (q .phase) low (inside-some f) (f .phase) (i .lawful) (i .stands p));
         stands =
-            subst (λ (ps : List Process). (o : ℕ) → Stands W o (getD (set ps p q′) o idle) h′) (sym (written-processes s a (q .estimate)))
+            subst (λ (ps : List Process). (o : ℕ) → Stands W o (getD (set ps p q′) o idle) h′) (sym (written-same s a (q .estimate) .processes))
             (set-stands W (s .processes) p q′ h′ (omega (arith, i .long .processes))
             (step-placed (s .limit) p (q .round) (q .estimate) (q .phase) leader (found s a) (f .phase) (i .lawful) (i .stands p) (found-kept s a h range (i .kept)))
             (λ o ne. let x = processAt s o in others-placed W o (x .round) (x .estimate) (x .phase) p (q .round) (q .estimate) (q .phase) h ne (i .stands o)));

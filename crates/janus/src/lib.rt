@@ -7,7 +7,6 @@ ghost use lib.Seq.{sets};
 ghost use Rattle.model.specs.Export.{decidedValue, bytes32, decidedBytes, endingCode, exportCode, exportBuffer};
 use model::Ending;
 use model::Phase;
-use model::Process;
 use model::Session;
 
 // The value that a process has decided on; 0 where there is none.

@@ -29,26 +29,21 @@ use Rattle.laws.specs.Ranges.{InRange, access-range}
 use Rattle.laws.specs.Keeps.{next-sound, learnt-sound, placed-sound}
 use Rattle.laws.specs.Sounds.{Sound, sound-facts, facts-sound, idle-sound, sound-process, set-sound, written-sound}
 
--- A write changes neither n nor the limit.
-pub written-n : (s : Session) (a : Access) (e : ℕ) → (written s a e) .n ≡ s .n
-unfolding written
-written-n s Nothing e = refl
-written-n s (ReadValue j) e = refl
-written-n s (WriteValue j) e = refl
-written-n s (ReadMark j) e = refl
-written-n s (SetMark j) e = refl
-written-n s ReadDecision e = refl
-written-n s WriteDecision e = refl
+-- What a write leaves: n, the limit and the processes.
+pub record Same (s t : Session) : Type 0 where
+  pub n : t .n ≡ s .n
+  pub limit : t .limit ≡ s .limit
+  pub processes : t .processes ≡ s .processes
 
-pub written-limit : (s : Session) (a : Access) (e : ℕ) → (written s a e) .limit ≡ s .limit
+pub written-same : (s : Session) (a : Access) (e : ℕ) → Same s (written s a e)
 unfolding written
-written-limit s Nothing e = refl
-written-limit s (ReadValue j) e = refl
-written-limit s (WriteValue j) e = refl
-written-limit s (ReadMark j) e = refl
-written-limit s (SetMark j) e = refl
-written-limit s ReadDecision e = refl
-written-limit s WriteDecision e = refl
+written-same s Nothing e = record { n = refl; limit = refl; processes = refl }
+written-same s (ReadValue j) e = record { n = refl; limit = refl; processes = refl }
+written-same s (WriteValue j) e = record { n = refl; limit = refl; processes = refl }
+written-same s (ReadMark j) e = record { n = refl; limit = refl; processes = refl }
+written-same s (SetMark j) e = record { n = refl; limit = refl; processes = refl }
+written-same s ReadDecision e = record { n = refl; limit = refl; processes = refl }
+written-same s WriteDecision e = record { n = refl; limit = refl; processes = refl }
 
 -- A turn that accesses a register 1 to L and makes a sound process of one of the n.
 pub turn-sound : (W : ℕ) (s : Session) (p : ℕ) (a : Access) (becomes : ℕ → Process) → soundAt W s ≡ true → p < s .n →
@@ -58,8 +53,8 @@ turn-sound W s p a becomes t low ok one =
     let e = processAt s p .estimate in
     facts-sound W _
     (set-sound W (written s a e) p (becomes (found s a)) (written-sound W s a e ok (sound-facts W s t))
-    (rw (written-n s a e) low)
-    (rw (written-limit s a e) one))
+    (rw (written-same s a e .n) low)
+    (rw (written-same s a e .limit) one))
 
 module _ (W : ℕ) (wide : 1 ≤ W) (s : Session) (p : ℕ) (t : soundAt W s ≡ true) where
   pub worked-sound : (leader : Bool) → p < s .n → isOutside (standing (processAt s p .phase)) ≡ false → soundAt W (worked W s p leader) ≡ true

@@ -23,7 +23,7 @@ use Rattle.model.specs.Runner.{ran, runFrom, noCounts, run}
 use Rattle.model.specs.Schedule.{processCount, roundLimit, entries, scheduleTests, scheduleRefusal}
 use Rattle.basics.specs.Bools.{and-left}
 use Rattle.laws.specs.Accepted.{none-holds}
-use Rattle.laws.specs.Operations.{written-n, written-limit, opened-sound, open-accepted}
+use Rattle.laws.specs.Operations.{written-same, opened-sound, open-accepted}
 use Rattle.laws.specs.Ranges.{InRange}
 use Rattle.laws.specs.Sounds.{sound-facts}
 use Rattle.laws.specs.Windows.{window-least}
@@ -136,7 +136,7 @@ module _ {s : Session} {c : Counts} {e : Entry} {p : ℕ} where
     turned : (W : ℕ) {q : Process} → q ≡ becomes W (s₁ .limit) (processAt s p) e x → withProcess s₁ p q ≡ after W s e
     unfolding turn
     turned W {q} eq =
-        let low : s₁ .limit ≡ s .limit = ap (λ (z : Session). z .limit) (m .session) ∙ written-limit s a _ in
+        let low : s₁ .limit ≡ s .limit = ap (λ (z : Session). z .limit) (m .session) ∙ written-same s a _ .limit in
         let made : q ≡ becomes W (s .limit) (processAt s p) e x = rw low at eq in
         rw (made, m .session, m .read, ea, entered-row f)
 
@@ -148,7 +148,7 @@ module _ {s : Session} {c : Counts} {e : Entry} {p : ℕ} where
 
 after-n : (W : ℕ) (s : Session) (e : Entry) → window (s .n) ≡ window ((after W s e) .n)
 unfolding turn
-after-n W s e = rw written-n
+after-n W s e = written-same s _ _ .n
 
 -- What the loop keeps: the answer is that of the run from here on, with k entries carried out; the session is sound.
 pub record Carrying (answer : Ran) (t : List ℕ) (budget W : ℕ) (s : Session) (c : Counts) (k : ℕ) (place : Place) : Type 0 where

@@ -9,6 +9,7 @@ ghost use Rattle.model.specs.Sound.{every, soundPhase, soundProcess, soundAt, s
 use model::Phase;
 use model::Process;
 use model::Session;
+use model::Standing;
 
 fn both(a: bool, b: bool) -> bool
     ensures { λ r. ⌜ r ≡ a && b ⌝ }
@@ -67,20 +68,11 @@ fn phase_sound(window: usize, limit: usize, round: usize, phase: Phase) -> bool
 fn outside(phase: Phase) -> bool
     ensures { λ r. ⌜ r ≡ isOutside (standing phase) ⌝ }
 {
-    match phase {
-        Phase::Idle => true,
-        Phase::Waiting => false,
-        Phase::Write => false,
-        Phase::Scan(_) => false,
-        Phase::Adopt(_) => false,
-        Phase::Compare(_) => false,
-        Phase::Flag(_) => false,
-        Phase::CheckMark(_) => false,
-        Phase::CheckValue(_) => false,
-        Phase::Commit => false,
-        Phase::Exhausted => false,
-        Phase::Crashed => false,
-        Phase::Decided => false,
+    match refusals::standing(phase) {
+        Standing::Outside => true,
+        Standing::Active => false,
+        Standing::Spent => false,
+        Standing::Gone => false,
     }
 }
 

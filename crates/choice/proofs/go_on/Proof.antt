@@ -21,8 +21,7 @@ unfolding goOn
 go-on-spec =
     tie.close
     (tie.spec
-    (λ c κs. search needs)
-    (λ c κs. search needs)
+    (λ c κs. search needs) (λ c κs. search needs)
     (λ c. let a = c .before .before .before .args in
     omega (arith, ltb-true (a .i + 1) (min (a .round) (a .window)) (answer (c .before) ∙ c .if1 .taken)))
     (λ c. simp (answer (c .before) ∙ c .if1 .taken))

@@ -9,7 +9,6 @@ pub scan-spec : {M : Type 1} → statement M
 scan-spec =
     tie.close
     (tie.spec
-    (λ c κs. search needs)
-    (λ c κs. search needs)
+    (λ c κs. search needs) (λ c κs. search needs)
     (λ c. rw (c .before .if1 .taken) (ap Adopt (c .minus .ensures)))
     (λ c. rw (c .before .if1 .left) (c .upward .ensures)))

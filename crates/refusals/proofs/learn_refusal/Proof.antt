@@ -8,14 +8,7 @@ pub learn-refusal-spec : {M : Type 1} → statement M
 learn-refusal-spec =
     tie.close
     (tie.spec
-    (λ c κs. search needs)
-    (λ c. search needs)
-    (λ c. search needs)
-    (λ c. search needs)
-    (λ c κs. search needs)
-    (λ c. search needs)
-    (λ c κs. search needs)
-    (λ c. search needs)
-    (λ c. search needs)
+    (λ c κs. search needs) (λ c. search needs) (λ c. search needs) (λ c. search needs) (λ c κs. search needs)
+    (λ c. search needs) (λ c κs. search needs) (λ c. search needs) (λ c. search needs)
     (λ c. simp (sym (c .before .before .before .standing .ensures) ∙ c .before .enum-told3 .given .1) (c .full-refusal .ensures))
     (λ c. simp (sym (c .before .before .before .standing .ensures) ∙ c .before .enum-told4 .given .1) (c .full-refusal2 .ensures)))

@@ -22,11 +22,7 @@ propose-refusal-spec =
     tie.close
     (tie.spec
     (λ c. rw (eq-eqb _ _ (c .if1 .taken)))
-    (λ c κs. search needs)
-    (λ c. search needs)
-    (λ c. search needs)
-    (λ c. search needs)
-    (λ c. search needs)
+    (λ c κs. search needs) (λ c. search needs) (λ c. search needs) (λ c. search needs) (λ c. search needs)
     returns-2
     returns-3
     returns-4

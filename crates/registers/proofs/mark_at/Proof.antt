@@ -9,8 +9,7 @@ pub mark-at-spec : {M : Type 1} → statement M
 mark-at-spec =
     tie.close
     (tie.spec
-    (λ c κs. search needs)
-    (λ c. search needs)
+    (λ c κs. search needs) (λ c. search needs)
     (λ c. rw (← c .before .before .before .index .ensures, c .if2 .taken))
     (λ c. rw (← c .before .before .before .index .ensures, c .if2 .left))
     (λ c. rw (← c .before .index .ensures, List·getD-eq-default (c .before .before .before .args .marks .now) false (c .if1 .left))))

@@ -8,7 +8,6 @@ pub set-mark-spec : {M : Type 1} → statement M
 set-mark-spec =
     tie.close
     (tie.spec
-    (λ c κs. search needs)
-    (λ c. search needs)
+    (λ c κs. search needs) (λ c. search needs)
     (λ c. rw (← c .before .index .ensures, lt-ltb _ _ (c .if1 .taken)))
     (λ c. rw (← c .before .index .ensures, le-ltb _ _ (c .if1 .left))))

@@ -9,8 +9,6 @@ pub value-at-spec : {M : Type 1} → statement M
 value-at-spec =
     tie.close
     (tie.spec
-    (λ c κs. search needs)
-    (λ c. search needs)
-    (λ c. search needs)
+    (λ c κs. search needs) (λ c. search needs) (λ c. search needs)
     (λ c. rw (c .before .before .index .ensures))
     (λ c. rw (← c .before .index .ensures) (sym (List·getD-eq-default (c .before .before .before .args .values .now) 0 (c .if1 .left)))))

@@ -9,13 +9,8 @@ unfolding becomes
 becomes-spec =
     tie.close
     (tie.spec
-    (λ c. search needs)
-    (λ c. search needs)
-    (λ c κs. search needs)
-    (λ c. search needs)
-    (λ c κs. search needs)
-    (λ c. search needs)
-    (λ c. search needs)
+    (λ c. search needs) (λ c. search needs) (λ c κs. search needs) (λ c. search needs) (λ c κs. search needs)
+    (λ c. search needs) (λ c. search needs)
     (λ c. rw (c .before .e .given .1))
     (λ c. rw (c .before .before .e2 .given .1) (c .next .ensures))
     (λ c. rw (c .before .enum-told .given .1) (c .learnt .ensures))

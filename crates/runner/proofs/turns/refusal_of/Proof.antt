@@ -9,19 +9,9 @@ unfolding refusalOf
 refusal-of-spec =
     tie.close
     (tie.spec
-    (λ c. search needs)
-    (λ c κs. search needs)
-    (λ c κs. search needs)
-    (λ c. search needs)
-    (λ c κs. search needs)
-    (λ c κs. search needs)
-    (λ c. search needs)
-    (λ c κs. search needs)
-    (λ c κs. search needs)
-    (λ c. search needs)
-    (λ c κs. search needs)
-    (λ c κs. search needs)
-    (λ c. search needs)
+    (λ c. search needs) (λ c κs. search needs) (λ c κs. search needs) (λ c. search needs) (λ c κs. search needs)
+    (λ c κs. search needs) (λ c. search needs) (λ c κs. search needs) (λ c κs. search needs) (λ c. search needs)
+    (λ c κs. search needs) (λ c κs. search needs) (λ c. search needs)
     (λ c. rw (c .before .before .before .e .given .1, ← c .before .propose-refusal .ensures) (c .seated .ensures))
     (λ c. rw (c .before .before .before .e2 .given .1, ← c .before .step-refusal .ensures) (c .seated2 .ensures))
     (λ c. rw (c .before .before .before .e3 .given .1, ← c .before .learn-refusal .ensures) (c .seated3 .ensures))
