@@ -7,7 +7,8 @@
  * definitions of the scope document give, for every input, damaged sheets included.
  *
  * The function keeps no state, allocates nothing and touches nothing but the buffer that it is lent. It may be called from any
- * number of threads at once, each with its own buffer; a sheet may be shared, as it is only read.
+ * number of threads at once, each with its own buffer; a sheet may be shared, as it is only read. Sheet and buffer must not overlap,
+ * and neither pointer may be NULL, not even with a length of 0.
  *
  * THE SHEET (numbers are little-endian)
  *

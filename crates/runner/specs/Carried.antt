@@ -148,7 +148,7 @@ module _ {s : Session} {c : Counts} {e : Entry} {p : ℕ} where
 
 after-n : (W : ℕ) (s : Session) (e : Entry) → window (s .n) ≡ window ((after W s e) .n)
 unfolding turn
-after-n W s e = written-same s _ _ .n
+after-n W s e = sym (ap window (written-same s _ _ .n))
 
 -- What the loop keeps: the answer is that of the run from here on, with k entries carried out; the session is sound.
 pub record Carrying (answer : Ran) (t : List ℕ) (budget W : ℕ) (s : Session) (c : Counts) (k : ℕ) (place : Place) : Type 0 where
