@@ -1,9 +1,9 @@
 #!/bin/sh
 # Builds the reference program and its unit tests into target/reference/ and
-# runs the tests. With the path of a libentry.a it also builds the differential
+# runs the tests. With the path of a libjanus.a it also builds the differential
 # harness against that library; what follows goes to rustc for the harness.
 #
-# usage: reference/build.sh [LIBENTRY [--cfg janus_report]]
+# usage: reference/build.sh [LIBRARY [--cfg janus_report]]
 set -eu
 
 library=
@@ -26,7 +26,7 @@ build --crate-name reference $uses reference/src/main.rs -o "$out/reference"
 build --test --crate-name tests reference/src/lib.rs -o "$out/tests"
 if [ -n "$library" ]; then
     build --crate-name differential $uses --check-cfg 'cfg(janus_report)' "$@" \
-        -L native="$library" -l static=entry \
+        -L native="$library" -l static=janus \
         reference/differential.rs -o "$out/differential"
 fi
 

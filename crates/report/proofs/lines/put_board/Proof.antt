@@ -1,0 +1,17 @@
+-- `report::lines::put_board` meets its contract. Assumes nothing.
+use borrow.Author.Needs.{needs}
+use Rattle.report.specs.Put.{after}
+use Rattle.report.proofs.lines.put_board.Statement.{statement}
+use Rattle.report.proofs.lines.put_board.Tie as tie
+
+pub put-board-spec : {M : Type 1} → statement M
+put-board-spec =
+    tie.close
+    (tie.spec
+    (λ c. search needs)
+    (λ c κs. search needs)
+    (λ c κs. search needs)
+    (λ c. search needs)
+    (λ c κs. search needs)
+    (λ c κs. search needs)
+    (λ c. rw (← c .before .before .before .before .before .highest .ensures) (after (after (c .before .before .before .before .put-one .ensures) (c .before .before .put-field .ensures)) (c .put-end .ensures))))

@@ -1,0 +1,19 @@
+-- `report::lines::put_tally` meets its contract. Assumes nothing.
+use borrow.Author.Needs.{needs}
+use Rattle.report.specs.Put.{after}
+use Rattle.report.proofs.lines.put_tally.Statement.{statement}
+use Rattle.report.proofs.lines.put_tally.Tie as tie
+
+pub put-tally-spec : {M : Type 1} → statement M
+put-tally-spec =
+    tie.close
+    (tie.spec
+    (λ c. search needs)
+    (λ c. search needs)
+    (λ c κs. search needs)
+    (λ c. search needs)
+    (λ c κs. search needs)
+    (λ c. search needs)
+    (λ c κs. search needs)
+    (λ c κs. search needs)
+    (λ c. after (after (after (c .before .before .before .before .before .before .before .before .put-one .ensures) (c .before .before .before .before .before .put-field .ensures)) (c .before .before .put-field2 .ensures)) (c .put-end .ensures)))

@@ -1,0 +1,15 @@
+-- `report::report` meets its contract: the lines are put on a blank page, one behind the other. Assumes nothing.
+use native.Mathlib.Omega.{arith}
+use borrow.Author.Needs.{needs}
+use Rattle.report.specs.Lines.{whole}
+use Rattle.report.proofs.report.Statement.{statement}
+use Rattle.report.proofs.report.Tie as tie
+
+pub report-spec : {M : Type 1} → statement M
+report-spec =
+    tie.close
+    (tie.spec
+    (λ c κs. search needs)
+    (λ c κs. search needs)
+    (λ c κs. search needs)
+    (λ c. whole _ _ (c .before .before .before .before .before .before .run .ensures) (c .before .before .put-outcome .ensures) (c .put-more .ensures) (omega arith)))
