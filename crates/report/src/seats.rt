@@ -48,15 +48,17 @@ fn put_standing(out: &mut [u8; 5120], at: usize, q: Process) -> usize
     ensures { λ r. ⌜ Put 50 (now (out .entry)) at (standingWords (q .phase) (q .round) (q .estimate)) (now (out .exit)) r ⌝ }
 {
     let phase = q.phase;
+    let round = q.round;
+    let value = q.estimate as usize;
     match shown_as(phase) {
         Shown::Out => put_words(out, at, b" out"),
         Shown::Working => {
-            let next = put_one(out, at, b" working", q.round);
-            put_field(out, next, q.estimate as usize)
+            let next = put_one(out, at, b" working", round);
+            put_field(out, next, value)
         }
-        Shown::Spent => put_one(out, at, b" spent", q.estimate as usize),
+        Shown::Spent => put_one(out, at, b" spent", value),
         Shown::Crashed => put_words(out, at, b" crashed"),
-        Shown::Decided => put_one(out, at, b" decided", q.estimate as usize),
+        Shown::Decided => put_one(out, at, b" decided", value),
     }
 }
 

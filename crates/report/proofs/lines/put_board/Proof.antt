@@ -8,10 +8,7 @@ pub put-board-spec : {M : Type 1} → statement M
 put-board-spec =
     tie.close
     (tie.spec
-    (λ c. search needs)
-    (λ c κs. search needs)
-    (λ c κs. search needs)
-    (λ c. search needs)
-    (λ c κs. search needs)
+    (λ c. search needs) (λ c κs. search needs) (λ c κs. search needs)
+    (λ c. search needs) (λ c κs. search needs)
     (λ c κs. search needs)
     (λ c. rw (← c .before .before .before .before .before .highest .ensures) (after (after (c .before .before .before .before .put-one .ensures) (c .before .before .put-field .ensures)) (c .put-end .ensures))))

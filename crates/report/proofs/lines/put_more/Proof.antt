@@ -1,4 +1,4 @@
--- `report::lines::put_more` meets its contract. Assumes nothing.
+-- `report::lines::put_more` meets its contract: a refused sheet ends the report, and any other has the three kinds of lines. Assumes nothing.
 use borrow.Author.Needs.{needs}
 use Rattle.report.specs.Put.{after, nothing}
 use Rattle.report.specs.Lines.{more-by}
@@ -11,7 +11,5 @@ put-more-spec =
     (tie.spec
     (λ c κs. search needs)
     (λ c. rw (more-by, ← c .before .rejected .ensures, c .if1 .taken) (nothing _ _))
-    (λ c κs. search needs)
-    (λ c κs. search needs)
-    (λ c κs. search needs)
+    (λ c κs. search needs) (λ c κs. search needs) (λ c κs. search needs)
     (λ c. rw (more-by, ← c .before .before .before .before .before .before .before .rejected .ensures, c .before .before .before .before .before .before .if1 .left) (after (after (c .before .before .before .before .put-tally .ensures) (c .before .before .put-board .ensures)) (c .put-seats .ensures))))

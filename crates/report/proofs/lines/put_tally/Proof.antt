@@ -8,12 +8,8 @@ pub put-tally-spec : {M : Type 1} → statement M
 put-tally-spec =
     tie.close
     (tie.spec
-    (λ c. search needs)
-    (λ c. search needs)
-    (λ c κs. search needs)
-    (λ c. search needs)
-    (λ c κs. search needs)
-    (λ c. search needs)
-    (λ c κs. search needs)
+    (λ c. search needs) (λ c. search needs) (λ c κs. search needs)
+    (λ c. search needs) (λ c κs. search needs)
+    (λ c. search needs) (λ c κs. search needs)
     (λ c κs. search needs)
     (λ c. after (after (after (c .before .before .before .before .before .before .before .before .put-one .ensures) (c .before .before .before .before .before .put-field .ensures)) (c .before .before .put-field2 .ensures)) (c .put-end .ensures)))

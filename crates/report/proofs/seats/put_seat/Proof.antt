@@ -8,8 +8,5 @@ pub put-seat-spec : {M : Type 1} → statement M
 put-seat-spec =
     tie.close
     (tie.spec
-    (λ c. search needs)
-    (λ c κs. search needs)
-    (λ c κs. search needs)
-    (λ c κs. search needs)
+    (λ c. search needs) (λ c κs. search needs) (λ c κs. search needs) (λ c κs. search needs)
     (λ c. after (after (c .before .before .before .before .put-one .ensures) (c .before .before .put-standing .ensures)) (c .put-end .ensures)))

@@ -1,7 +1,6 @@
 -- `report::seats::put_seats` meets its contract. The loop's invariant: the lines of the first p seats are put. Assumes nothing.
 use Prim.Native.Nat.{_*_, _-_, _≤_}
 use native.Mathlib.Omega.{arith}
-use native.Mathlib.Nat.{le-antisymm}
 use mathlib.Core.Path.{_≡_}
 use borrow.Author.Needs.{needs}
 use lib.ListN.{length, take}
@@ -32,7 +31,8 @@ again c =
 returns : tie.Need-returns Inv-loop μ-loop
 returns c =
     let a = c .before .before in
-    rw (← le-antisymm (a .loop .inv .1) (c .if1 .taken)) (within (a .loop .inv .2) (omega arith))
+    let all : a .before .args .t3 .n ≡ a .loop .p = omega arith in
+    rw all (within (a .loop .inv .2) (omega arith))
 
 -- Every seat is put.
 returns-2 : tie.Need-returns-2 Inv-loop μ-loop
