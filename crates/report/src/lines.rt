@@ -13,7 +13,7 @@ use model::Ending;
 use model::Session;
 
 // "Outcome refused CODE INDEX", "sheet refused CODE", "outcome finished" and "the number of entries carried out".
-pub fn put_outcome(out: &mut [u8; 5120], at: usize, ending: Ending, carried: usize) -> usize
+pub(crate) fn put_outcome(out: &mut [u8; 5120], at: usize, ending: Ending, carried: usize) -> usize
     requires { ⌜ at + 59 ≤ 5120 ⌝ }
     ensures { λ r. ⌜ Put 59 (now (out .entry)) at (outcomeLine ending carried) (now (out .exit)) r ⌝ }
 {
@@ -87,7 +87,13 @@ fn rejected(ending: Ending) -> bool
 }
 
 // "A refused sheet gives only" its line; any other the tally, the board and the seats.
-pub fn put_more(out: &mut [u8; 5120], at: usize, ending: Ending, s: Session, c: Counts) -> usize
+pub(crate) fn put_more(
+    out: &mut [u8; 5120],
+    at: usize,
+    ending: Ending,
+    s: Session,
+    c: Counts,
+) -> usize
     requires { ⌜ at + 4981 ≤ 5120 ⌝ }
     ensures { λ r. ⌜ Put 4981 (now (out .entry)) at (moreLines ending s c) (now (out .exit)) r ⌝ }
 {

@@ -6,7 +6,7 @@ ghost use Rattle.model.specs.Report.{decimal, field, newline};
 ghost use Rattle.report.specs.Put.{Put};
 
 // A text.
-pub fn put_words(out: &mut [u8; 5120], at: usize, words: &[u8]) -> usize
+pub(crate) fn put_words(out: &mut [u8; 5120], at: usize, words: &[u8]) -> usize
     requires { ⌜ at + length (now words) ≤ 5120 ⌝ }
     ensures { λ r. ⌜ Put (length (now (words .entry))) (now (out .entry)) at (now (words .entry)) (now (out .exit)) r ⌝ }
 {
@@ -31,7 +31,7 @@ fn put_number(out: &mut [u8; 5120], at: usize, v: usize) -> usize
 }
 
 // A space and a number.
-pub fn put_field(out: &mut [u8; 5120], at: usize, v: usize) -> usize
+pub(crate) fn put_field(out: &mut [u8; 5120], at: usize, v: usize) -> usize
     requires { ⌜ at + 21 ≤ 5120 ⌝ }
     ensures { λ r. ⌜ Put 21 (now (out .entry)) at (field v) (now (out .exit)) r ⌝ }
 {
@@ -40,7 +40,7 @@ pub fn put_field(out: &mut [u8; 5120], at: usize, v: usize) -> usize
 }
 
 // A line's end.
-pub fn put_end(out: &mut [u8; 5120], at: usize) -> usize
+pub(crate) fn put_end(out: &mut [u8; 5120], at: usize) -> usize
     requires { ⌜ at + 1 ≤ 5120 ⌝ }
     ensures { λ r. ⌜ Put 1 (now (out .entry)) at newline (now (out .exit)) r ⌝ }
 {
@@ -49,7 +49,7 @@ pub fn put_end(out: &mut [u8; 5120], at: usize) -> usize
 }
 
 // Words and a number.
-pub fn put_one(out: &mut [u8; 5120], at: usize, words: &[u8], v: usize) -> usize
+pub(crate) fn put_one(out: &mut [u8; 5120], at: usize, words: &[u8], v: usize) -> usize
     requires { ⌜ at + (length (now words) + 21) ≤ 5120 ⌝ }
     ensures { λ r. ⌜ Put (length (now (words .entry)) + 21) (now (out .entry)) at (now (words .entry) ++ field v) (now (out .exit)) r ⌝ }
 {

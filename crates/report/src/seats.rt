@@ -73,7 +73,7 @@ fn put_seat(out: &mut [u8; 5120], at: usize, p: usize, q: Process) -> usize
 }
 
 // "Seats 0 to n - 1".
-pub fn put_seats(out: &mut [u8; 5120], at: usize, s: Session) -> usize
+pub(crate) fn put_seats(out: &mut [u8; 5120], at: usize, s: Session) -> usize
     requires { ⌜ at + 4864 ≤ 5120 ⌝ }
     ensures { λ r. ⌜ Put 4864 (now (out .entry)) at (seatLines 0 (take (s .n) (s .processes))) (now (out .exit)) r ⌝ }
 {

@@ -10,7 +10,7 @@ use model::Phase;
 use model::Process;
 
 // The seat that the entry names.
-pub fn seat_of(e: Entry) -> usize
+pub(crate) fn seat_of(e: Entry) -> usize
     ensures { λ r. ⌜ r ≡ seatOf e ⌝ }
 {
     match e {
@@ -23,7 +23,7 @@ pub fn seat_of(e: Entry) -> usize
 }
 
 // The row of the seats' records to look at: that of seat p, and the first where n or more is named, which is refused.
-pub fn row(n: usize, p: usize) -> usize
+pub(crate) fn row(n: usize, p: usize) -> usize
     ensures { λ r. ⌜ r ≡ rowOf n p ⌝ }
 {
     if p < n { p } else { 0 }
@@ -37,7 +37,7 @@ fn seated(n: usize, p: usize, later: u32) -> u32
 }
 
 // 01, "Numbers returned", Order: "each entry 13 first, then its operation's own order"; 0 for no refusal.
-pub fn refusal_of(n: usize, q: Process, c: Counts, e: Entry) -> u32
+pub(crate) fn refusal_of(n: usize, q: Process, c: Counts, e: Entry) -> u32
     ensures { λ r. ⌜ r ≡ refusalOf n q c e ⌝ }
 {
     let phase = q.phase;
@@ -51,7 +51,7 @@ pub fn refusal_of(n: usize, q: Process, c: Counts, e: Entry) -> u32
 }
 
 // 01, "One turn at a time": the one register operation of the entry.
-pub fn access_of(limit: usize, q: Process, e: Entry) -> Access
+pub(crate) fn access_of(limit: usize, q: Process, e: Entry) -> Access
     ensures { λ r. ⌜ r ≡ accessOf limit q e ⌝ }
 {
     match e {
@@ -64,7 +64,7 @@ pub fn access_of(limit: usize, q: Process, e: Entry) -> Access
 }
 
 // 01, "One turn at a time": what the seat becomes by the entry, where x was read.
-pub fn becomes(window: usize, limit: usize, q: Process, e: Entry, x: u32) -> Process
+pub(crate) fn becomes(window: usize, limit: usize, q: Process, e: Entry, x: u32) -> Process
     ensures { λ r. ⌜ r ≡ becomesOf window limit q e x ⌝ }
 {
     match e {

@@ -6,7 +6,7 @@ ghost use Rattle.model.specs.Sound.{every};
 use crate::words;
 
 // "10: sheet under 4 or over 65,535 bytes, over 16 pairs, or too short for its pairs."
-pub fn has_header(s: &[u8]) -> bool
+pub(crate) fn has_header(s: &[u8]) -> bool
     ensures { λ r. ⌜ r ≡ hasHeader (now (s .entry)) ⌝ }
 {
     if s.len() < 4 {
@@ -23,7 +23,7 @@ pub fn has_header(s: &[u8]) -> bool
 }
 
 // "11: pairs unsorted, overlapping, before the end of the pairs, or past the sheet": from is where the run before ended.
-pub fn in_order(s: &[u8]) -> bool
+pub(crate) fn in_order(s: &[u8]) -> bool
     ensures { λ r. ⌜ r ≡ inOrder (headerEnd (now (s .entry))) (length (now (s .entry))) (runs (now (s .entry))) ⌝ }
 {
     let count = words::run_count(s);
@@ -45,7 +45,7 @@ pub fn in_order(s: &[u8]) -> bool
 }
 
 // "12: a run's length not a multiple of 6."
-pub fn whole(s: &[u8]) -> bool
+pub(crate) fn whole(s: &[u8]) -> bool
     ensures { λ r. ⌜ r ≡ every wholeEntries (runs (now (s .entry))) ⌝ }
 {
     let count = words::run_count(s);

@@ -5,32 +5,32 @@ ghost use Rattle.model.specs.Schedule.{byteAt, runCount, word16 as word16At, wo
 ghost use Rattle.schedule.specs.Places.{IsRun};
 
 // A byte as a number of 64 bits, and as one of 32.
-pub fn wide(x: u8) -> usize
+pub(crate) fn wide(x: u8) -> usize
     ensures { λ r. ⌜ r ≡ x ⌝ }
 {
     x as usize
 }
 
-pub fn wide32(x: u8) -> u32
+pub(crate) fn wide32(x: u8) -> u32
     ensures { λ r. ⌜ r ≡ x ⌝ }
 {
     x as u32
 }
 
 // Four bytes as a number, the lowest first.
-pub fn joined(a: u8, b: u8, c: u8, d: u8) -> u32
+pub(crate) fn joined(a: u8, b: u8, c: u8, d: u8) -> u32
     ensures { λ r. ⌜ r ≡ a + 256 * b + 65536 * (c + 256 * d) ⌝ }
 {
     wide32(a) + 256 * wide32(b) + 65536 * (wide32(c) + 256 * wide32(d))
 }
 
-pub fn byte(s: &[u8], i: usize) -> u8
+pub(crate) fn byte(s: &[u8], i: usize) -> u8
     ensures { λ r. ⌜ r ≡ byteAt (now (s .entry)) i ⌝ }
 {
     if i < s.len() { s[i] } else { 0 }
 }
 
-pub fn word16(s: &[u8], i: usize) -> usize
+pub(crate) fn word16(s: &[u8], i: usize) -> usize
     ensures { λ r. ⌜ r ≡ word16At (now (s .entry)) i ⌝ }
     ensures small { λ r. ⌜ r < 65536 ⌝ }
 {
@@ -41,7 +41,7 @@ pub fn word16(s: &[u8], i: usize) -> usize
     }
 }
 
-pub fn word32(s: &[u8], i: usize) -> u32
+pub(crate) fn word32(s: &[u8], i: usize) -> u32
     ensures { λ r. ⌜ r ≡ word32At (now (s .entry)) i ⌝ }
 {
     if i < s.len() {
@@ -52,7 +52,7 @@ pub fn word32(s: &[u8], i: usize) -> u32
 }
 
 // "Byte 1: the count p of pairs."
-pub fn run_count(s: &[u8]) -> usize
+pub(crate) fn run_count(s: &[u8]) -> usize
     ensures { λ r. ⌜ r ≡ runCount (now (s .entry)) ⌝ }
     ensures small { λ r. ⌜ r < 256 ⌝ }
 {
@@ -66,7 +66,7 @@ pub struct Span {
 }
 
 // "Then p pairs, 16-bit offset and 16-bit length", of which this is the one numbered i.
-pub fn run_at(s: &[u8], i: usize) -> Span
+pub(crate) fn run_at(s: &[u8], i: usize) -> Span
     requires { ⌜ i < 256 ⌝ }
     ensures { λ r. ⌜ IsRun (now (s .entry)) i (r .offset) (r .size) ⌝ }
 {
