@@ -4,21 +4,8 @@ use mathlib.Core.Bool.{Bool, true, false, cond, not, _&&_, _||_}
 use mathlib.Core.List.{List, [], _∷_}
 use lib.Dec.{leb, ltb, eqb}
 use Rattle.model.specs.declared.Phase.{Phase}
-use Rattle.model.specs.declared.Phase.the-variants.{
-  Idle,
-  Waiting,
-  Write,
-  Scan,
-  Adopt,
-  Compare,
-  Flag,
-  CheckMark,
-  CheckValue,
-  Commit,
-  Exhausted,
-  Crashed,
-  Decided,
-}
+use Rattle.model.specs.declared.Phase.the-variants.{Idle, Waiting, Write, Scan, Adopt, Compare, Flag, CheckMark}
+use Rattle.model.specs.declared.Phase.the-variants.{CheckValue, Commit, Exhausted, Crashed, Decided}
 use Rattle.model.specs.declared.Standing.{Standing}
 use Rattle.model.specs.declared.Standing.the-variants.{Outside, Active, Spent, Gone}
 use Rattle.model.specs.declared.Session.{Session}

@@ -5,21 +5,8 @@ use mathlib.Core.List.{List, [], _∷_}
 use lib.ListN.{drop}
 use lib.Dec.{leb, ltb, eqb}
 use Rattle.model.specs.declared.Phase.{Phase}
-use Rattle.model.specs.declared.Phase.the-variants.{
-  Idle,
-  Waiting,
-  Write,
-  Scan,
-  Adopt,
-  Compare,
-  Flag,
-  CheckMark,
-  CheckValue,
-  Commit,
-  Exhausted,
-  Crashed,
-  Decided,
-}
+use Rattle.model.specs.declared.Phase.the-variants.{Idle, Waiting, Write, Scan, Adopt, Compare, Flag, CheckMark}
+use Rattle.model.specs.declared.Phase.the-variants.{CheckValue, Commit, Exhausted, Crashed, Decided}
 use Rattle.model.specs.declared.Process.{Process}
 use Rattle.model.specs.declared.Session.{Session}
 use Rattle.model.specs.Window.{window}

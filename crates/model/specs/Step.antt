@@ -6,21 +6,8 @@ use mathlib.Core.Bool.{Bool, true, false, cond}
 use lib.ListN.{set}
 use lib.Dec.{leb, ltb, eqb}
 use Rattle.model.specs.declared.Phase.{Phase}
-use Rattle.model.specs.declared.Phase.the-variants.{
-  Idle,
-  Waiting,
-  Write,
-  Scan,
-  Adopt,
-  Compare,
-  Flag,
-  CheckMark,
-  CheckValue,
-  Commit,
-  Exhausted,
-  Crashed,
-  Decided,
-}
+use Rattle.model.specs.declared.Phase.the-variants.{Idle, Waiting, Write, Scan, Adopt, Compare, Flag, CheckMark}
+use Rattle.model.specs.declared.Phase.the-variants.{CheckValue, Commit, Exhausted, Crashed, Decided}
 use Rattle.model.specs.declared.Access.{Access}
 use Rattle.model.specs.declared.Access.the-variants.{
   Nothing,
@@ -39,7 +26,7 @@ use Rattle.model.specs.Board.{valueAt, markAt, processAt, withProcess}
 -- ---- which register
 
 -- The access of a process in round r, at round limit L, with the leader hint. (A round above L, which no sound session has,
--- counts as L: here and in `nextPhase`.)
+-- counts as L: here and in `nextAt`.)
 unfoldable pub accessAt : (limit r : ℕ) → Phase → (leader : Bool) → Access
 accessAt L r Idle leader = Nothing
 accessAt L r Waiting false = Nothing
@@ -83,22 +70,34 @@ process φ r e = record { phase = φ; round = r; estimate = e }
 unfoldable pub goOn : (W r i : ℕ) → Phase
 goOn W r i = cond (ltb (i + 1) (min r W)) (Compare (i + 1)) (cond (leb W r) (CheckMark 0) Waiting)
 
--- From round r with estimate e, by the value x that was read; W and L are the window and the round limit.
+-- From round r with estimate e, by the value x that was read; W and L are the window and the round limit. The document's words for
+-- each stance stand above its clause.
 unfoldable pub nextAt : (W L r e : ℕ) → Phase → (leader : Bool) → (x : ℕ) → Process
 nextAt W L r e Idle leader x = process Idle r e
+-- gate: "the rules are read in this order. Hint no: nothing happens.
 nextAt W L r e Waiting false x = process Waiting r e
+-- Round equal to L: spent. Otherwise the round r grows by one and T[r] is read; blank: put; filled: take L where r = L, else seek r + 1."
 nextAt W L r e Waiting true x =
     cond (ltb r L)
     (process (cond (eqb x 0) Write (cond (ltb (r + 1) L) (Scan (r + 2)) (Adopt L))) (r + 1) e)
     (process Exhausted r e)
+-- put: "write the own value to T[r]; compare 0."
 nextAt W L r e Write leader x = process (Compare 0) r e
+-- seek k: "read T[k]. Blank: take k - 1. Filled: take L if k = L, else seek k + 1."
 nextAt W L r e (Scan k) leader x = process (cond (eqb x 0) (Adopt (k - 1)) (cond (ltb k L) (Scan (k + 1)) (Adopt L))) r e
+-- take k: "read T[k] again, adopt it (a blank, impossible after opening, leaves the own value), round becomes k; compare 0."
 nextAt W L r e (Adopt k) leader x = process (Compare 0) k (cond (eqb x 0) e x)
+-- compare i: "read T[r - i]. Different from the own value: flag i. Equal: go on."
 nextAt W L r e (Compare i) leader x = process (cond (eqb x e) (goOn W r i) (Flag i)) r e
+-- flag i: "mark C[r - i]; go on."
 nextAt W L r e (Flag i) leader x = process (goOn W r i) r e
+-- check-mark i: "read C[r - i]; marked: gate; else check-value i."
 nextAt W L r e (CheckMark i) leader x = process (cond (eqb x 0) (CheckValue i) Waiting) r e
+-- check-value i: "read T[r - i]; different: gate; else check-mark i + 1 while i + 1 < W, then commit."
 nextAt W L r e (CheckValue i) leader x = process (cond (eqb x e) (cond (ltb (i + 1) W) (CheckMark (i + 1)) Commit) Waiting) r e
+-- commit: "write the own value to D; gate."
 nextAt W L r e Commit leader x = process Waiting r e
+-- spent, crashed and decided take no work turn (9, 8): nothing changes
 nextAt W L r e Exhausted leader x = process Exhausted r e
 nextAt W L r e Crashed leader x = process Crashed r e
 nextAt W L r e Decided leader x = process Decided r e
