@@ -9,15 +9,8 @@ use Rattle.model.specs.declared.Phase.{Phase}
 use Rattle.model.specs.declared.Phase.the-variants.{Idle, Waiting, Write, Scan, Adopt, Compare, Flag, CheckMark}
 use Rattle.model.specs.declared.Phase.the-variants.{CheckValue, Commit, Exhausted, Crashed, Decided}
 use Rattle.model.specs.declared.Access.{Access}
-use Rattle.model.specs.declared.Access.the-variants.{
-  Nothing,
-  ReadValue,
-  WriteValue,
-  ReadMark,
-  SetMark,
-  ReadDecision,
-  WriteDecision,
-}
+use Rattle.model.specs.declared.Access.the-variants.{Nothing, ReadValue, WriteValue, ReadMark, SetMark}
+use Rattle.model.specs.declared.Access.the-variants.{ReadDecision, WriteDecision}
 use Rattle.model.specs.declared.Process.{Process}
 use Rattle.model.specs.declared.Session.{Session}
 use Rattle.model.specs.declared.Counts.{Counts}

@@ -20,7 +20,7 @@ use Rattle.model.specs.declared.Ending.the-variants.{Finished, Refused, BudgetE
 use Rattle.model.specs.declared.Ran.{Ran}
 use Rattle.model.specs.Runner.{run}
 use Rattle.model.specs.Report.{bytes, field, outcomeLine, tallyLine, highestFrom, boardLine, standingWords, seatLine, seatLines}
-use Rattle.model.specs.Report.{moreLines, reportBudget, report}
+use Rattle.model.specs.Report.{moreLines, report}
 use Rattle.report.specs.Put.{Put, after, within, on-blank}
 use Rattle.report.specs.declared.seats.Shown as shown
 use Rattle.report.specs.declared.seats.Shown.{Shown}

@@ -31,23 +31,9 @@ use Rattle.schedule.specs.declared.Place.{Place}
 use Rattle.schedule.specs.declared.Handed.the-variants.{Next, End}
 use Rattle.schedule.specs.Places.{handed, advanced, rest, Proper}
 use Rattle.schedule.specs.PlaceLaws.{advanced-proper, rest-next, rest-end}
-use Rattle.runner.specs.Uniform.{
-  seatOf,
-  rowOf,
-  refusalOf,
-  accessOf,
-  becomes,
-  after,
-  countsAfter,
-  performed-uniform,
-  accepted-seat,
-  accepted-counts,
-  refusal-row,
-  row-is,
-  row-below,
-  entry-range,
-  entry-sound,
-}
+use Rattle.runner.specs.Uniform.{seatOf, rowOf, refusalOf, accessOf, becomes, after, countsAfter}
+use Rattle.runner.specs.Uniform.{performed-uniform, accepted-seat, accepted-counts, refusal-row, row-is}
+use Rattle.runner.specs.Uniform.{row-below, entry-range, entry-sound}
 
 -- A session to start from: sound, at its window.
 pub record Opened (W : ℕ) (s : Session) : Type 0 where

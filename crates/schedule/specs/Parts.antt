@@ -8,16 +8,8 @@ use lib.Dec.{leb, eqb}
 use Rattle.model.specs.Refusal.{refusal, openTests}
 use Rattle.model.specs.Sound.{every}
 use Rattle.model.specs.Window.{window}
-use Rattle.model.specs.Schedule.{
-  processCount,
-  roundLimit,
-  runs,
-  headerEnd,
-  hasHeader,
-  inOrder,
-  wholeEntries,
-  scheduleRefusal,
-}
+use Rattle.model.specs.Schedule.{processCount, roundLimit, runs, headerEnd, hasHeader, inOrder, wholeEntries}
+use Rattle.model.specs.Schedule.{scheduleRefusal}
 
 -- The refusal of opening what the header asks for: 1, 2 or none.
 abbrev pub openingOf : List ℕ → ℕ

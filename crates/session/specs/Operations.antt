@@ -23,21 +23,8 @@ use Rattle.model.specs.Public.{ifSound, ifSoundCounted}
 use Rattle.laws.specs.Accepted.{none-holds}
 use Rattle.laws.specs.Ranges.{InRange}
 use Rattle.registers.specs.Registers.{valuesAfter, marksAfter, decisionAfter, foundIn, withTurn, found-in, turn-is, access-all}
-use Rattle.session.specs.Answers.{
-  tested,
-  answer,
-  refuses,
-  accepts,
-  kept,
-  keptCounts,
-  chosen-is,
-  changed-is,
-  stepped-is,
-  Admitted,
-  admitted,
-  few,
-  index-is,
-}
+use Rattle.session.specs.Answers.{tested, answer, refuses, accepts, kept, keptCounts, chosen-is}
+use Rattle.session.specs.Answers.{changed-is, stepped-is, Admitted, admitted, few, index-is}
 
 -- The tests of each operation after the process' number, on the record of the process.
 abbrev pub proposeOwn : (v : ℕ) → Process → List Test

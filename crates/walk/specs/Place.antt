@@ -4,32 +4,12 @@ use mathlib.Core.Path.{_≡_}
 use mathlib.Core.Bool.{Bool, true, false}
 use mathlib.Core.List.{List, [], _∷_}
 use Rattle.model.specs.declared.Phase.{Phase}
-use Rattle.model.specs.declared.Phase.the-variants.{
-  Idle,
-  Waiting,
-  Write,
-  Scan,
-  Adopt,
-  Compare,
-  Flag,
-  CheckMark,
-  CheckValue,
-  Commit,
-  Exhausted,
-  Crashed,
-  Decided,
-}
+use Rattle.model.specs.declared.Phase.the-variants.{Idle, Waiting, Write, Scan, Adopt, Compare, Flag, CheckMark}
+use Rattle.model.specs.declared.Phase.the-variants.{CheckValue, Commit, Exhausted, Crashed, Decided}
 use Rattle.model.specs.declared.Process.{Process}
 use Rattle.model.specs.declared.Access.{Access}
-use Rattle.model.specs.declared.Access.the-variants.{
-  Nothing,
-  ReadValue,
-  WriteValue,
-  ReadMark,
-  SetMark,
-  ReadDecision,
-  WriteDecision,
-}
+use Rattle.model.specs.declared.Access.the-variants.{Nothing, ReadValue, WriteValue, ReadMark, SetMark}
+use Rattle.model.specs.declared.Access.the-variants.{ReadDecision, WriteDecision}
 use Rattle.history.specs.Event.{Event, write, flag, commit, top, last, Proposed, Wrote, Written, Flagged, Committed, Compared, Passed}
 
 -- What a work turn adds to the past (document 01, "The agreement rule"): "written to the register of round r: the own value, at

@@ -12,4 +12,5 @@ report-spec =
     (λ c κs. search needs)
     (λ c κs. search needs)
     (λ c κs. search needs)
-    (λ c. whole _ _ (c .before .before .before .before .before .before .run .ensures) (c .before .before .put-outcome .ensures) (c .put-more .ensures) (omega arith)))
+    (λ c. let d = c .before .before in
+    whole _ _ (d .before .before .before .before .run .ensures) (d .put-outcome .ensures) (c .put-more .ensures) (omega arith)))

@@ -11,4 +11,5 @@ put-board-spec =
     (λ c. search needs) (λ c κs. search needs) (λ c κs. search needs)
     (λ c. search needs) (λ c κs. search needs)
     (λ c κs. search needs)
-    (λ c. rw (← c .before .before .before .before .before .highest .ensures) (after (after (c .before .before .before .before .put-one .ensures) (c .before .before .put-field .ensures)) (c .put-end .ensures))))
+    (λ c. let d = c .before .before .before .before in
+    rw (← d .before .highest .ensures) (after (after (d .put-one .ensures) (c .before .before .put-field .ensures)) (c .put-end .ensures))))

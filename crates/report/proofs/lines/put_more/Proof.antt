@@ -12,4 +12,6 @@ put-more-spec =
     (λ c κs. search needs)
     (λ c. rw (more-by, ← c .before .rejected .ensures, c .if1 .taken) (nothing _ _))
     (λ c κs. search needs) (λ c κs. search needs) (λ c κs. search needs)
-    (λ c. rw (more-by, ← c .before .before .before .before .before .before .before .rejected .ensures, c .before .before .before .before .before .before .if1 .left) (after (after (c .before .before .before .before .put-tally .ensures) (c .before .before .put-board .ensures)) (c .put-seats .ensures))))
+    (λ c. let d = c .before .before .before .before .before .before in
+    rw (more-by, ← d .before .rejected .ensures, d .if1 .left)
+    (after (after (c .before .before .before .before .put-tally .ensures) (c .before .before .put-board .ensures)) (c .put-seats .ensures))))

@@ -12,4 +12,6 @@ put-tally-spec =
     (λ c. search needs) (λ c κs. search needs)
     (λ c. search needs) (λ c κs. search needs)
     (λ c κs. search needs)
-    (λ c. after (after (after (c .before .before .before .before .before .before .before .before .put-one .ensures) (c .before .before .before .before .before .put-field .ensures)) (c .before .before .put-field2 .ensures)) (c .put-end .ensures)))
+    (λ c. let d = c .before .before .before .before .before in
+    after (after (after (d .before .before .before .put-one .ensures) (d .put-field .ensures)) (c .before .before .put-field2 .ensures))
+    (c .put-end .ensures)))

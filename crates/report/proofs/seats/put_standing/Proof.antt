@@ -16,8 +16,13 @@ put-standing-spec =
     (λ c. search needs) (λ c. search needs) (λ c κs. search needs)
     (λ c. search needs) (λ c. search needs) (λ c κs. search needs)
     (λ c. search needs) (λ c. search needs) (λ c κs. search needs)
-    (λ c. rw (standing-words, ← c .before .before .before .before .before .shown-as .ensures, c .before .before .before .enum-told .given .1) (within (c .put-words .ensures) (omega arith)))
-    (λ c. rw (standing-words, ← c .before .before .before .before .before .before .before .shown-as .ensures, c .before .before .before .before .before .enum-told2 .given .1) (within (after (c .before .before .put-one .ensures) (c .put-field .ensures)) (omega arith)))
-    (λ c. rw (standing-words, ← c .before .before .before .before .before .shown-as .ensures, c .before .before .before .enum-told3 .given .1) (within (c .put-one2 .ensures) (omega arith)))
-    (λ c. rw (standing-words, ← c .before .before .before .before .before .shown-as .ensures, c .before .before .before .enum-told4 .given .1) (within (c .put-words2 .ensures) (omega arith)))
-    (λ c. rw (standing-words, ← c .before .before .before .before .before .shown-as .ensures, c .before .before .before .enum-told5 .given .1) (within (c .put-one3 .ensures) (omega arith))))
+    (λ c. let t = c .before .before .before in
+    rw (standing-words, ← t .before .before .shown-as .ensures, t .enum-told .given .1) (within (c .put-words .ensures) (omega arith)))
+    (λ c. let t = c .before .before .before .before .before in
+    rw (standing-words, ← t .before .before .shown-as .ensures, t .enum-told2 .given .1) (within (after (c .before .before .put-one .ensures) (c .put-field .ensures)) (omega arith)))
+    (λ c. let t = c .before .before .before in
+    rw (standing-words, ← t .before .before .shown-as .ensures, t .enum-told3 .given .1) (within (c .put-one2 .ensures) (omega arith)))
+    (λ c. let t = c .before .before .before in
+    rw (standing-words, ← t .before .before .shown-as .ensures, t .enum-told4 .given .1) (within (c .put-words2 .ensures) (omega arith)))
+    (λ c. let t = c .before .before .before in
+    rw (standing-words, ← t .before .before .shown-as .ensures, t .enum-told5 .given .1) (within (c .put-one3 .ensures) (omega arith))))
