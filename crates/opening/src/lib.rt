@@ -40,7 +40,7 @@ pub fn open_refusal(n: usize, limit: usize) -> u32
     if 64 < n {
         return 1; // too many
     }
-    if limit < choice::window(n as u8) {
+    if limit < window::window(n as u8) {
         return 2;
     }
     if 256 < limit { 2 } else { 0 }

@@ -29,18 +29,11 @@ pub fn standing(phase: Phase) -> Standing
     }
 }
 
-// 01, "Numbers returned", 16: whether some count has reached its largest number.
-pub fn full(c: Counts) -> bool
-    ensures { λ r. ⌜ r ≡ fullOf c ⌝ }
-{
-    (4294967295 <= c.reads) | (4294967295 <= c.writes) | (4294967295 <= c.contested)
-}
-
 // 01, "Numbers returned", 16; 0 for no refusal, here and below.
 fn full_refusal(c: Counts) -> u32
     ensures { λ r. ⌜ r ≡ refusal ((fullOf c, 16) ∷ []) ⌝ }
 {
-    if full(c) { 16 } else { 0 }
+    if counts::full(c) { 16 } else { 0 }
 }
 
 // 01, "Numbers returned", proposal: 5, 6, the tests of `proposeTests` after the process' number.

@@ -85,7 +85,7 @@ fn carry(schedule: &[u8], budget: usize, window: usize, mut s: Session) -> Ran
             Access::WriteDecision => s.decision = q.estimate,
         }
         s.processes[p] = turns::becomes(window, s.limit, q, e, x);
-        c = choice::counted(a, c);
+        c = counts::counted(a, c);
         k += 1;
         place = reader::place_after(schedule, place);
     }
@@ -109,7 +109,7 @@ pub fn run(schedule: &[u8], budget: usize) -> Ran
     carry(
         schedule,
         budget,
-        choice::window(n),
+        window::window(n),
         opening::opened(wide(n), limit),
     )
 }

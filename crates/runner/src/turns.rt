@@ -56,7 +56,7 @@ pub(crate) fn access_of(limit: usize, q: Process, e: Entry) -> Access
 {
     match e {
         Entry::Propose(_, _) => Access::Nothing,
-        Entry::Step(_, leader) => choice::access(limit, q, leader),
+        Entry::Step(_, leader) => access::access(limit, q, leader),
         Entry::Learn(_) => Access::ReadDecision,
         Entry::Crash(_) => Access::Nothing,
         Entry::Malformed => Access::Nothing,
@@ -73,8 +73,8 @@ pub(crate) fn becomes(window: usize, limit: usize, q: Process, e: Entry, x: u32)
             round: q.round,
             estimate: v,
         },
-        Entry::Step(_, leader) => choice::next(window, limit, q, leader, x),
-        Entry::Learn(_) => choice::learnt(q, x),
+        Entry::Step(_, leader) => next::next(window, limit, q, leader, x),
+        Entry::Learn(_) => moves::learnt(q, x),
         Entry::Crash(_) => Process {
             phase: Phase::Crashed,
             round: q.round,

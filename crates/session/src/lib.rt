@@ -1,14 +1,11 @@
 // The operations on a session: proposing, stepping, learning and crashing. Each makes its tests in their order, and changes the
 // session where it stands if none of them refuses.
 ghost use mathlib.Core.Path.{_≡_};
-ghost use Rattle.model.specs.Step.{process};
 ghost use Rattle.model.specs.Public.{propose as proposeOf, step as stepOf, learn as learnOf, crash as crashOf};
 ghost use Rattle.session.specs.Answers.{tested};
 use model::Access;
 use model::Changed;
 use model::Counts;
-use model::Phase;
-use model::Process;
 use model::Session;
 use model::Stepped;
 
@@ -23,30 +20,6 @@ pub fn first_refusal(sound: bool, n: usize, p: usize, own: u32) -> u32
     if n <= p { 4 } else { own }
 }
 
-// 01, "One turn at a time": a proposal moves a seat from out to gate with own value v.
-pub fn proposed(q: Process, v: u32) -> Process
-    ensures { λ r. ⌜ r ≡ process Phase.Waiting (q .round) v ⌝ }
-{
-    Process {
-        phase: Phase::Waiting,
-        round: q.round,
-        estimate: v,
-    }
-}
-
-// 01, "One turn at a time": a crash moves a working or spent seat to crashed; round and own value remain.
-pub fn crashed(q: Process) -> Process
-    ensures { λ r. ⌜ r ≡ process Phase.Crashed (q .round) (q .estimate) ⌝ }
-{
-    let round = q.round;
-    let estimate = q.estimate;
-    Process {
-        phase: Phase::Crashed,
-        round: round,
-        estimate: estimate,
-    }
-}
-
 // 01, "One turn at a time", proposal. Here and below, i is p wherever the call is accepted: where it is not, the tests refuse.
 pub fn propose(s: Session, p: usize, v: u32) -> Changed
     ensures { λ r. ⌜ r ≡ proposeOf s p v ⌝ }
@@ -58,7 +31,7 @@ pub fn propose(s: Session, p: usize, v: u32) -> Changed
     let code = first_refusal(soundness::sound(s), s.n, p, own);
     let mut after = s;
     if code == 0 {
-        after.processes[i] = proposed(q, v);
+        after.processes[i] = moves::proposed(q, v);
     }
     Changed {
         code: code,
@@ -77,7 +50,7 @@ pub fn crash(s: Session, p: usize) -> Changed
     let code = first_refusal(soundness::sound(s), s.n, p, own);
     let mut after = s;
     if code == 0 {
-        after.processes[i] = crashed(q);
+        after.processes[i] = moves::crashed(q);
     }
     Changed {
         code: code,
@@ -99,14 +72,14 @@ pub fn step(s: Session, p: usize, leader: bool, c: Counts) -> Stepped
     let mut after = s;
     let mut counts = c;
     if code == 0 {
-        let a = choice::access(limit, q, leader);
+        let a = access::access(limit, q, leader);
         let x = registers::read(&after.values, &after.marks, after.decision, a);
         registers::write_value(&mut after.values, a, q.estimate);
         registers::write_mark(&mut after.marks, a);
         after.decision = registers::decision_after(after.decision, a, q.estimate);
-        let window = choice::window(n as u8);
-        after.processes[i] = choice::next(window, limit, q, leader, x);
-        counts = choice::counted(a, c);
+        let window = window::window(n as u8);
+        after.processes[i] = next::next(window, limit, q, leader, x);
+        counts = counts::counted(a, c);
     }
     Stepped {
         code: code,
@@ -127,8 +100,8 @@ pub fn learn(s: Session, p: usize, c: Counts) -> Stepped
     let mut after = s;
     let mut counts = c;
     if code == 0 {
-        after.processes[i] = choice::learnt(q, after.decision);
-        counts = choice::counted(Access::ReadDecision, c);
+        after.processes[i] = moves::learnt(q, after.decision);
+        counts = counts::counted(Access::ReadDecision, c);
     }
     Stepped {
         code: code,

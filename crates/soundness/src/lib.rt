@@ -173,5 +173,5 @@ pub fn sound(s: Session) -> bool
     if 64 < n {
         return false;
     }
-    sound_at(choice::window(n as u8), s)
+    sound_at(window::window(n as u8), s)
 }

@@ -1,2 +1,0 @@
-pub mod Root
-pub mod Turn
