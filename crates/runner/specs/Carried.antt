@@ -3,20 +3,20 @@ use Prim.Native.Nat.{ℕ, suc, zero, _+_, _-_, _≤_, _<_}
 use native.Mathlib.Omega.{arith}
 use native.Mathlib.Numerals.{add-one}
 use mathlib.Core.Path.{_≡_, refl, sym, _∙_, ap, subst₃}
-use mathlib.Core.Bool.{true, cond}
+use mathlib.Core.Bool.{Bool, true, false, cond, _||_, true≢false}
 use mathlib.Core.List.{List, _∷_}
 use lib.ListN.{length}
-use borrow.Author.Tests.{ne-eqb, not-false, leb-true}
+use lib.Dec.{leb}
+use borrow.Author.Tests.{ne-eqb, not-false, leb-true, leb-false}
 use Rattle.model.specs.declared.Access.{Access}
-use Rattle.model.specs.declared.Process.{Process}
 use Rattle.model.specs.declared.Session.{Session}
 use Rattle.model.specs.declared.Counts.{Counts}
 use Rattle.model.specs.declared.Entry.{Entry}
 use Rattle.model.specs.declared.Ending.the-variants.{Finished, Refused, BudgetEnded, Rejected}
 use Rattle.model.specs.declared.Ran.{Ran}
 use Rattle.model.specs.Window.{window}
-use Rattle.model.specs.Board.{processAt, withProcess, opened, maxProcesses, maxRounds}
-use Rattle.model.specs.Step.{found, written, turn, counted}
+use Rattle.model.specs.Board.{processAt, opened, maxProcesses, maxRounds}
+use Rattle.model.specs.Step.{turn, counted}
 use Rattle.model.specs.Refusal.{full}
 use Rattle.model.specs.Sound.{soundAt}
 use Rattle.model.specs.Runner.{ran, runFrom, noCounts, run}
@@ -24,16 +24,14 @@ use Rattle.model.specs.Schedule.{processCount, roundLimit, entries, scheduleTes
 use Rattle.basics.specs.Bools.{and-left}
 use Rattle.laws.specs.Accepted.{none-holds}
 use Rattle.laws.specs.Operations.{written-same, opened-sound, open-accepted}
-use Rattle.laws.specs.Ranges.{InRange}
 use Rattle.laws.specs.Sounds.{sound-facts}
 use Rattle.laws.specs.Windows.{window-least}
 use Rattle.schedule.specs.declared.Place.{Place}
 use Rattle.schedule.specs.declared.Handed.the-variants.{Next, End}
 use Rattle.schedule.specs.Places.{handed, advanced, rest, Proper}
 use Rattle.schedule.specs.PlaceLaws.{advanced-proper, rest-next, rest-end}
-use Rattle.runner.specs.Uniform.{seatOf, rowOf, refusalOf, accessOf, becomes, after, countsAfter}
-use Rattle.runner.specs.Uniform.{performed-uniform, accepted-seat, accepted-counts, refusal-row, row-is}
-use Rattle.runner.specs.Uniform.{row-below, entry-range, entry-sound}
+use Rattle.runner.specs.Uniform.{seatOf, refusalOf, ownRefusal, haltOf, accessOf, after, countsAfter}
+use Rattle.runner.specs.Uniform.{performed-uniform, seated, unseated, accepted-counts, entry-sound}
 
 -- A session to start from: sound, at its window.
 pub record Opened (W : ℕ) (s : Session) : Type 0 where
@@ -88,49 +86,26 @@ module _ (b k : ℕ) (s : Session) (c : Counts) (e : Entry) (es : List Entry) wh
 
 -- ---- where the code stands in a turn
 
--- An entry e, the row p that the code looks at and the number r of the refusal.
+-- An entry e, its seat p, which is one of the n, and the number r of its own refusal.
 pub record Entered (s : Session) (c : Counts) (e : Entry) (p r : ℕ) : Type 0 where
-  pub row : p ≡ rowOf (s .n) (seatOf e)
-  pub code : r ≡ refusalOf (s .n) (processAt s p) c e
-
--- What the code's own match on the access a leaves: the session s₁ and the value x, and the access b once more.
-pub record Touched (s : Session) (estimate : ℕ) (a : Access) (s₁ : Session) (b : Access) (x : ℕ) : Type 0 where
-  pub again : b ≡ a
-  pub session : s₁ ≡ written s a estimate
-  pub read : x ≡ found s a
-
--- By the case of the access.
-pub touched : {s : Session} {estimate : ℕ} {a α : Access} {s₁ : Session} {b : Access} {x : ℕ} →
-    a ≡ α → b ≡ a → s₁ ≡ written s α estimate → x ≡ found s α → Touched s estimate a s₁ b x
-touched told again session read = record { again = again; session = rw told session; read = rw told read }
+  pub seat : p ≡ seatOf e
+  pub below : p < s .n
+  pub code : r ≡ ownRefusal (processAt s p) c e
 
 module _ {s : Session} {c : Counts} {e : Entry} {p : ℕ} where
   pub accepted : {r : ℕ} → Entered s c e p r → r ≡ 0 → Entered s c e p 0
-  accepted f zero′ = record { row = f .row; code = sym zero′ ∙ f .code }
+  accepted f zero′ = record { seat = f .seat; below = f .below; code = sym zero′ ∙ f .code }
 
-  -- The number is that of the seat's own record.
+  -- The number is that of the entry's refusal.
   entered-code : {r : ℕ} → Entered s c e p r → r ≡ refusalOf (s .n) (processAt s (seatOf e)) c e
-  entered-code f = f .code ∙ rw (f .row) (refusal-row s c e)
+  entered-code f =
+      let low : seatOf e < s .n = rw (← f .seat) (f .below) in
+      f .code ∙ rw (f .seat) (sym (seated (s .n) (processAt s (seatOf e)) c e low))
 
-  -- Accepted, the row is the seat's.
-  entered-row : Entered s c e p 0 → p ≡ seatOf e
-  entered-row f = f .row ∙ row-is (s .n) (accepted-seat (s .n) (processAt s p) c e (sym (f .code)))
-
-  module _ (f : Entered s c e p 0) {a b : Access} {s₁ : Session} {x : ℕ} (ea : a ≡ accessOf (s .limit) (processAt s p) e)
-      (m : Touched s (processAt s p .estimate) a s₁ b x) where
-    -- So the code leaves the session that the one form has.
-    turned : (W : ℕ) {q : Process} → q ≡ becomes W (s₁ .limit) (processAt s p) e x → withProcess s₁ p q ≡ after W s e
-    unfolding turn
-    turned W {q} eq =
-        let low : s₁ .limit ≡ s .limit = ap (λ (z : Session). z .limit) (m .session) ∙ written-same s a _ .limit in
-        let made : q ≡ becomes W (s .limit) (processAt s p) e x = rw low at eq in
-        rw (made, m .session, m .read, ea, entered-row f)
-
-    -- And its counts.
-    tallied : {d : Counts} → d ≡ cond (full c) c (counted b c) → d ≡ countsAfter s c e
-    tallied ed =
-        ed
-        ∙ rw (m .again, ea) (accepted-counts (s .n) (processAt s p) c (s .limit) e (sym (f .code)) ∙ rw (entered-row f))
+  -- The counts that the code leaves are those of the one form.
+  pub tallied : {b : Access} {d : Counts} → Entered s c e p 0 → b ≡ accessOf (s .limit) (processAt s p) e →
+      d ≡ cond (full c) c (counted b c) → d ≡ countsAfter s c e
+  tallied f eb ed = ed ∙ rw eb (accepted-counts (processAt s p) c (s .limit) e (sym (f .code)) ∙ rw (f .seat))
 
 after-n : (W : ℕ) (s : Session) (e : Entry) → window (s .n) ≡ window ((after W s e) .n)
 unfolding turn
@@ -156,19 +131,9 @@ module _ {answer : Ran} {t : List ℕ} {budget W : ℕ} {s : Session} {c : Count
   unfolding runFrom
   ends e = h .same ∙ rw (rest-end t place (h .proper) e)
 
-  -- The register of a turn is within the arrays, and so is the row.
-  pub register : (p : ℕ) (e : Entry) {a α : Access} → a ≡ accessOf (s .limit) (processAt s p) e → a ≡ α →
-      InRange (s .limit) α × (s .limit ≤ 256)
-  register p e ea told = (
-    rw (← told, ea) (entry-range W s (h .opened .sound) p e),
-    sound-facts W s (h .opened .sound) .low,
-  )
-
-  pub row-low : (m : ℕ) {p : ℕ} → p ≡ rowOf (s .n) m → p < 64
-  row-low m ep =
-      let f = sound-facts W s (h .opened .sound) in
-      let below : rowOf (s .n) m < s .n = row-below (s .n) m (f .some) in
-      omega arith
+  -- A seat of the session is one of the 64 rows.
+  pub row-low : {p : ℕ} → p < s .n → p < 64
+  row-low below = omega (arith, sound-facts W s (h .opened .sound) .few)
 
   module _ {e : Entry} (next : handed t place ≡ Next e) where
     -- One entry fewer is left behind it.
@@ -176,7 +141,7 @@ module _ {answer : Ran} {t : List ℕ} {budget W : ℕ} {s : Session} {c : Count
     shorter ep = rw (ep, rest-next t place (h .proper) next) (omega arith)
 
     -- "budget ended after as many entries as the budget allows with more left".
-    pub spent : budget ≤ k → answer ≡ ran k s c BudgetEnded
+    spent : budget ≤ k → answer ≡ ran k s c BudgetEnded
     unfolding runFrom
     spent low =
         let z : budget - k ≡ 0 = omega arith in
@@ -192,21 +157,27 @@ module _ {answer : Ran} {t : List ℕ} {budget W : ℕ} {s : Session} {c : Count
       pub refused : {p r : ℕ} → Entered s c e p r → (r ≡ 0 → ⊥) → answer ≡ ran k s c (Refused r k)
       refused {p} {r} f some = here ∙ one-refused _ k s c e _ r (sym (entered-code f)) some
 
-      -- An accepted entry: one register operation, what the seat becomes by the value read, and one more carried out.
-      pub goes-on : {p : ℕ} {a b : Access} {s₁ : Session} {x : ℕ} {q : Process} {d : Counts} {next-place : Place} →
+      -- An entry whose seat is n or above.
+      unknown : s .n ≤ seatOf e → answer ≡ ran k s c (Refused 4 k)
+      unknown high =
+          here
+          ∙ one-refused _ k s c e _ 4
+          (unseated (s .n) (processAt s (seatOf e)) c e (sound-facts W s (h .opened .sound) .some) high)
+          (λ z. omega arith)
+
+      -- An accepted entry: what the code leaves is what the one form has, and one more is carried out.
+      pub goes-on : {p : ℕ} {s₁ : Session} {d : Counts} {next-place : Place} →
           Entered s c e p 0 →
-          a ≡ accessOf (s .limit) (processAt s p) e →
-          Touched s (processAt s p .estimate) a s₁ b x →
-          q ≡ becomes W (s₁ .limit) (processAt s p) e x →
-          d ≡ cond (full c) c (counted b c) →
+          s₁ ≡ after W s e →
+          d ≡ countsAfter s c e →
           next-place ≡ advanced t place →
-          Carrying answer t budget W (withProcess s₁ p q) d (k + 1) next-place
-      goes-on f ea m eq ed ep =
+          Carrying answer t budget W s₁ d (k + 1) next-place
+      goes-on f es ed ep =
           let ok = sym (entered-code f) in
           let facts = sound-facts W s (h .opened .sound) in
           let wide = h .opened .wide in
           let some : 1 ≤ W = omega (arith, window-least (s .n) (facts .some)) in
-          carrying-at (sym (turned f ea m W eq)) (sym (tallied f ea m ed)) (sym ep)
+          carrying-at (sym es) (sym ed) (sym ep)
           (record {
             same = here ∙ one-more _ k s c e _ ok ∙ rw (wide, add-one k);
             proper = advanced-proper t place;
@@ -216,3 +187,19 @@ module _ {answer : Ran} {t : List ℕ} {budget W : ℕ} {s : Session} {c : Count
               sound = entry-sound W s (h .opened .sound) some c e ok;
             };
           })
+
+    -- "budget ended .. that next one is not tried", and a seat n or above.
+    pub halted : {p : ℕ} → p ≡ seatOf e → (leb budget k || leb (s .n) p) ≡ true → answer ≡ ran k s c (haltOf budget k)
+    halted {p} seat = go (leb budget k) refl
+      where
+        go : (b : Bool) → leb budget k ≡ b → (b || leb (s .n) p) ≡ true → answer ≡ ran k s c (cond b BudgetEnded (Refused 4 k))
+        go true e o = spent (leb-true budget k e)
+        go false e o = unknown (leb-false budget k e) (rw (← seat) (leb-true (s .n) p o))
+
+    -- Past that test there is budget left, and the seat is one of the n.
+    pub due : {p : ℕ} → (leb budget k || leb (s .n) p) ≡ false → (k < budget) × (p < s .n)
+    due {p} = go (leb budget k) refl
+      where
+        go : (b : Bool) → leb budget k ≡ b → (b || leb (s .n) p) ≡ false → (k < budget) × (p < s .n)
+        go true e o = absurd (true≢false o)
+        go false e o = (leb-false budget k e, leb-false (s .n) p o)

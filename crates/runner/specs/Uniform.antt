@@ -2,34 +2,37 @@
 -- is what the machine does is `performed-uniform`.
 use Prim.Native.Nat.{ℕ, suc, zero, _<_, _≤_}
 use native.Mathlib.Omega.{arith}
-use mathlib.Core.Path.{_≡_, refl}
-use mathlib.Core.Bool.{Bool, true, false, cond, not}
+use mathlib.Core.Path.{_≡_, refl, sym}
+use mathlib.Core.Bool.{Bool, true, false, cond, not, true≢false}
 use mathlib.Core.List.{List, [], _∷_}
 use lib.Dec.{leb, ltb, eqb}
-use borrow.Author.Tests.{lt-ltb, ltb-true, ltb-false, le-leb, leb-false}
+use lib.Seq.{set-getD}
+use borrow.Author.Tests.{le-leb, lt-leb, not-false}
 use Rattle.model.specs.declared.Phase.the-variants.{Waiting, Crashed}
 use Rattle.model.specs.declared.Access.{Access}
 use Rattle.model.specs.declared.Access.the-variants.{Nothing, ReadDecision}
 use Rattle.model.specs.declared.Process.{Process}
 use Rattle.model.specs.declared.Session.{Session}
 use Rattle.model.specs.declared.Counts.{Counts}
+use Rattle.model.specs.declared.Ending.{Ending}
+use Rattle.model.specs.declared.Ending.the-variants.{BudgetEnded, Refused}
 use Rattle.model.specs.declared.Entry.{Entry}
 use Rattle.model.specs.declared.Entry.the-variants.{Propose, Step, Learn, Crash, Malformed}
 use Rattle.model.specs.Window.{window}
-use Rattle.model.specs.Board.{processAt}
+use Rattle.model.specs.Board.{processAt, withProcess, idle}
 use Rattle.model.specs.Step.{access, next, learnt, found, written, turn, counted, process}
-use Rattle.model.specs.Refusal.{Test, refusal, standing, isOutside, isGone, isSpent, full, changed, stepped}
+use Rattle.model.specs.Refusal.{Test, refusal, standing, isOutside, isGone, isSpent, full, stepped}
+use Rattle.model.specs.Refusal
 use Rattle.model.specs.Refusal.{proposeTests, crashTests}
 use Rattle.model.specs.Sound.{soundAt}
 use Rattle.model.specs.Machine
 use Rattle.model.specs.Machine.{proposed, worked, looked, crashed}
 use Rattle.model.specs.Runner.{uncounted, performed}
 use Rattle.laws.specs.Accepted.{none-holds, propose-accepted, step-accepted, learn-accepted, crash-accepted}
-use Rattle.laws.specs.Phases.{process-facts}
-use Rattle.laws.specs.Ranges.{InRange, access-range}
-use Rattle.laws.specs.Sounds.{sound-process}
 use Rattle.laws.specs.Operations.{proposed-sound, worked-sound, looked-sound, crashed-sound}
+use Rattle.registers.specs.Registers.{valuesAfter, marksAfter, decisionAfter, withTurn, turn-is, access-all}
 use Rattle.schedule.specs.Past.{cond-same}
+use Rattle.runner.specs.Cells.{valueIn, markIn, read-is}
 
 -- The seat that an entry names; 0 where it names none.
 abbrev pub seatOf : Entry → ℕ
@@ -39,27 +42,38 @@ seatOf (Learn p) = p
 seatOf (Crash p) = p
 seatOf Malformed = 0
 
--- The row of the seats' records: seat p's own, or the first where p is n or above.
-abbrev pub rowOf : (n p : ℕ) → ℕ
-rowOf n p = cond (ltb p n) p 0
+-- Whether it is a work turn.
+abbrev pub isStep : Entry → Bool
+isStep (Propose p v) = false
+isStep (Step p leader) = true
+isStep (Learn p) = false
+isStep (Crash p) = false
+isStep Malformed = false
 
 -- The test of the seat's number.
 abbrev pub seatTest : (n p : ℕ) → Test
 seatTest n p = (leb n p, 4)
 
--- The tests after it, by the record q of the seat.
-abbrev pub ownTests : Process → Counts → Entry → List Test
-ownTests q c (Propose p v) = (eqb v 0, 5) ∷ (not (isOutside (standing (q .phase))), 6) ∷ []
-ownTests q c (Step p leader) =
+-- The tests after it, by the record q of the seat: of a work turn, and of every entry.
+abbrev pub stepOwn : Process → Counts → List Test
+stepOwn q c =
     (isOutside (standing (q .phase)), 7)
     ∷ (isGone (standing (q .phase)), 8)
     ∷ (isSpent (standing (q .phase)), 9)
     ∷ (full c, 16)
     ∷ []
+
+abbrev pub ownTests : Process → Counts → Entry → List Test
+ownTests q c (Propose p v) = (eqb v 0, 5) ∷ (not (isOutside (standing (q .phase))), 6) ∷ []
+ownTests q c (Step p leader) = stepOwn q c
 ownTests q c (Learn p) =
     (isOutside (standing (q .phase)), 7) ∷ (isGone (standing (q .phase)), 8) ∷ (full c, 16) ∷ []
 ownTests q c (Crash p) = (isOutside (standing (q .phase)), 7) ∷ (isGone (standing (q .phase)), 8) ∷ []
 ownTests q c Malformed = []
+
+-- How the run ends at an entry that is past the budget, or whose seat is n or above.
+abbrev pub haltOf : (budget k : ℕ) → Ending
+haltOf budget k = cond (leb budget k) BudgetEnded (Refused 4 k)
 
 -- The number of the refusal, 0 for none: "each entry 13 first, then its operation's own order".
 unfoldable pub refusalOf : (n : ℕ) → Process → Counts → Entry → ℕ
@@ -85,6 +99,40 @@ becomes W L q (Learn p) x = learnt q x
 becomes W L q (Crash p) x = process Crashed (q .round) (q .estimate)
 becomes W L q Malformed x = q
 
+-- ---- entries that are no work turn
+
+-- The own refusal.
+abbrev pub ownRefusal : Process → Counts → Entry → ℕ
+ownRefusal q c (Propose p v) = refusal (ownTests q c (Propose p v))
+ownRefusal q c (Step p leader) = refusal (ownTests q c (Step p leader))
+ownRefusal q c (Learn p) = refusal (ownTests q c (Learn p))
+ownRefusal q c (Crash p) = refusal (ownTests q c (Crash p))
+ownRefusal q c Malformed = 13
+
+-- Whether the record of the seat changes, by the decision register D.
+abbrev pub changesOf : (D : ℕ) → Entry → Bool
+changesOf D (Propose p v) = true
+changesOf D (Step p leader) = false
+changesOf D (Learn p) = not (eqb D 0)
+changesOf D (Crash p) = true
+changesOf D Malformed = false
+
+-- To what, where it does.
+abbrev pub changed : Process → (D : ℕ) → Entry → Process
+changed q D (Propose p v) = process Waiting (q .round) v
+changed q D (Step p leader) = process Crashed (q .round) (q .estimate)
+changed q D (Learn p) = learnt q D
+changed q D (Crash p) = process Crashed (q .round) (q .estimate)
+changed q D Malformed = process Crashed (q .round) (q .estimate)
+
+-- The one register operation.
+abbrev pub otherAccess : Entry → Access
+otherAccess (Propose p v) = Nothing
+otherAccess (Step p leader) = Nothing
+otherAccess (Learn p) = ReadDecision
+otherAccess (Crash p) = Nothing
+otherAccess Malformed = Nothing
+
 -- The session after an accepted entry, at window W.
 abbrev pub after : (W : ℕ) → Session → Entry → Session
 after W s e =
@@ -96,7 +144,7 @@ abbrev pub countsAfter : Session → Counts → Entry → Counts
 countsAfter s c e = counted (accessOf (s .limit) (processAt s (seatOf e)) e) c
 
 -- An operation that counts nothing, as one that counts.
-uncounted-is : (k : ℕ) (s t : Session) (c : Counts) → uncounted (changed k s t) c ≡ stepped k s t c c
+uncounted-is : (k : ℕ) (s t : Session) (c : Counts) → uncounted (Refusal.changed k s t) c ≡ stepped k s t c c
 uncounted-is zero s t c = refl
 uncounted-is (suc k) s t c = refl
 
@@ -111,73 +159,99 @@ performed-uniform s c (Learn p) = refl
 performed-uniform s c (Crash p) = uncounted-is (refusal (crashTests s p)) s (crashed s p) c
 performed-uniform s c Malformed = refl
 
--- ---- what an accepted entry knows
+-- ---- what the code's tests say
 
 module _ (n : ℕ) (q : Process) (c : Counts) where
-  -- Its seat is one of the n.
-  pub accepted-seat : (e : Entry) → refusalOf n q c e ≡ 0 → seatOf e < n
+  -- Of a seat below n the own tests decide.
+  pub seated : (e : Entry) → seatOf e < n → refusalOf n q c e ≡ ownRefusal q c e
   unfolding refusalOf
-  accepted-seat (Propose p v) h = leb-false n p (none-holds (seatTest n p ∷ ownTests q c (Propose p v)) (omega arith) h .0)
-  accepted-seat (Step p leader) h = leb-false n p (none-holds (seatTest n p ∷ ownTests q c (Step p leader)) (omega arith) h .0)
-  accepted-seat (Learn p) h = leb-false n p (none-holds (seatTest n p ∷ ownTests q c (Learn p)) (omega arith) h .0)
-  accepted-seat (Crash p) h = leb-false n p (none-holds (seatTest n p ∷ ownTests q c (Crash p)) (omega arith) h .0)
-  accepted-seat Malformed h = absurd (omega arith)
+  seated (Propose p v) h = rw (lt-leb n p h)
+  seated (Step p leader) h = rw (lt-leb n p h)
+  seated (Learn p) h = rw (lt-leb n p h)
+  seated (Crash p) h = rw (lt-leb n p h)
+  seated Malformed h = refl
 
-  -- Where it counts a register operation, the counts are not full: the code's own test of that changes nothing.
-  pub accepted-counts : (L : ℕ) (e : Entry) → refusalOf n q c e ≡ 0 →
-      cond (full c) c (counted (accessOf L q e) c) ≡ counted (accessOf L q e) c
-  unfolding refusalOf accessOf counted
-  accepted-counts L (Propose p v) h = cond-same (full c) c
-  accepted-counts L (Step p leader) h = rw (none-holds (seatTest n p ∷ ownTests q c (Step p leader)) (omega arith) h .1 .1 .1 .1 .0)
-  accepted-counts L (Learn p) h = rw (none-holds (seatTest n p ∷ ownTests q c (Learn p)) (omega arith) h .1 .1 .1 .0)
-  accepted-counts L (Crash p) h = cond-same (full c) c
-  accepted-counts L Malformed h = absurd (omega arith)
+  -- A seat n or above is refused by its number.
+  pub unseated : (e : Entry) → 1 ≤ n → n ≤ seatOf e → refusalOf n q c e ≡ 4
+  unfolding refusalOf
+  unseated (Propose p v) some h = rw (le-leb n p h)
+  unseated (Step p leader) some h = rw (le-leb n p h)
+  unseated (Learn p) some h = rw (le-leb n p h)
+  unseated (Crash p) some h = rw (le-leb n p h)
+  unseated Malformed some h = absurd (omega arith)
 
--- A seat n or above is refused whatever the record.
-refused-seat : (n : ℕ) (q q′ : Process) (c : Counts) (e : Entry) → n ≤ seatOf e → refusalOf n q c e ≡ refusalOf n q′ c e
-unfolding refusalOf
-refused-seat n q q′ c (Propose p v) h = rw (le-leb n p h)
-refused-seat n q q′ c (Step p leader) h = rw (le-leb n p h)
-refused-seat n q q′ c (Learn p) h = rw (le-leb n p h)
-refused-seat n q q′ c (Crash p) h = rw (le-leb n p h)
-refused-seat n q q′ c Malformed h = refl
+-- Where an accepted entry counts a register operation, the counts are not full: the code's own test of that changes nothing.
+pub accepted-counts : (q : Process) (c : Counts) (L : ℕ) (e : Entry) → ownRefusal q c e ≡ 0 →
+    cond (full c) c (counted (accessOf L q e) c) ≡ counted (accessOf L q e) c
+unfolding accessOf counted
+accepted-counts q c L (Propose p v) h = cond-same (full c) c
+accepted-counts q c L (Step p leader) h = rw (none-holds (stepOwn q c) (omega arith) h .1 .1 .1 .0)
+accepted-counts q c L (Learn p) h = rw (none-holds (ownTests q c (Learn p)) (omega arith) h .1 .1 .0)
+accepted-counts q c L (Crash p) h = cond-same (full c) c
+accepted-counts q c L Malformed h = absurd (omega arith)
 
--- So the refusal by the row that the code looks at is the refusal by the seat's record.
-pub refusal-row : (s : Session) (c : Counts) (e : Entry) →
-    refusalOf (s .n) (processAt s (rowOf (s .n) (seatOf e))) c e ≡ refusalOf (s .n) (processAt s (seatOf e)) c e
-refusal-row s c e = go (ltb (seatOf e) (s .n)) refl
-  where
-    go : (t : Bool) → ltb (seatOf e) (s .n) ≡ t →
-        refusalOf (s .n) (processAt s (cond t (seatOf e) 0)) c e ≡ refusalOf (s .n) (processAt s (seatOf e)) c e
-    go true h = refl
-    go false h = refused-seat (s .n) _ _ c e (ltb-false (seatOf e) (s .n) h)
+-- ---- what the code leaves is what the one form has
 
-pub row-is : (n : ℕ) {p : ℕ} → p < n → rowOf n p ≡ p
-row-is n {p} h = rw (lt-ltb p n h)
+-- The own refusal and the register operation of a work turn.
+pub step-own : (q : Process) (c : Counts) {e : Entry} {m : ℕ} {leader : Bool} → e ≡ Step m leader → refusal (stepOwn q c) ≡ ownRefusal q c e
+step-own q c told = rw told
 
--- The row is one of the n.
-pub row-below : (n p : ℕ) → 1 ≤ n → rowOf n p < n
-row-below n p some = go (ltb p n) refl
-  where
-    go : (t : Bool) → ltb p n ≡ t → cond t p 0 < n
-    go true h = ltb-true p n h
-    go false h = some
+pub step-access : (L : ℕ) (q : Process) {e : Entry} {m : ℕ} {leader : Bool} → e ≡ Step m leader → access L q leader ≡ accessOf L q e
+unfolding accessOf
+step-access L q told = rw told
+
+-- A work turn, register by register.
+pub step-leaves : (W : ℕ) (s : Session) (p : ℕ) (leader : Bool) {e : Entry} {m v x y : ℕ} {a : Access} {values : List ℕ} {marks : List Bool} {q : Process} →
+    soundAt W s ≡ true →
+    e ≡ Step m leader →
+    p ≡ seatOf e →
+    a ≡ access (s .limit) (processAt s p) leader →
+    v ≡ valueIn (s .values) a →
+    x ≡ markIn v (s .marks) a →
+    values ≡ valuesAfter (s .values) a (processAt s p .estimate) →
+    marks ≡ marksAfter (s .marks) a →
+    y ≡ decisionAfter (s .decision) a (processAt s p .estimate) →
+    q ≡ next W (s .limit) (processAt s p) leader x →
+    withTurn s p values marks y q ≡ after W s e
+unfolding accessOf becomes access
+step-leaves W s p leader {m = m} t told seat ea er ex ev em ey eq =
+    let r = processAt s m in
+    let read = read-is s (s .limit) (r .round) (r .phase) leader in
+    rw (eq, ev, em, ey, ex, er, ea, seat, told, read)
+    (sym (turn-is s m (access (s .limit) r leader) (next W (s .limit) r leader) (access-all W s m leader t)))
+
+-- Any other entry, where the record changes.
+pub other-changes : (W : ℕ) (s : Session) (p : ℕ) (e : Entry) {q : Process} → isStep e ≡ false → p ≡ seatOf e →
+    changesOf (s .decision) e ≡ true → q ≡ changed (processAt s p) (s .decision) e → withProcess s p q ≡ after W s e
+unfolding accessOf becomes turn written found
+other-changes W s p (Propose m v) not-step seat h eq = rw (eq, seat)
+other-changes W s p (Step m leader) not-step seat h eq = absurd (true≢false not-step)
+other-changes W s p (Learn m) not-step seat h eq = rw (eq, seat)
+other-changes W s p (Crash m) not-step seat h eq = rw (eq, seat)
+other-changes W s p Malformed not-step seat h eq = absurd (true≢false (sym h))
+
+-- And where it does not: a look at a blank D.
+pub other-stays : (W : ℕ) (s : Session) (c : Counts) (p : ℕ) (e : Entry) → isStep e ≡ false →
+    changesOf (s .decision) e ≡ false → ownRefusal (processAt s p) c e ≡ 0 → s ≡ after W s e
+unfolding accessOf becomes turn written found learnt
+other-stays W s c p (Propose m v) not-step h ok = absurd (true≢false h)
+other-stays W s c p (Step m leader) not-step h ok = absurd (true≢false not-step)
+other-stays W s c p (Learn m) not-step h ok = rw (not-false (eqb (s .decision) 0) h, set-getD (s .processes) m idle)
+other-stays W s c p (Crash m) not-step h ok = absurd (true≢false h)
+other-stays W s c p Malformed not-step h ok = absurd (omega arith)
+
+-- The register operation of an entry that is no work turn.
+pub other-access : (L : ℕ) (q : Process) (e : Entry) → isStep e ≡ false → otherAccess e ≡ accessOf L q e
+unfolding accessOf
+other-access L q (Propose m v) not-step = refl
+other-access L q (Step m leader) not-step = absurd (true≢false not-step)
+other-access L q (Learn m) not-step = refl
+other-access L q (Crash m) not-step = refl
+other-access L q Malformed not-step = refl
 
 -- ---- an accepted entry keeps the session sound
 
 module _ (W : ℕ) (s : Session) (t : soundAt W s ≡ true) where
-  -- The register that the entry accesses is one of 1 to L.
-  pub entry-range : (p : ℕ) (e : Entry) → InRange (s .limit) (accessOf (s .limit) (processAt s p) e)
-  unfolding accessOf access
-  entry-range p (Propose x v) = tt
-  entry-range p (Step x leader) =
-      let q = processAt s p in
-      let f = process-facts W (s .limit) q (sound-process W s p t) in
-      access-range W (s .limit) (q .round) (q .phase) leader (f .round) (f .phase)
-  entry-range p (Learn x) = tt
-  entry-range p (Crash x) = tt
-  entry-range p Malformed = tt
-
   pub entry-sound : 1 ≤ W → (c : Counts) (e : Entry) → refusalOf (s .n) (processAt s (seatOf e)) c e ≡ 0 → soundAt W (after W s e) ≡ true
   unfolding refusalOf accessOf becomes turn written found proposed worked looked crashed
   entry-sound wide c (Propose p v) h = let a = propose-accepted s p v h in proposed-sound W wide s p t v (a .0) (a .1)

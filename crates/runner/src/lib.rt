@@ -2,17 +2,17 @@
 // tested for soundness: that every session of the run is sound is part of the loop's proof.
 ghost use mathlib.Core.Path.{_≡_};
 ghost use Prim.Native.Nat.{_<_};
-ghost use Rattle.model.specs.Step.{bit as bitOf};
 ghost use Rattle.model.specs.Runner.{ran as ranOf, noCounts, runFrom, run as runOf};
 ghost use Rattle.model.specs.Schedule.{entries};
 ghost use Rattle.runner.specs.Carried.{Opened};
-use model::Access;
 use model::Counts;
 use model::Ending;
+use model::Entry;
 use model::Ran;
 use model::Session;
 use schedule::Handed;
 
+mod cells;
 mod turns;
 
 // A byte as a number.
@@ -20,13 +20,6 @@ fn wide(x: u8) -> usize
     ensures { λ r. ⌜ (r ≡ x) × (r < 256) ⌝ }
 {
     x as usize
-}
-
-// A mark that is read, as a number.
-fn bit(marked: bool) -> u32
-    ensures { λ r. ⌜ r ≡ bitOf marked ⌝ }
-{
-    if marked { 1 } else { 0 }
 }
 
 // What a run gives: the number of entries carried out, the session, the tally and the ending.
@@ -53,39 +46,41 @@ fn no_counts() -> Counts
 }
 
 // 01, "Turn sheets": the entries one after another, on a session just opened, up to the budget or the first refused entry.
-fn carry(schedule: &[u8], budget: usize, window: usize, mut s: Session) -> Ran
+fn carry(schedule: &[u8], budget: usize, window: usize, mut s: Session, mut c: Counts) -> Ran
     requires { ⌜ Opened window s ⌝ }
-    ensures { λ r. ⌜ r ≡ runFrom budget 0 s noCounts (entries (now (schedule .entry))) ⌝ }
+    ensures { λ r. ⌜ r ≡ runFrom budget 0 s c (entries (now (schedule .entry))) ⌝ }
 {
-    let mut c = no_counts();
     let mut k: usize = 0;
     let mut place = reader::first_place(schedule);
     loop {
         let Handed::Next(e) = reader::entry_at(schedule, place) else {
             return ran(k, s, c, Ending::Finished);
         };
-        if budget <= k {
-            return ran(k, s, c, Ending::BudgetEnded);
+        let p = turns::seat_of(e);
+        if turns::halts(budget, k, s.n, p) {
+            return ran(k, s, c, turns::halt(budget, k));
         }
-        let p = turns::row(s.n, turns::seat_of(e));
         let q = s.processes[p];
-        let code = turns::refusal_of(s.n, q, c, e);
-        if code != 0 {
-            return ran(k, s, c, Ending::Refused(code, k));
+        if let Entry::Step(_, leader) = e {
+            let code = turns::step_refusal(q, c);
+            if code != 0 {
+                return ran(k, s, c, Ending::Refused(code, k));
+            }
+            let a = access::access(s.limit, q, leader);
+            let x = cells::mark(cells::value(&mut s.values, a, q.estimate), &mut s.marks, a);
+            s.decision = cells::decision(s.decision, a, q.estimate);
+            s.processes[p] = next::next(window, s.limit, q, leader, x);
+            c = counts::counted(a, c);
+        } else {
+            let code = turns::refusal_of(q, c, e);
+            if code != 0 {
+                return ran(k, s, c, Ending::Refused(code, k));
+            }
+            if turns::changes(s.decision, e) {
+                s.processes[p] = turns::becomes(q, s.decision, e);
+            }
+            c = counts::counted(turns::access_of(e), c);
         }
-        let a = turns::access_of(s.limit, q, e);
-        let mut x: u32 = 0;
-        match a {
-            Access::Nothing => {}
-            Access::ReadValue(r) => x = s.values[r - 1],
-            Access::WriteValue(r) => s.values[r - 1] = q.estimate,
-            Access::ReadMark(r) => x = bit(s.marks[r - 1]),
-            Access::SetMark(r) => s.marks[r - 1] = true,
-            Access::ReadDecision => x = s.decision,
-            Access::WriteDecision => s.decision = q.estimate,
-        }
-        s.processes[p] = turns::becomes(window, s.limit, q, e, x);
-        c = counts::counted(a, c);
         k += 1;
         place = reader::place_after(schedule, place);
     }
@@ -111,5 +106,6 @@ pub fn run(schedule: &[u8], budget: usize) -> Ran
         budget,
         window::window(n),
         opening::opened(wide(n), limit),
+        no_counts(),
     )
 }

@@ -1,12 +1,13 @@
 // What one entry does to the seat that it names, as functions of that seat's record, the tally and one value read.
 ghost use mathlib.Core.Path.{_≡_};
-ghost use mathlib.Core.Bool.{cond};
+ghost use mathlib.Core.Bool.{_||_};
 ghost use lib.Dec.{leb};
-ghost use Rattle.runner.specs.Uniform.{seatOf, rowOf, refusalOf, accessOf, becomes as becomesOf};
+ghost use Rattle.model.specs.Refusal.{refusal};
+ghost use Rattle.runner.specs.Uniform.{seatOf, haltOf, stepOwn, ownRefusal, changesOf, changed, otherAccess};
 use model::Access;
 use model::Counts;
+use model::Ending;
 use model::Entry;
-use model::Phase;
 use model::Process;
 
 // The seat that the entry names.
@@ -22,64 +23,81 @@ pub(crate) fn seat_of(e: Entry) -> usize
     }
 }
 
-// The row of the seats' records to look at: that of seat p, and the first where n or more is named, which is refused.
-pub(crate) fn row(n: usize, p: usize) -> usize
-    ensures { λ r. ⌜ r ≡ rowOf n p ⌝ }
+// Whether the entry of seat p is not tried: the budget has ended, or there is no such seat.
+pub(crate) fn halts(budget: usize, k: usize, n: usize, p: usize) -> bool
+    ensures { λ r. ⌜ r ≡ leb budget k || leb n p ⌝ }
 {
-    if p < n { p } else { 0 }
+    (budget <= k) | (n <= p)
 }
 
-// 01, "Numbers returned", 4: a seat number n or above comes before the later tests.
-fn seated(n: usize, p: usize, later: u32) -> u32
-    ensures { λ r. ⌜ r ≡ cond (leb n p) 4 later ⌝ }
+// How the run then ends. 01, "Turn sheets": "that next one is not tried"; "Numbers returned", 4.
+pub(crate) fn halt(budget: usize, k: usize) -> Ending
+    ensures { λ r. ⌜ r ≡ haltOf budget k ⌝ }
 {
-    if n <= p { 4 } else { later }
+    if budget <= k {
+        Ending::BudgetEnded
+    } else {
+        Ending::Refused(4, k)
+    }
 }
 
-// 01, "Numbers returned", Order: "each entry 13 first, then its operation's own order"; 0 for no refusal.
-pub(crate) fn refusal_of(n: usize, q: Process, c: Counts, e: Entry) -> u32
-    ensures { λ r. ⌜ r ≡ refusalOf n q c e ⌝ }
+// 01, "Numbers returned", work, after the seat's number.
+pub(crate) fn step_refusal(q: Process, c: Counts) -> u32
+    ensures { λ r. ⌜ r ≡ refusal (stepOwn q c) ⌝ }
+{
+    let phase = q.phase;
+    refusals::step_refusal(phase, c)
+}
+
+// Of an entry that is no work turn, its own refusal: "each entry 13 first, then its operation's own order"; 0 for none.
+pub(crate) fn refusal_of(q: Process, c: Counts, e: Entry) -> u32
+    ensures { λ r. ⌜ r ≡ ownRefusal q c e ⌝ }
 {
     let phase = q.phase;
     match e {
-        Entry::Propose(p, v) => seated(n, p, refusals::propose_refusal(v, phase)),
-        Entry::Step(p, _) => seated(n, p, refusals::step_refusal(phase, c)),
-        Entry::Learn(p) => seated(n, p, refusals::learn_refusal(phase, c)),
-        Entry::Crash(p) => seated(n, p, refusals::turn_refusal(phase)),
+        Entry::Propose(_, v) => refusals::propose_refusal(v, phase),
+        Entry::Step(_, _) => refusals::step_refusal(phase, c),
+        Entry::Learn(_) => refusals::learn_refusal(phase, c),
+        Entry::Crash(_) => refusals::turn_refusal(phase),
         Entry::Malformed => 13,
     }
 }
 
-// 01, "One turn at a time": the one register operation of the entry.
-pub(crate) fn access_of(limit: usize, q: Process, e: Entry) -> Access
-    ensures { λ r. ⌜ r ≡ accessOf limit q e ⌝ }
+// Whether it changes the record of its seat: a look at a blank D does not. (A record that stays is not stored again.)
+pub(crate) fn changes(decision: u32, e: Entry) -> bool
+    ensures { λ r. ⌜ r ≡ changesOf decision e ⌝ }
 {
     match e {
-        Entry::Propose(_, _) => Access::Nothing,
-        Entry::Step(_, leader) => access::access(limit, q, leader),
-        Entry::Learn(_) => Access::ReadDecision,
-        Entry::Crash(_) => Access::Nothing,
-        Entry::Malformed => Access::Nothing,
+        Entry::Propose(_, _) => true,
+        Entry::Step(_, _) => false,
+        Entry::Learn(_) => decision != 0,
+        Entry::Crash(_) => true,
+        Entry::Malformed => false,
     }
 }
 
-// 01, "One turn at a time": what the seat becomes by the entry, where x was read.
-pub(crate) fn becomes(window: usize, limit: usize, q: Process, e: Entry, x: u32) -> Process
-    ensures { λ r. ⌜ r ≡ becomesOf window limit q e x ⌝ }
+// 01, "One turn at a time", proposal, look and crash: what the seat becomes where it changes.
+pub(crate) fn becomes(q: Process, decision: u32, e: Entry) -> Process
+    ensures { λ r. ⌜ r ≡ changed q decision e ⌝ }
 {
     match e {
-        Entry::Propose(_, v) => Process {
-            phase: Phase::Waiting,
-            round: q.round,
-            estimate: v,
-        },
-        Entry::Step(_, leader) => next::next(window, limit, q, leader, x),
-        Entry::Learn(_) => moves::learnt(q, x),
-        Entry::Crash(_) => Process {
-            phase: Phase::Crashed,
-            round: q.round,
-            estimate: q.estimate,
-        },
-        Entry::Malformed => q,
+        Entry::Propose(_, v) => moves::proposed(q, v),
+        Entry::Step(_, _) => moves::crashed(q),
+        Entry::Learn(_) => moves::learnt(q, decision),
+        Entry::Crash(_) => moves::crashed(q),
+        Entry::Malformed => moves::crashed(q),
+    }
+}
+
+// The one register operation of an entry that is no work turn: a look reads D.
+pub(crate) fn access_of(e: Entry) -> Access
+    ensures { λ r. ⌜ r ≡ otherAccess e ⌝ }
+{
+    match e {
+        Entry::Propose(_, _) => Access::Nothing,
+        Entry::Step(_, _) => Access::Nothing,
+        Entry::Learn(_) => Access::ReadDecision,
+        Entry::Crash(_) => Access::Nothing,
+        Entry::Malformed => Access::Nothing,
     }
 }

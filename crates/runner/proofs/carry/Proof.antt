@@ -1,105 +1,124 @@
 -- `runner::carry` meets its contract. The loop's invariant is `Carrying`: the run from here on gives the answer, and the session is
 -- sound. The measure is the number of entries left. Assumes nothing.
-use Prim.Native.Nat.{_≤_, _<_}
+use Prim.Native.Nat.{ℕ, _<_}
 use native.Mathlib.Nat.{sub-zero}
 use native.Mathlib.Omega.{arith}
-use mathlib.Core.Path.{_≡_, sym, _∙_, ap}
+use mathlib.Core.Path.{_≡_, refl, sym, _∙_}
+use mathlib.Core.Bool.{false}
+use mathlib.Core.List.{[], _∷_}
 use mathlib.Core.Logic.{⊎-elim}
 use borrow.Author.Needs.{needs}
 use lib.ListN.{length}
+use types.Run.{OneOf}
+use denote.Enum.Declared as Declared
+use Rattle.model.proofs.Entry as Entries
 use Rattle.model.specs.declared.Entry.{Entry}
-use Rattle.model.specs.declared.Access.{Access}
+use Rattle.model.specs.declared.Entry.the-variants.{Propose, Step, Learn, Crash, Malformed}
 use Rattle.model.specs.Board.{processAt}
-use Rattle.model.specs.Step.{found, written}
-use Rattle.model.specs.Runner.{runFrom, noCounts}
+use Rattle.model.specs.Runner.{runFrom}
 use Rattle.model.specs.Schedule.{entries}
-use Rattle.laws.specs.Ranges.{InRange}
 use Rattle.schedule.specs.declared.Handed.the-variants.{Next}
 use Rattle.schedule.specs.Places.{handed, rest}
 use Rattle.schedule.specs.PlaceLaws.{begin-rest, begin-proper}
-use Rattle.runner.specs.Uniform.{rowOf}
-use Rattle.runner.specs.Carried.{Carrying, Entered, Touched, touched, accepted}
-use Rattle.runner.specs.Carried.{ends, register, row-low, shorter, spent, refused, goes-on}
+use Rattle.registers.specs.Registers.{access-all}
+use Rattle.laws.specs.Ranges.{InRange}
+use Rattle.runner.specs.Cells.{in-range}
+use Rattle.runner.specs.Uniform.{isStep, step-own, step-access, step-leaves, other-changes, other-stays, other-access}
+use Rattle.runner.specs.Carried.{Carrying, Entered, accepted, tallied}
+use Rattle.runner.specs.Carried.{ends, row-low, shorter, halted, due, refused, goes-on}
 use Rattle.runner.proofs.carry.Statement.{statement}
 use Rattle.runner.proofs.carry.Tie as tie
 
 abbrev Inv-loop : tie.InvT-loop
-Inv-loop schedule budget window s₀ c₀ k₀ place₀ s c k place =
-    Carrying (runFrom budget 0 s₀ noCounts (entries schedule)) schedule budget window s c k place
+Inv-loop schedule budget window c₀ s₀ k₀ place₀ c s k place =
+    Carrying (runFrom budget 0 s₀ c₀ (entries schedule)) schedule budget window s c k place
 
 abbrev μ-loop : tie.MeasureT-loop
-μ-loop schedule budget window s₀ c₀ k₀ place₀ s c k place = length (rest schedule place)
+μ-loop schedule budget window c₀ s₀ k₀ place₀ c s k place = length (rest schedule place)
 
--- ---- what is known where the refusal of an entry has been computed
+-- ---- what is known where the entry is to be tried
 
 abbrev Here : Type 0
-Here = tie.After-refusal-of Inv-loop μ-loop
+Here = tie.Else1 Inv-loop μ-loop
 
 abbrev loop-of : Here → tie.At-loop Inv-loop μ-loop
-loop-of c = c .before .before .before .before .before .before .before .before .before
+loop-of c = c .before .before .before .before .before .before .before
 
 abbrev start-of : Here → tie.Start Inv-loop μ-loop
-start-of c = loop-of c .before .before .before .before
+start-of c = loop-of c .before .before .before
 
-abbrev entry-of : Here → Entry
-entry-of c = c .before .before .before .before .before .before .e .given .0 .0
+abbrev seat-of : Here → ℕ
+seat-of c = c .before .before .seat-of .result
 
--- The entry is the one handed out, and the budget allows it.
-next-of : (c : Here) → handed (start-of c .args .schedule .now) (loop-of c .loop .place) ≡ Next (entry-of c)
-next-of c = let d = c .before .before .before .before .before .before in sym (d .before .before .entry-at .ensures) ∙ d .e .given .1
+-- The entry that was handed out, and what it is.
+abbrev Handed-out : Type 0
+Handed-out = tie.After-seat-of Inv-loop μ-loop
 
-left-of : (c : Here) → loop-of c .loop .k < start-of c .args .budget
-left-of c = c .before .before .before .before .if1 .left
+abbrev entry-of : Handed-out → Entry
+entry-of c = c .before .before .e .given .0 .0
 
--- Its row and its refusal.
-entered : (c : Here) →
-    Entered (loop-of c .loop .s) (loop-of c .loop .c) (entry-of c) (c .before .before .row .result) (c .refusal-of .result)
-entered c =
-    let row = c .before .before in
+next-of : (c : Handed-out) →
+    let l = c .before .before .before .before .before in
+    handed (l .before .before .before .args .schedule .now) (l .loop .place) ≡ Next (entry-of c)
+next-of c = sym (c .before .before .before .before .entry-at .ensures) ∙ c .before .before .e .given .1
+
+-- There is budget left, and its seat is one of the n.
+due-of : (c : Here) → (loop-of c .loop .k < start-of c .args .budget) × (seat-of c < loop-of c .loop .s .n)
+due-of c = due (loop-of c .loop .inv) (next-of (c .before .before)) (sym (c .before .halts .ensures) ∙ c .if1 .left)
+
+low : (c : Here) → seat-of c < 64
+low c = row-low (loop-of c .loop .inv) (due-of c .1)
+
+-- A work turn.
+step-entered : (c : tie.After-step-refusal Inv-loop μ-loop) →
+    let h = c .before .before .before .before .before in
+    Entered (loop-of h .loop .s) (loop-of h .loop .c) (entry-of (h .before .before)) (seat-of h) (c .step-refusal .result)
+step-entered c =
+    let h = c .before .before .before .before .before in
     record {
-      row = row .row .ensures ∙ ap (rowOf (loop-of c .loop .s .n)) (row .before .seat-of .ensures);
-      code = c .refusal-of .ensures;
+      seat = h .before .before .seat-of .ensures;
+      below = due-of h .1;
+      code = c .step-refusal .ensures ∙ step-own _ _ (c .before .before .e2 .given .1);
     }
 
--- The row is one of the 64.
-low : (c : tie.After-row Inv-loop μ-loop) → c .row .result < 64
-low c =
-    row-low (c .before .before .before .before .before .before .before .loop .inv) (c .before .seat-of .result) (c .row .ensures)
+-- Its register is one of the arrays'.
+in-arrays : (c : tie.After-access Inv-loop μ-loop) → InRange 256 (c .access .result)
+in-arrays c =
+    let f = c .before .before in
+    let l = loop-of (f .before .before .before .before .before) .loop in
+    in-range 256 (sym (c .access .ensures)) (access-all _ (l .s) _ _ (l .inv .opened .sound))
 
--- ---- what the match on the access knows and leaves
+abbrev stored-at : tie.After-next Inv-loop μ-loop → Here
+stored-at c = c .before .before .before .before .before .before .before .before .before .before .before .before .before
 
--- The register lies within the arrays.
-reach : (c : tie.After-access-of Inv-loop μ-loop) {α : Access} → c .access-of .result ≡ α →
-    let s = loop-of (c .before .before) .loop .s in InRange (s .limit) α × (s .limit ≤ 256)
-reach c told =
-    let r = c .before .before in
-    register (loop-of r .loop .inv) (r .before .before .row .result) (entry-of r) (c .access-of .ensures) told
+-- Any other entry.
+other-tag : (e : Entry) → OneOf (0 ∷ 2 ∷ 3 ∷ 4 ∷ []) (Declared.tagOf Entries.the-type e) → isStep e ≡ false
+other-tag (Propose p v) h = refl
+other-tag (Step p leader) h = absurd (⊎-elim (λ z. omega arith) (⊎-elim (λ z. omega arith) (⊎-elim (λ z. omega arith) (λ z. omega arith))) h)
+other-tag (Learn p) h = refl
+other-tag (Crash p) h = refl
+other-tag Malformed h = refl
 
--- In the order of the arms: what the arm is told of the access, and then the session, the access and the value that it leaves.
-touch : (c : tie.At-match2-came Inv-loop μ-loop) →
-    let r = c .before .before .before in
-    let s = loop-of r .loop .s in
-    Touched s (processAt s (r .before .before .row .result) .estimate) (c .before .access-of .result) (c .match2 .s) (c .match2 .a) (c .match2 .x)
-unfolding written found
-touch c =
-    ⊎-elim (λ w. touched (w .1 .given .1) (w .3) (w .2) (w .4))
-    (⊎-elim (λ w. touched (w .1 .given .1) (w .5 ∙ sym (w .1 .given .1)) (w .4) (w .6))
-    (⊎-elim (λ w. touched (w .1 .given .1) (w .4 ∙ sym (w .1 .given .1)) (w .3) (w .5))
-    (⊎-elim (λ w. touched (w .1 .given .1) (w .6 ∙ sym (w .1 .given .1)) (w .5) (w .7 ∙ w .4 .ensures))
-    (⊎-elim (λ w. touched (w .1 .given .1) (w .4 ∙ sym (w .1 .given .1)) (w .3) (w .5))
-    (⊎-elim (λ w. touched (w .1 .given .1) (w .3) (w .2) (w .4))
-    (λ w. touched (w .1 .given .1) (w .3) (w .2) (w .4)))))))
-    (c .match2 .came)
+other-entered : (c : tie.After-refusal-of Inv-loop μ-loop) →
+    let h = c .before .before .before in
+    Entered (loop-of h .loop .s) (loop-of h .loop .c) (entry-of (h .before .before)) (seat-of h) (c .refusal-of .result)
+other-entered c =
+    let h = c .before .before .before in
+    record {
+      seat = h .before .before .seat-of .ensures;
+      below = due-of h .1;
+      code = c .refusal-of .ensures;
+    }
 
 -- ---- the needs
 
 loop-holds : tie.Need-loop-holds Inv-loop μ-loop
 loop-holds c =
     record {
-      same = rw (c .first-place .ensures, c .before .no-counts .ensures, sub-zero, begin-rest);
+      same = rw (c .first-place .ensures, sub-zero, begin-rest);
       proper = rw (c .first-place .ensures) (begin-proper _);
       within = omega arith;
-      opened = c .before .before .before .pre;
+      opened = c .before .before .pre;
     }
 
 -- Finished.
@@ -108,69 +127,94 @@ returns c =
     let h = c .before .before .before in
     c .ran .ensures ∙ sym (ends (h .before .loop .inv) (sym (h .entry-at .ensures) ∙ c .before .enum-told .given .1))
 
--- Budget ended.
+-- Budget ended, or no such seat.
 returns-2 : tie.Need-returns-2 Inv-loop μ-loop
 returns-2 c =
-    let d = c .before .before .before in
-    let h = d .before .before in
+    let t = c .before .before in
+    let h = t .before .before in
+    let l = h .before .before .before .before .before in
     c .ran2 .ensures
-    ∙ sym (spent (h .before .loop .inv) (sym (h .entry-at .ensures) ∙ d .e .given .1) (c .before .if1 .taken))
+    ∙ rw (c .before .halt .ensures)
+    (sym (halted (l .loop .inv) (next-of h) (h .seat-of .ensures) (sym (t .before .halts .ensures) ∙ t .if1 .taken)))
 
 -- Refused.
 returns-3 : tie.Need-returns-3 Inv-loop μ-loop
 returns-3 c =
-    let r = c .before .before in
+    let f = c .before .before in
+    let h = f .before .before .before .before .before in
     c .ran3 .ensures
-    ∙ sym (refused (loop-of r .loop .inv) (next-of r) (left-of r) (entered r) (c .before .if2 .taken))
+    ∙ sym (refused (loop-of h .loop .inv) (next-of (h .before .before)) (due-of h .0) (step-entered f) (c .before .if2 .taken))
+
+returns-4 : tie.Need-returns-4 Inv-loop μ-loop
+returns-4 c =
+    let f = c .before .before in
+    let h = f .before .before .before in
+    c .ran4 .ensures
+    ∙ sym (refused (loop-of h .loop .inv) (next-of (h .before .before)) (due-of h .0) (other-entered f) (c .before .if3 .taken))
 
 add-k : tie.Need-add-k Inv-loop μ-loop
-add-k c = let r = c .before .before .before .before .before in omega (arith, left-of r, start-of r .fits .budget)
+add-k c = let h = c .before .before in omega (arith, due-of h .0, start-of h .fits .budget)
 
 loop-less : tie.Need-loop-less Inv-loop μ-loop
 loop-less c =
-    let r = c .before .before .before .before .before .before in
-    shorter (loop-of r .loop .inv) (next-of r) (c .place-after .ensures)
+    let h = c .before .before .before in
+    shorter (loop-of h .loop .inv) (next-of (h .before .before)) (c .place-after .ensures)
 
--- Carried out.
+-- Carried out: a work turn, or any other entry, whose record changes or does not.
 loop-again : tie.Need-loop-again Inv-loop μ-loop
 loop-again c =
-    let d = c .before .before in
-    let r = d .before .before .before .before in
-    goes-on (loop-of r .loop .inv) (next-of r) (left-of r)
-    (accepted (entered r) (d .before .before .before .if2 .left))
-    (d .before .before .access-of .ensures)
-    (touch (d .before))
-    (d .becomes .ensures)
-    (c .before .counted .ensures)
-    (c .place-after .ensures)
+    let j = c .before in
+    let h = j .before .before in
+    let l = loop-of h .loop in
+    let W = start-of h .args .window in
+    let on = goes-on (l .inv) (next-of (h .before .before)) (due-of h .0) in
+    ⊎-elim
+    (λ w.
+    let told = w .1 .given .1 in
+    let f = accepted
+            (step-entered
+            (record {
+              before = record {
+                before = record { before = record { before = j .before; match2 = w .0 }; e2 = w .1 };
+                known-told2 = w .2;
+              };
+              step-refusal = w .3;
+            }))
+            (w .4 .left) in
+    on f
+    (w .14
+    ∙ step-leaves W (l .s) (seat-of h) _ (l .inv .opened .sound) told (f .seat) (w .5 .ensures) (w .7 .ensures .0) (w .9 .ensures .0)
+    (w .7 .ensures .1) (w .9 .ensures .1) (w .10 .ensures) (w .11 .ensures))
+    (w .13 ∙ tallied f (w .5 .ensures ∙ step-access _ _ told) (w .12 .ensures))
+    (c .place-after .ensures))
+    (λ w.
+    let e = entry-of (h .before .before) in
+    let other = other-tag e (w .0 .keys2) in
+    let f = accepted (other-entered (record { before = record { before = j .before; match2 = w .0 }; refusal-of = w .1 })) (w .2 .left) in
+    on f
+    (w .8
+    ∙ ⊎-elim
+      (λ v. v .2 ∙ other-changes W (l .s) (seat-of h) e other (f .seat) (sym (w .3 .ensures) ∙ v .0 .taken) (v .1 .ensures))
+      (λ v. v .1 ∙ other-stays W (l .s) (l .c) (seat-of h) e other (sym (w .3 .ensures) ∙ v .0 .left) (sym (f .code)))
+      (w .4 .came))
+    (w .7 ∙ tallied f (w .5 .ensures ∙ other-access (l .s .limit) (processAt (l .s) (seat-of h)) e other) (w .6 .ensures))
+    (c .place-after .ensures))
+    (j .match2 .came)
 
--- In the order of the code. The registers are those of the four arms that have one.
+-- In the order of the code.
 pub carry-spec : {M : Type 1} → statement M
 carry-spec =
     tie.close
-    (tie.spec Inv-loop μ-loop (λ c κs. search needs) (λ c κs. search needs) loop-holds
+    (tie.spec Inv-loop μ-loop (λ c κs. search needs) loop-holds
     (λ c κs. search needs) (λ c. search needs) (λ c. search needs) (λ c κs. search needs) returns
-    (λ c κs. search needs) returns-2
-    (λ c κs. search needs) (λ c κs. search needs) (λ c. omega (arith, low c)) low
-    (λ c κs. search needs) (λ c κs. search needs) returns-3
-    (λ c κs. search needs) (λ c. search needs)
-    (λ c. search needs)
-    (λ c. omega (arith, reach (c .before .before .before) (c .before .a .given .1)))
-    (λ c. omega (arith, reach (c .before .before .before) (c .before .a .given .1)))
-    (λ c. omega (arith, reach (c .before .before .before) (c .before .a .given .1)))
-    (λ c. search needs)
-    (λ c. omega (arith, reach (c .before .before .before) (c .before .a2 .given .1)))
-    (λ c. omega (arith, reach (c .before .before .before) (c .before .a2 .given .1)))
-    (λ c. omega (arith, reach (c .before .before .before) (c .before .a2 .given .1)))
-    (λ c. search needs)
-    (λ c. omega (arith, reach (c .before .before .before) (c .before .a3 .given .1)))
-    (λ c. omega (arith, reach (c .before .before .before) (c .before .a3 .given .1)))
-    (λ c κs. search needs) (λ c. search needs)
-    (λ c. omega (arith, reach (c .before .before .before) (c .before .a4 .given .1)))
-    (λ c. omega (arith, reach (c .before .before .before) (c .before .a4 .given .1)))
-    (λ c. search needs) (λ c. search needs)
-    (λ c κs. search needs)
-    (λ c. omega (arith, low (c .before .before .before .before .before .before)))
-    (λ c. low (c .before .before .before .before .before .before))
-    (λ c κs. search needs) add-k
-    (λ c κs. search needs) loop-less loop-again)
+    (λ c κs. search needs) (λ c κs. search needs) (λ c κs. search needs) (λ c κs. search needs) returns-2
+    (λ c. omega (arith, low c)) low
+    (λ c. search needs) (λ c κs. search needs) (λ c κs. search needs) returns-3
+    (λ c κs. search needs) (λ c κs. in-arrays (c .before)) (λ c κs. in-arrays (c .before .before .before)) (λ c κs. search needs) (λ c κs. search needs)
+    (λ c. omega (arith, low (stored-at c))) (λ c. low (stored-at c)) (λ c κs. search needs)
+    (λ c κs. search needs) (λ c κs. search needs) returns-4
+    (λ c κs. search needs) (λ c κs. search needs)
+    (λ c. omega (arith, low (c .before .before .before .before .before .before .before)))
+    (λ c. low (c .before .before .before .before .before .before .before))
+    (λ c κs. search needs) (λ c κs. search needs)
+    add-k (λ c κs. search needs) loop-less loop-again)

@@ -36,10 +36,14 @@ returns c =
     (run-rejected _ _ _ (d .before .refusal .ensures) (d .if1 .taken))
 
 carry-requires : tie.Need-carry-requires
-carry-requires c κs = schedule-opens _ (taken (else-of c)) (c .before .before .window .ensures) (begun c)
+carry-requires c κs =
+    let o = c .before in
+    schedule-opens _ (taken (else-of o)) (o .before .before .window .ensures) (begun o)
 
 returns-2 : tie.Need-returns-2
-returns-2 c = c .carry .ensures ∙ rw (begun (c .before)) (run-accepted _ _ (taken (else-of (c .before))))
+returns-2 c =
+    let o = c .before .before in
+    c .carry .ensures ∙ rw (begun o, c .before .no-counts2 .ensures) (run-accepted _ _ (taken (else-of o)))
 
 -- In the order of the code; the three bytes of the header are read at 0, 2 and 3.
 pub run-spec : {M : Type 1} → statement M
@@ -49,5 +53,5 @@ run-spec =
     (λ c. omega (arith, schedule-accepted _ (taken (c .before))))
     (λ c. omega (arith, schedule-accepted _ (taken (c .before .before)))) (λ c κs. search needs)
     (λ c. omega (arith, schedule-accepted _ (taken (c .before .before .before .before)))) (λ c κs. search needs)
-    (λ c. search needs) (λ c. search needs) (λ c κs. search needs) (λ c κs. search needs) (λ c κs. search needs)
+    (λ c. search needs) (λ c. search needs) (λ c κs. search needs) (λ c κs. search needs) (λ c κs. search needs) (λ c κs. search needs)
     carry-requires returns-2)
