@@ -172,15 +172,15 @@ loop-again c =
     (λ w.
     let told = w .1 .given .1 in
     let f = accepted
-            (step-entered
-            (record {
-              before = record {
-                before = record { before = record { before = j .before; match2 = w .0 }; e2 = w .1 };
-                known-told2 = w .2;
-              };
-              step-refusal = w .3;
-            }))
-            (w .4 .left) in
+    (step-entered
+    (record {
+      before = record {
+        before = record { before = record { before = j .before; match2 = w .0 }; e2 = w .1 };
+        known-told2 = w .2;
+      };
+      step-refusal = w .3;
+    }))
+    (w .4 .left) in
     on f
     (w .14
     ∙ step-leaves W (l .s) (seat-of h) _ (l .inv .opened .sound) told (f .seat) (w .5 .ensures) (w .7 .ensures .0) (w .9 .ensures .0)
@@ -194,9 +194,9 @@ loop-again c =
     on f
     (w .8
     ∙ ⊎-elim
-      (λ v. v .2 ∙ other-changes W (l .s) (seat-of h) e other (f .seat) (sym (w .3 .ensures) ∙ v .0 .taken) (v .1 .ensures))
-      (λ v. v .1 ∙ other-stays W (l .s) (l .c) (seat-of h) e other (sym (w .3 .ensures) ∙ v .0 .left) (sym (f .code)))
-      (w .4 .came))
+    (λ v. v .2 ∙ other-changes W (l .s) (seat-of h) e other (f .seat) (sym (w .3 .ensures) ∙ v .0 .taken) (v .1 .ensures))
+    (λ v. v .1 ∙ other-stays W (l .s) (l .c) (seat-of h) e other (sym (w .3 .ensures) ∙ v .0 .left) (sym (f .code)))
+    (w .4 .came))
     (w .7 ∙ tallied f (w .5 .ensures ∙ other-access (l .s .limit) (processAt (l .s) (seat-of h)) e other) (w .6 .ensures))
     (c .place-after .ensures))
     (j .match2 .came)
