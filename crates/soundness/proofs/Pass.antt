@@ -1,11 +1,11 @@
 -- Two tests in one pass over a list: Q of every element, and P of those from n on. Assumes nothing.
 use Prim.Native.Nat.{ℕ, suc, _+_, _≤_, _<_, max}
 use mathlib.Core.Path.{_≡_, refl, sym, ap, _∙_}
-use mathlib.Core.Bool.{Bool, true, false, _&&_, _||_, and-false}
+use mathlib.Core.Bool.{Bool, true, false, not, _&&_, _||_, and-false}
 use mathlib.Core.List.{List}
 use native.Mathlib.Numerals.{add-one}
 use native.Mathlib.Omega.{arith}
-use borrow.Author.Tests.{ltb-true, ltb-false}
+use borrow.Author.Tests.{ltb-true, ltb-false, not-true, not-false}
 use lib.Dec.{ltb}
 use lib.ListN.{length, getD, drop, drop-of-length-le}
 use lib.Seq.{drop-cons}
@@ -27,11 +27,6 @@ module _ {A : Type 0} (P Q : A → Bool) (n : ℕ) (xs : List A) where
   pub begins : rest 0 ≡ (every P (drop n xs) && every Q xs)
   begins = let e : max n 0 ≡ n = omega arith in rw e
 
-  pub ends : (i : ℕ) → length xs ≤ i → rest i ≡ true
-  ends i h =
-      let e : length xs ≤ max n i = omega arith in
-      rw (drop-of-length-le xs e, drop-of-length-le xs h)
-
   -- The tests of the element at i.
   abbrev pub here : ℕ → A → Bool
   here i x = (ltb i n || P x) && Q x
@@ -50,8 +45,21 @@ module _ {A : Type 0} (P Q : A → Bool) (n : ℕ) (xs : List A) where
           rw (e, e′, add-one, drop-cons xs i d)
           (shuffle (P (getD xs i d)) (every P (drop (suc i) xs)) (Q (getD xs i d)) (every Q (drop (suc i) xs)))
 
-  pub more : (i : ℕ) (d : A) → i < length xs → here i (getD xs i d) ≡ true → rest i ≡ rest (i + 1)
-  more i d h p = goes i d h ∙ ap (λ b. b && rest (i + 1)) p
+  -- Of m elements: by what is left at i of a test t of them all, and the answer b of the tests of the element at i, t goes on or fails.
+  module _ {m : ℕ} (size : length xs ≡ m) (i : ℕ) {t : Bool} (left : t ≡ rest i) where
+    module _ (d : A) (h : i < m) {b : Bool} (told : b ≡ here i (getD xs i d)) where
+      next : t ≡ (b && rest (i + 1))
+      next = left ∙ goes i d (rw size h) ∙ ap (λ c. c && rest (i + 1)) (sym told)
 
-  pub stop : (i : ℕ) (d : A) → i < length xs → here i (getD xs i d) ≡ false → rest i ≡ false
-  stop i d h p = goes i d h ∙ ap (λ b. b && rest (i + 1)) p
+      pub more : not b ≡ false → t ≡ rest (i + 1)
+      more p = next ∙ ap (λ c. c && rest (i + 1)) (not-false b p)
+
+      pub stop : not b ≡ true → false ≡ t
+      stop p = sym (next ∙ ap (λ c. c && rest (i + 1)) (not-true b p))
+
+    -- Past the last element it holds.
+    pub ends : m ≤ i → true ≡ t
+    ends h =
+        let e : length xs ≤ i = rw size h in
+        let e′ : length xs ≤ max n i = omega arith in
+        sym (left ∙ rw (drop-of-length-le xs e′, drop-of-length-le xs e))
