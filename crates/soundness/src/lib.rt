@@ -1,7 +1,7 @@
 // When a session is sound (document 01, "Numbers returned", last paragraph): the test that every public operation makes first.
 ghost use mathlib.Core.Path.{_≡_};
 ghost use mathlib.Core.Bool.{not, _&&_, _||_};
-ghost use lib.ListN.{drop};
+ghost use lib.ListN.{length, drop};
 ghost use lib.Dec.{eqb};
 ghost use Rattle.model.specs.Refusal.{standing, isOutside};
 ghost use Rattle.model.specs.Sound.{every, soundProcess, sound as soundOf};
@@ -34,27 +34,14 @@ fn record_sound(window: usize, limit: usize, seated: bool, q: Process) -> bool
     }
 }
 
-// The registers from an index on are blank.
-fn blank_from(values: &[u32], from: usize) -> bool
-    ensures { λ r. ⌜ r ≡ every (λ x. eqb x 0) (drop from (now (values .entry))) ⌝ }
+// "Registers and marks past L are blank and unmarked": those from an index on.
+fn blank_from<'a>(values: &'a [u32; 256], marks: &'a [bool; 256], from: usize) -> bool
+    requires { ⌜ (length (now values) ≡ 256) × (length (now marks) ≡ 256) ⌝ }
+    ensures { λ r. ⌜ r ≡ every (λ x. eqb x 0) (drop from (now (values .entry))) && every not (drop from (now (marks .entry))) ⌝ }
 {
     let mut i = from;
-    while i < values.len() {
-        if values[i] != 0 {
-            return false;
-        }
-        i += 1;
-    }
-    true
-}
-
-// The marks from an index on are unset.
-fn unmarked_from(marks: &[bool], from: usize) -> bool
-    ensures { λ r. ⌜ r ≡ every not (drop from (now (marks .entry))) ⌝ }
-{
-    let mut i = from;
-    while i < marks.len() {
-        if marks[i] {
+    while i < 256 {
+        if !((values[i] == 0) & !marks[i]) {
             return false;
         }
         i += 1;
@@ -72,13 +59,8 @@ pub fn sound(s: Session) -> bool
         return false;
     }
     let window = window::window(n as u8);
-    if !((window <= limit) & (limit <= 256)) {
-        return false;
-    }
-    if !blank_from(&s.values, limit) {
-        return false;
-    }
-    if !unmarked_from(&s.marks, limit) {
+    let rounds = (window <= limit) & (limit <= 256);
+    if !(rounds & blank_from(&s.values, &s.marks, limit)) {
         return false;
     }
     let mut i = 0;
