@@ -63,5 +63,5 @@ sound-spec =
     (λ c. processes-fail _ (c .if1 .taken))
     (λ c. omega (arith, few (c .before .args .t1) (not-false _ (c .if1 .left))))
     (λ c κs. search needs) (λ c κs. search needs) returns-2 loop-holds
-    (λ c. search needs) (λ c. search needs) (λ c κs. search needs) returns-3 (λ c. search needs) (λ c. search needs)
+    (λ c. omega arith) (λ c. omega arith) (λ c κs. search needs) returns-3 (λ c. omega arith) (λ c. omega arith)
     loop-again returns-4)
