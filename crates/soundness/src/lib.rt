@@ -17,17 +17,19 @@ fn record_sound(window: usize, limit: usize, seated: bool, q: Process) -> bool
     let phase = q.phase;
     let round = q.round;
     let held = seated & (0 < q.estimate) & (round <= limit);
+    let begun = held & (1 <= round);
+    let late = held & (window <= round);
     match phase {
         Phase::Idle => (q.estimate == 0) & (round <= limit) & (round == 0),
         Phase::Waiting => held,
-        Phase::Write => held & (1 <= round),
-        Phase::Scan(k) => held & ((1 <= round) & (round < k) & (k <= limit)),
-        Phase::Adopt(k) => held & ((1 <= round) & (round <= k) & (k <= limit)),
-        Phase::Compare(i) => held & ((1 <= round) & ((i < round) & (i < window))),
-        Phase::Flag(i) => held & ((1 <= round) & ((i < round) & (i < window))),
-        Phase::CheckMark(i) => held & ((window <= round) & (i < window)),
-        Phase::CheckValue(i) => held & ((window <= round) & (i < window)),
-        Phase::Commit => held & (window <= round),
+        Phase::Write => begun,
+        Phase::Scan(k) => begun & (round < k) & (k <= limit),
+        Phase::Adopt(k) => begun & (round <= k) & (k <= limit),
+        Phase::Compare(i) => begun & (i < round) & (i < window),
+        Phase::Flag(i) => begun & (i < round) & (i < window),
+        Phase::CheckMark(i) => late & (i < window),
+        Phase::CheckValue(i) => late & (i < window),
+        Phase::Commit => late,
         Phase::Exhausted => held & (round == limit),
         Phase::Crashed => held,
         Phase::Decided => held,

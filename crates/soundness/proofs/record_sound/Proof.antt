@@ -1,7 +1,7 @@
 -- `soundness::record_sound` meets its contract: in each arm the phase is known, and the clause is what was computed. Assumes nothing.
 use Prim.Native.Nat.{ℕ, min}
 use mathlib.Core.Path.{_≡_, refl, sym, ap, _∙_}
-use mathlib.Core.Bool.{Bool, true, false, _&&_, _||_, and-true, or-true}
+use mathlib.Core.Bool.{Bool, true, false, _&&_, _||_, and-assoc, and-true, or-true}
 use native.Mathlib.Omega.{arith}
 use borrow.Author.Needs.{needs}
 use borrow.Author.Tests.{ltb-true, ltb-false, lt-ltb, le-ltb}
@@ -24,8 +24,8 @@ below-both i a b = by (ltb i a) (ltb i b) refl refl
     by false y p q = sym (le-ltb i (min a b) (omega (arith, ltb-false i a p)))
 
 -- The clause of compare and flag.
-near : (i r W : ℕ) → (leb 1 r && (ltb i r && ltb i W)) ≡ (leb 1 r && ltb i (min r W))
-near i r W = ap (λ b. leb 1 r && b) (below-both i r W)
+near : (i r W : ℕ) → (leb 1 r && ltb i r && ltb i W) ≡ (leb 1 r && ltb i (min r W))
+near i r W = and-assoc (leb 1 r) _ _ ∙ ap (λ b. leb 1 r && b) (below-both i r W)
 
 arranged : (a e l p : Bool) → (a && e && l && p) ≡ ((a || false) && (e && l && p))
 arranged true e l p = refl
@@ -41,22 +41,26 @@ module _ (W L : ℕ) (seated : Bool) (q : Process) where
   unfolding soundProcess soundPhase
   out told p = rw (told, or-true seated) p
 
-  -- Any other.
-  proposed : {φ : Phase} {b : Bool}
-      → q .phase ≡ φ
-      → isOutside (standing φ) ≡ false
-      → b ≡ soundPhase W L (q .round) φ
-      → (seated && ltb 0 (q .estimate) && leb (q .round) L && b) ≡ Tested
-  unfolding soundProcess
-  proposed told e p = rw (told, e, p) (arranged seated _ _ _)
+  -- Any other, by the number of tests that the clause of its phase has.
+  module _ {φ : Phase} (told : q .phase ≡ φ) (ins : isOutside (standing φ) ≡ false) where
+    abbrev held : Bool
+    held = seated && ltb 0 (q .estimate) && leb (q .round) L
 
-  -- Any other whose phase has no clause.
-  free : {φ : Phase}
-      → q .phase ≡ φ
-      → isOutside (standing φ) ≡ false
-      → true ≡ soundPhase W L (q .round) φ
-      → (seated && ltb 0 (q .estimate) && leb (q .round) L) ≡ Tested
-  free told e p = sym (and-true _) ∙ proposed told e p
+    abbrev clause : Bool
+    clause = soundPhase W L (q .round) φ
+
+    one : {a : Bool} → a ≡ clause → (held && a) ≡ Tested
+    unfolding soundProcess
+    one p = rw (told, ins, p) (arranged seated _ _ _)
+
+    free : true ≡ clause → held ≡ Tested
+    free p = sym (and-true held) ∙ one p
+
+    two : (a b : Bool) → (a && b) ≡ clause → (held && a && b) ≡ Tested
+    two a b p = and-assoc held a b ∙ one p
+
+    three : (a b c : Bool) → (a && b && c) ≡ clause → (held && a && b && c) ≡ Tested
+    three a b c p = ap (λ x. x && c) (and-assoc held a b) ∙ and-assoc held (a && b) c ∙ one p
 
 -- In the order of the code: what each arm is told of the phase, and then the arms' answers.
 pub record-sound-spec : {M : Type 1} → statement M
@@ -68,16 +72,16 @@ record-sound-spec =
     (λ c. search needs) (λ c. search needs) (λ c. search needs) (λ c. search needs)
     (λ c. let a = c .before .before .before .before .args in out (a .window) (a .limit) (a .seated) (a .q) (c .before .enum-told .given .1) refl)
     (λ c. let a = c .before .before .before .args in free (a .window) (a .limit) (a .seated) (a .q) (c .enum-told2 .given .1) refl refl)
-    (λ c. let a = c .before .before .before .args in proposed (a .window) (a .limit) (a .seated) (a .q) (c .enum-told3 .given .1) refl refl)
-    (λ c. let a = c .before .before .before .before .args in proposed (a .window) (a .limit) (a .seated) (a .q) (c .before .phase .given .1) refl refl)
-    (λ c. let a = c .before .before .before .before .args in proposed (a .window) (a .limit) (a .seated) (a .q) (c .before .phase2 .given .1) refl refl)
-    (λ c. let a = c .before .before .before .before .args in proposed (a .window) (a .limit) (a .seated) (a .q) (c .before .phase3 .given .1) refl
+    (λ c. let a = c .before .before .before .args in one (a .window) (a .limit) (a .seated) (a .q) (c .enum-told3 .given .1) refl refl)
+    (λ c. let a = c .before .before .before .before .args in three (a .window) (a .limit) (a .seated) (a .q) (c .before .phase .given .1) refl _ _ _ refl)
+    (λ c. let a = c .before .before .before .before .args in three (a .window) (a .limit) (a .seated) (a .q) (c .before .phase2 .given .1) refl _ _ _ refl)
+    (λ c. let a = c .before .before .before .before .args in three (a .window) (a .limit) (a .seated) (a .q) (c .before .phase3 .given .1) refl _ _ _
     (near (c .before .phase3 .given .0 .0) (a .q .round) (a .window)))
-    (λ c. let a = c .before .before .before .before .args in proposed (a .window) (a .limit) (a .seated) (a .q) (c .before .phase4 .given .1) refl
+    (λ c. let a = c .before .before .before .before .args in three (a .window) (a .limit) (a .seated) (a .q) (c .before .phase4 .given .1) refl _ _ _
     (near (c .before .phase4 .given .0 .0) (a .q .round) (a .window)))
-    (λ c. let a = c .before .before .before .before .args in proposed (a .window) (a .limit) (a .seated) (a .q) (c .before .phase5 .given .1) refl refl)
-    (λ c. let a = c .before .before .before .before .args in proposed (a .window) (a .limit) (a .seated) (a .q) (c .before .phase6 .given .1) refl refl)
-    (λ c. let a = c .before .before .before .args in proposed (a .window) (a .limit) (a .seated) (a .q) (c .enum-told4 .given .1) refl refl)
-    (λ c. let a = c .before .before .before .args in proposed (a .window) (a .limit) (a .seated) (a .q) (c .enum-told5 .given .1) refl refl)
+    (λ c. let a = c .before .before .before .before .args in two (a .window) (a .limit) (a .seated) (a .q) (c .before .phase5 .given .1) refl _ _ refl)
+    (λ c. let a = c .before .before .before .before .args in two (a .window) (a .limit) (a .seated) (a .q) (c .before .phase6 .given .1) refl _ _ refl)
+    (λ c. let a = c .before .before .before .args in one (a .window) (a .limit) (a .seated) (a .q) (c .enum-told4 .given .1) refl refl)
+    (λ c. let a = c .before .before .before .args in one (a .window) (a .limit) (a .seated) (a .q) (c .enum-told5 .given .1) refl refl)
     (λ c. let a = c .before .before .before .args in free (a .window) (a .limit) (a .seated) (a .q) (c .enum-told6 .given .1) refl refl)
     (λ c. let a = c .before .before .before .args in free (a .window) (a .limit) (a .seated) (a .q) (c .enum-told7 .given .1) refl refl))
