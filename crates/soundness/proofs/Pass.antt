@@ -35,6 +35,7 @@ module _ {A : Type 0} (P Q : A → Bool) (n : ℕ) (xs : List A) where
   pub begins : rest 0 ≡ (every P (drop n xs) && every Q xs)
   begins = let e : max n 0 ≡ n = omega arith in rw e
 
+  -- The tests of the element at i.
   abbrev here : ℕ → A → Bool
   here i x = (ltb i n || P x) && Q x
 

@@ -51,7 +51,7 @@ fn blank_from<'a>(values: &'a [u32; 256], marks: &'a [bool; 256], from: usize) -
     true
 }
 
-// A session: its numbers, the registers and marks past the limit, and its records.
+// "A session is sound if: n is 1 to 64, L is W to 256", the registers and marks past L, and its records, in one pass.
 pub fn sound(s: Session) -> bool
     ensures { λ r. ⌜ r ≡ soundOf s ⌝ }
 {
