@@ -34,16 +34,14 @@ pub fn opened(n: usize, limit: usize) -> Session
 pub fn open_refusal(n: usize, limit: usize) -> u32
     ensures { λ r. ⌜ r ≡ refusal (openTests 64 256 n limit) ⌝ }
 {
-    if n < 1 {
-        return 1; // no process
+    if !((1 <= n) & (n <= 64)) {
+        return 1;
     }
-    if 64 < n {
-        return 1; // too many
-    }
-    if limit < window::window(n as u8) {
+    let window = window::window(n as u8);
+    if !((window <= limit) & (limit <= 256)) {
         return 2;
     }
-    if 256 < limit { 2 } else { 0 }
+    0
 }
 
 // 01, "The board and the seats" and "Numbers returned", opening. Refused, the answer holds the session of no process and no round.

@@ -2,8 +2,7 @@
 // sound, then by 4, 14 or 15 "as the read-out has a seat, a round or a buffer" ("Numbers returned"). An answer that refuses holds
 // blank data, and the lent buffer is as it was.
 ghost use mathlib.Core.Path.{_≡_};
-ghost use mathlib.Core.Bool.{_&&_};
-ghost use lib.Dec.{leb};
+ghost use Rattle.model.specs.Board.{idle};
 ghost use Rattle.model.specs.ReadOut.{register as registerOf, processRecord, decision as decisionOf};
 use model::DecisionAnswer;
 use model::Phase;
@@ -11,13 +10,6 @@ use model::Process;
 use model::ProcessAnswer;
 use model::RegisterAnswer;
 use model::Session;
-
-// Whether a round is 1 to L ("Numbers returned", 14).
-fn is_round(limit: usize, round: usize) -> bool
-    ensures { λ r. ⌜ r ≡ leb 1 round && leb round limit ⌝ }
-{
-    if 1 <= round { round <= limit } else { false }
-}
 
 // "Standing values": "Other read-outs return T[r] and C[r]". 3, then 14 for a round not 1 to L.
 pub fn register(s: Session, round: usize) -> RegisterAnswer
@@ -30,18 +22,32 @@ pub fn register(s: Session, round: usize) -> RegisterAnswer
             marked: false,
         };
     }
-    let limit = s.limit;
-    if !is_round(limit, round) {
+    if !((1 <= round) & (round <= s.limit)) {
         return RegisterAnswer {
             code: 14,
             value: 0,
             marked: false,
         };
     }
+    let index = round - 1;
     RegisterAnswer {
         code: 0,
-        value: s.values[round - 1],
-        marked: s.marks[round - 1],
+        value: s.values[index],
+        marked: s.marks[index],
+    }
+}
+
+// The answer of a refused read-out of a record: blank data.
+fn no_record(code: u32) -> ProcessAnswer
+    ensures { λ r. ⌜ r ≡ record { code = code; process = idle } ⌝ }
+{
+    ProcessAnswer {
+        code: code,
+        process: Process {
+            phase: Phase::Idle,
+            round: 0,
+            estimate: 0,
+        },
     }
 }
 
@@ -49,22 +55,11 @@ pub fn register(s: Session, round: usize) -> RegisterAnswer
 pub fn process_record(s: Session, p: usize) -> ProcessAnswer
     ensures { λ r. ⌜ r ≡ processRecord s p ⌝ }
 {
-    let blank = Process {
-        phase: Phase::Idle,
-        round: 0,
-        estimate: 0,
-    };
     if !soundness::sound(s) {
-        return ProcessAnswer {
-            code: 3,
-            process: blank,
-        };
+        return no_record(3);
     }
     if s.n <= p {
-        return ProcessAnswer {
-            code: 4,
-            process: blank,
-        };
+        return no_record(4);
     }
     let q = s.processes[p];
     ProcessAnswer {

@@ -25,12 +25,16 @@ answered-by k m t before after e refused accepted = rw (← e) (answered k t bef
 returns : tie.Need-returns
 unfolding opening openWithin
 returns c =
-    answered-by _ _ _ _ _ (c .before .before .open-refusal .ensures) (λ k. c .opened .ensures) (λ e. absurd (c .before .if1 .taken e))
+    let a = c .before .before .before .args in
+    answered-by _ _ _ (opened 0 0) (opened (a .n) (a .limit)) (c .before .before .open-refusal .ensures)
+    (λ k. c .opened .ensures) (λ e. absurd (c .before .if1 .taken e))
 
 returns-2 : tie.Need-returns-2
 unfolding opening openWithin
 returns-2 c =
-    answered-by _ _ _ _ _ (c .before .before .open-refusal .ensures) (λ k. absurd (k (c .before .if1 .left))) (λ e. c .opened2 .ensures)
+    let a = c .before .before .before .args in
+    answered-by _ _ _ (opened 0 0) (opened (a .n) (a .limit)) (c .before .before .open-refusal .ensures)
+    (λ k. absurd (k (c .before .if1 .left))) (λ e. c .opened2 .ensures)
 
 pub open-spec : {M : Type 1} → statement M
 open-spec =

@@ -1,44 +1,42 @@
--- `opening::open_refusal` meets its contract: each return knows which of the four bounds hold. Assumes nothing.
-use mathlib.Core.Path.{sym}
+-- `opening::open_refusal` meets its contract: the first test that holds gives the number. Assumes nothing.
+use Prim.Native.Nat.{ℕ, _≤_}
+use mathlib.Core.Path.{_≡_}
+use mathlib.Core.Bool.{Bool, true, false, not, _&&_}
+use native.Mathlib.Omega.{arith}
 use borrow.Author.Needs.{needs}
-use borrow.Author.Tests.{le-leb, lt-leb}
+use borrow.Author.Tests.{leb-true, not-false}
+use lib.Dec.{leb}
+use Rattle.basics.specs.Bools.{and-right}
+use Rattle.model.specs.Window.{window}
+use Rattle.model.specs.Refusal.{refusal, openTests}
 use Rattle.opening.proofs.open_refusal.Statement.{statement}
 use Rattle.opening.proofs.open_refusal.Tie as tie
 
-returns : tie.Need-returns
-returns c = rw (lt-leb _ _ (c .if1 .taken))
+module _ (n L : ℕ) where
+  abbrev code : ℕ
+  code = refusal (openTests 64 256 n L)
 
-returns-2 : tie.Need-returns-2
-returns-2 c = rw (le-leb _ _ (c .before .if1 .left), lt-leb _ _ (c .if2 .taken))
+  abbrev processes : Bool
+  processes = leb 1 n && leb n 64
 
-returns-3 : tie.Need-returns-3
-returns-3 c =
-    rw (
-      le-leb _ _ (c .before .before .before .if1 .left),
-      le-leb _ _ (c .before .before .if2 .left),
-      ← c .before .window .ensures,
-      lt-leb _ _ (c .if3 .taken),
-    )
+  few : not processes ≡ false → n ≤ 64
+  few p = leb-true n 64 (and-right (leb 1 n) (leb n 64) (not-false processes p))
 
-returns-4 : tie.Need-returns-4
-returns-4 c =
-    rw (
-      le-leb _ _ (c .before .before .before .before .if1 .left),
-      le-leb _ _ (c .before .before .before .if2 .left),
-      ← c .before .before .window .ensures,
-      le-leb _ _ (c .before .if3 .left),
-      lt-leb _ _ (c .if4 .taken),
-    )
+  one : not processes ≡ true → 1 ≡ code
+  one p = rw p
 
-returns-5 : tie.Need-returns-5
-returns-5 c =
-    rw (
-      le-leb _ _ (c .before .before .before .before .if1 .left),
-      le-leb _ _ (c .before .before .before .if2 .left),
-      ← c .before .before .window .ensures,
-      le-leb _ _ (c .before .if3 .left),
-      le-leb _ _ (c .if4 .left),
-    )
+  module _ {W : ℕ} (w : W ≡ window n) (p : not processes ≡ false) where
+    two : not (leb W L && leb L 256) ≡ true → 2 ≡ code
+    two q = rw (p, ← w, q)
+
+    none : not (leb W L && leb L 256) ≡ false → 0 ≡ code
+    none q = rw (p, ← w, q)
 
 pub open-refusal-spec : {M : Type 1} → statement M
-open-refusal-spec = tie.close (tie.spec returns returns-2 (λ c. search needs) (λ c κs. search needs) returns-3 returns-4 returns-5)
+open-refusal-spec =
+    tie.close
+    (tie.spec (λ c. one (c .before .args .n) (c .before .args .limit) (c .if1 .taken))
+    (λ c. omega (arith, few (c .before .args .n) (c .before .args .limit) (c .if1 .left)))
+    (λ c κs. search needs)
+    (λ c. two (c .before .before .before .args .n) (c .before .before .before .args .limit) (c .before .window .ensures) (c .before .before .if1 .left) (c .if2 .taken))
+    (λ c. none (c .before .before .before .args .n) (c .before .before .before .args .limit) (c .before .window .ensures) (c .before .before .if1 .left) (c .if2 .left)))

@@ -1,37 +1,59 @@
 -- `readout::process_record` meets its contract. The tests that led to an answer say which it is. Assumes nothing.
-use Prim.Native.Nat.{_<_}
+use Prim.Native.Nat.{ℕ, _≤_, _<_}
 use mathlib.Core.Path.{_≡_, sym, _∙_}
-use mathlib.Core.Bool.{true}
+use mathlib.Core.Bool.{Bool, true, false, not}
 use native.Mathlib.Omega.{arith}
 use borrow.Author.Needs.{needs}
-use borrow.Author.Tests.{not-true, not-false, le-leb, lt-leb}
+use borrow.Author.Tests.{not-false, le-leb, lt-leb}
+use Rattle.model.specs.declared.Session.{Session}
+use Rattle.model.specs.declared.ProcessAnswer.{ProcessAnswer}
+use Rattle.model.specs.Board.{idle, processAt}
 use Rattle.model.specs.Sound.{sound}
 use Rattle.model.specs.ReadOut.{processRecord}
 use Rattle.laws.specs.Sounds.{sound-few}
 use Rattle.readout.proofs.process_record.Statement.{statement}
 use Rattle.readout.proofs.process_record.Tie as tie
 
--- Past the first test the session is sound.
-is-sound : (c : tie.Else1) → sound (c .before .before .args .t1) ≡ true
-is-sound c = sym (c .before .sound .ensures) ∙ not-false _ (c .if1 .left)
+-- The answers, by the session's test b and the process' number.
+module _ (s : Session) (p : ℕ) {b : Bool} (told : b ≡ sound s) where
+  unsound : not b ≡ true → _≡_ {A = ProcessAnswer} (record { code = 3; process = idle }) (processRecord s p)
+  unfolding processRecord
+  unsound u = rw (sym told, u)
 
--- Past the second the process is one of the 64.
-low : (c : tie.Else2) → c .before .before .before .args .p < 64
-low c = omega (arith, c .if2 .left, sound-few _ (is-sound (c .before)))
+  module _ (u : not b ≡ false) where
+    is-sound : sound s ≡ true
+    is-sound = sym told ∙ not-false b u
 
-returns : tie.Need-returns
-unfolding processRecord
-returns c = rw (← c .before .sound .ensures, not-true (c .before .sound .result) (c .if1 .taken))
+    no-process : s .n ≤ p → _≡_ {A = ProcessAnswer} (record { code = 4; process = idle }) (processRecord s p)
+    unfolding processRecord
+    no-process h = rw (is-sound, le-leb (s .n) p h)
 
-returns-2 : tie.Need-returns-2
-unfolding processRecord
-returns-2 c = rw (is-sound (c .before), le-leb _ _ (c .if2 .taken))
+    low : p < s .n → p < 64
+    low h = omega (arith, sound-few s is-sound)
 
-returns-3 : tie.Need-returns-3
-unfolding processRecord
-returns-3 c = rw (is-sound (c .before .before), lt-leb _ _ (c .before .if2 .left))
+    found : p < s .n → _≡_ {A = ProcessAnswer} (record { code = 0; process = processAt s p }) (processRecord s p)
+    unfolding processRecord
+    found h = rw (is-sound, lt-leb (s .n) p h)
 
+-- Past both tests the process is one of the 64.
+index : (c : tie.Else2) → c .before .before .before .args .p < 64
+index c =
+    let a = c .before .before .before .args in
+    low (a .t1) (a .p) (c .before .before .sound .ensures) (c .before .if1 .left) (omega (arith, c .if2 .left))
+
+-- In the order of the code: the two tests with their answers, then the record's address and index.
 pub process-record-spec : {M : Type 1} → statement M
 process-record-spec =
     tie.close
-    (tie.spec (λ c κs. search needs) returns returns-2 (λ c. omega (arith, low c)) (λ c. omega (arith, low c)) returns-3)
+    (tie.spec (λ c κs. search needs) (λ c κs. search needs)
+    (λ c. let d = c .before .before in
+    c .no-record .ensures ∙ unsound (d .before .args .t1) (d .before .args .p) (d .sound .ensures) (c .before .if1 .taken))
+    (λ c κs. search needs)
+    (λ c. let d = c .before .before .before in
+    c .no-record2 .ensures
+    ∙ no-process (d .before .args .t1) (d .before .args .p) (d .sound .ensures) (c .before .before .if1 .left)
+    (omega (arith, c .before .if2 .taken)))
+    (λ c. omega (arith, index c)) (λ c. omega (arith, index c))
+    (λ c. let d = c .before .before .before in
+    found (d .before .args .t1) (d .before .args .p) (d .sound .ensures) (c .before .before .if1 .left)
+    (omega (arith, c .before .if2 .left))))

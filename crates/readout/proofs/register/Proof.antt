@@ -1,58 +1,65 @@
 -- `readout::register` meets its contract. The tests that led to an answer say which it is. Assumes nothing.
-use Prim.Native.Nat.{_≤_}
+use Prim.Native.Nat.{ℕ, _≤_}
 use mathlib.Core.Path.{_≡_, sym, _∙_}
-use mathlib.Core.Bool.{true, _&&_}
+use mathlib.Core.Bool.{Bool, true, false, not, _&&_}
 use native.Mathlib.Omega.{arith}
 use lib.Dec.{leb}
 use borrow.Author.Needs.{needs}
-use borrow.Author.Tests.{not-true, not-false}
+use borrow.Author.Tests.{leb-true, not-true, not-false}
+use Rattle.basics.specs.Bools.{and-left, and-right}
+use Rattle.model.specs.declared.Session.{Session}
+use Rattle.model.specs.declared.RegisterAnswer.{RegisterAnswer}
+use Rattle.model.specs.Board.{valueAt, markAt}
 use Rattle.model.specs.Sound.{sound}
 use Rattle.model.specs.ReadOut.{register}
 use Rattle.laws.specs.Sounds.{sound-low}
-use Rattle.readout.proofs.Bounds.{between}
 use Rattle.readout.proofs.register.Statement.{statement}
 use Rattle.readout.proofs.register.Tie as tie
 
--- Past the first test the session is sound.
-is-sound : (c : tie.Else1) → sound (c .before .before .args .t1) ≡ true
-is-sound c = sym (c .before .sound .ensures) ∙ not-false _ (c .if1 .left)
+-- The answers, by the session's test b and the round's.
+module _ (s : Session) (r : ℕ) {b : Bool} (told : b ≡ sound s) where
+  abbrev round : Bool
+  round = leb 1 r && leb r (s .limit)
 
--- Past the second the round is 1 to L, which is at most 256.
+  unsound : not b ≡ true → _≡_ {A = RegisterAnswer} (record { code = 3; value = 0; marked = false }) (register s r)
+  unfolding register
+  unsound p = rw (sym told, p)
+
+  module _ (p : not b ≡ false) where
+    is-sound : sound s ≡ true
+    is-sound = sym told ∙ not-false b p
+
+    no-round : not round ≡ true → _≡_ {A = RegisterAnswer} (record { code = 14; value = 0; marked = false }) (register s r)
+    unfolding register
+    no-round q = rw (is-sound, q)
+
+    module _ (q : not round ≡ false) where
+      bounds : (1 ≤ r) × (r ≤ s .limit) × (s .limit ≤ 256)
+      bounds =
+          let t = not-false round q in
+          (leb-true 1 r (and-left (leb 1 r) _ t), leb-true r _ (and-right (leb 1 r) _ t), sound-low s is-sound)
+
+      found : _≡_ {A = RegisterAnswer} (record { code = 0; value = valueAt s r; marked = markAt s r }) (register s r)
+      unfolding register
+      found = rw (is-sound, q)
+
+-- Past both tests the round is 1 to L, which is at most 256.
 within : (c : tie.Else2)
-    → (leb 1 (c .before .before .before .before .args .round)
-    && leb (c .before .before .before .before .args .round) (c .before .before .before .before .args .t1 .limit))
-    ≡ true
-within c = sym (c .before .is-round .ensures) ∙ not-false _ (c .if2 .left)
+    → (1 ≤ c .before .before .before .args .round)
+    × (c .before .before .before .args .round ≤ c .before .before .before .args .t1 .limit)
+    × (c .before .before .before .args .t1 .limit ≤ 256)
+within c =
+    let a = c .before .before .before .args in
+    bounds (a .t1) (a .round) (c .before .before .sound .ensures) (c .before .if1 .left) (c .if2 .left)
 
-bounds : (c : tie.Else2)
-    → (1 ≤ c .before .before .before .before .args .round)
-    × (c .before .before .before .before .args .round ≤ c .before .before .before .before .args .t1 .limit)
-    × (c .before .before .before .before .args .t1 .limit ≤ 256)
-bounds c =
-    let b = between _ _ _ (within c) in
-    (b .0, b .1, sound-low _ (is-sound (c .before .before)))
-
-returns : tie.Need-returns
-unfolding register
-returns c = rw (← c .before .sound .ensures, not-true (c .before .sound .result) (c .if1 .taken))
-
-returns-2 : tie.Need-returns-2
-unfolding register
-returns-2 c =
-    rw (
-      is-sound (c .before .before),
-      ← c .before .is-round .ensures,
-      not-true (c .before .is-round .result) (c .if2 .taken),
-    )
-
-returns-3 : tie.Need-returns-3
-unfolding register
-returns-3 c = rw (is-sound (c .before .before .before .before), within (c .before .before))
-
--- In the order of the code: the two tests, then the index, its address and its bound, once for the value and once for the mark.
+-- In the order of the code: the two tests, then the index, its address and its bounds.
 pub register-spec : {M : Type 1} → statement M
 register-spec =
     tie.close
-    (tie.spec (λ c κs. search needs) returns (λ c κs. search needs) returns-2
-    (λ c. omega (arith, bounds c)) (λ c. omega (arith, bounds c)) (λ c. omega (arith, bounds c))
-    (λ c. omega (arith, bounds (c .before))) (λ c. omega (arith, bounds (c .before))) returns-3)
+    (tie.spec (λ c κs. search needs)
+    (λ c. unsound (c .before .before .args .t1) (c .before .before .args .round) (c .before .sound .ensures) (c .if1 .taken))
+    (λ c. let a = c .before .before .before .args in
+    no-round (a .t1) (a .round) (c .before .before .sound .ensures) (c .before .if1 .left) (c .if2 .taken))
+    (λ c. omega (arith, within c)) (λ c. omega (arith, within c)) (λ c. omega (arith, within c)) (λ c. omega (arith, within (c .before)))
+    (λ c. let d = c .before .before in let a = d .before .before .before .args in
+    found (a .t1) (a .round) (d .before .before .sound .ensures) (d .before .if1 .left) (d .if2 .left)))
