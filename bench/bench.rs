@@ -1,10 +1,14 @@
 //! The proved runner beside the separately written one, on the same sheets, in one run.
 //!
-//! usage: bench [count N L ENTRIES]
+//! usage: bench                                              the table of sheets
+//!        bench operations PROGRAM                           the table of operations; PROGRAM is the proved one (operations.rs)
+//!        bench calls                                        the separate program's side of it
+//!        bench count proved|separate N L ENTRIES CALLS      that many calls on that sheet, for a tool that counts instructions
 //!
-//! With no argument: a table of nanoseconds an entry for each, and their ratio. Rounds of the two alternate, and the best of each
-//! counts, so that another load on the machine weighs on both alike. `count N L ENTRIES` makes one call of the proved entry on
-//! that sheet, for a tool that counts instructions.
+//! A table has nanoseconds for each of the two, and their ratio. Rounds of the two alternate, and the best of each counts, so that another
+//! load on the machine weighs on both alike.
+
+mod operations;
 
 use std::time::Instant;
 
@@ -52,14 +56,19 @@ fn sheet(n: usize, limit: usize, entries: usize) -> Vec<u8> {
     bytes
 }
 
-/// Nanoseconds an entry of one round of calls.
-fn round(run: fn(&[u8], usize, &mut [u8]) -> u32, sheet: &[u8], entries: usize) -> f64 {
+/// A number of calls on a sheet, none of which is refused.
+fn repeat(run: fn(&[u8], usize, &mut [u8]) -> u32, sheet: &[u8], calls: usize) {
     let mut buffer = [0; BUFFER];
-    let calls = ENTRIES_A_ROUND.div_ceil(entries);
-    let start = Instant::now();
     for _ in 0..calls {
         assert_eq!(run(std::hint::black_box(sheet), MOST, &mut buffer), 0);
     }
+}
+
+/// Nanoseconds an entry of one round of calls.
+fn round(run: fn(&[u8], usize, &mut [u8]) -> u32, sheet: &[u8], entries: usize) -> f64 {
+    let calls = ENTRIES_A_ROUND.div_ceil(entries);
+    let start = Instant::now();
+    repeat(run, sheet, calls);
     start.elapsed().as_nanos() as f64 / (calls * entries) as f64
 }
 
@@ -87,15 +96,15 @@ fn table() {
 
 fn main() {
     let words: Vec<String> = std::env::args().skip(1).collect();
+    let number = |word: &str| word.parse().expect("a number is told");
     match words.iter().map(String::as_str).collect::<Vec<_>>()[..] {
         [] => table(),
-        [which, n, limit, entries] => {
-            let number = |word: &str| word.parse().expect("a number is told");
-            let sheet = sheet(number(n), number(limit), number(entries));
+        ["calls"] => operations::answer(),
+        ["operations", program] => operations::table(program),
+        ["count", which, n, limit, entries, calls] => {
             let run = if which == "proved" { proved } else { separate };
-            let mut buffer = [0; BUFFER];
-            println!("code {}", run(&sheet, MOST, &mut buffer));
+            repeat(run, &sheet(number(n), number(limit), number(entries)), number(calls));
         }
-        _ => println!("usage: bench [proved|separate N L ENTRIES]"),
+        _ => println!("usage: bench [calls | operations PROGRAM | count proved|separate N L ENTRIES CALLS]"),
     }
 }

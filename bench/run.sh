@@ -1,19 +1,28 @@
 #!/usr/bin/env bash
-# The benchmark: builds both sides for release and prints the table. With valgrind on the machine it also counts instructions.
+# The benchmark: builds both sides for release and prints a table of sheets and one of single operations. With valgrind on the machine it also
+# counts instructions an entry: those of 11 calls on a sheet of 10,921 entries less those of one call, by the entries of ten.
 set -euo pipefail
 cd "$(dirname "$0")/.."
 rt staticlib janus | tail -n 1
+rt check operation_calls | tail -n 1
 reference/build.sh
 out=target/bench
 mkdir -p "$out"
 rustc --edition 2021 -O -D warnings --crate-name bench --extern janus_reference=target/reference/libjanus_reference.rlib \
     -L native=target/staticlib -l static=janus bench/bench.rs -o "$out/bench"
 "$out/bench"
-if command -v valgrind >/dev/null; then
+"$out/bench" operations target/bin/operation_calls
+command -v valgrind >/dev/null || exit 0
+
+instructions() { # the words of `bench count`
+    valgrind --tool=callgrind --callgrind-out-file=/dev/null "$out/bench" count "$@" 2>&1 | sed -n 's/.*Collected : //p'
+}
+entries=10921
+for size in "8 256" "1 3"; do
     for which in proved separate; do
-        for entries in 921 10921; do
-            count=$(valgrind --tool=callgrind --callgrind-out-file=/dev/null "$out/bench" "$which" 8 256 "$entries" 2>&1 | sed -n 's/.*Collected : //p')
-            echo "instructions, n 8, L 256, $entries entries, $which: $count"
-        done
+        read -r n limit <<<"$size"
+        one=$(instructions "$which" "$n" "$limit" "$entries" 1)
+        eleven=$(instructions "$which" "$n" "$limit" "$entries" 11)
+        echo "instructions an entry, n $n, L $limit, $which: $(((eleven - one) / (10 * entries)))"
     done
-fi
+done

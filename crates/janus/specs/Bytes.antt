@@ -1,14 +1,40 @@
 -- The bytes of the decided values, one process more at a time. Assumes nothing.
+use Prim.{tt}
 use Prim.Native.Nat.{ℕ, _+_, _*_, _≤_, _<_}
 use mathlib.Core.Path.{_≡_, refl, _∙_, ap}
 use mathlib.Core.List.{List, [], _∷_, _++_, append-nil}
 use native.Mathlib.Nat.{le-of-lt}
 use native.Mathlib.Numerals.{add-one}
 use native.Mathlib.Omega.{arith}
+use denote.Enum.Declared.{tagOf}
+use types.Run.{OneOf, miss}
 use lib.ListN.{length, getD, take, drop, length-append, length-drop, drop-of-length-le}
 use lib.Seq.{take-suc, take-all, take-append-seam, drop-append-add, drop-drop, length-take-le, sets, sets-eq}
+use Rattle.model.proofs.Phase.{the-type}
+use Rattle.model.specs.declared.Phase.{Phase}
+use Rattle.model.specs.declared.Phase.the-variants.{Idle, Waiting, Write, Scan, Adopt, Compare, Flag, CheckMark}
+use Rattle.model.specs.declared.Phase.the-variants.{CheckValue, Commit, Exhausted, Crashed, Decided}
 use Rattle.model.specs.declared.Process.{Process}
 use Rattle.model.specs.Export.{decidedValue, bytes32, decidedBytes}
+
+-- A process in a phase with any other tag than the last has decided nothing.
+abbrev others : List ℕ
+others = 0 ∷ 1 ∷ 2 ∷ 3 ∷ 4 ∷ 5 ∷ 6 ∷ 7 ∷ 8 ∷ 9 ∷ 10 ∷ 11 ∷ []
+
+pub undecided : (f : Phase) (e : ℕ) → OneOf others (tagOf the-type f) → 0 ≡ decidedValue f e
+undecided Idle e h = refl
+undecided Waiting e h = refl
+undecided Write e h = refl
+undecided (Scan k) e h = refl
+undecided (Adopt k) e h = refl
+undecided (Compare i) e h = refl
+undecided (Flag i) e h = refl
+undecided (CheckMark i) e h = refl
+undecided (CheckValue i) e h = refl
+undecided Commit e h = refl
+undecided Exhausted e h = refl
+undecided Crashed e h = refl
+undecided Decided e h = absurd (miss others 12 tt h)
 
 -- The four bytes of one process.
 abbrev pub own : Process → List ℕ

@@ -4,31 +4,10 @@ ghost use mathlib.Core.Path.{_≡_};
 ghost use Prim.Native.Nat.{_+_, _≤_};
 ghost use lib.ListN.{length};
 ghost use lib.Seq.{sets};
-ghost use Rattle.model.specs.Export.{decidedValue, bytes32, decidedBytes, endingCode, exportCode, exportBuffer};
+ghost use Rattle.model.specs.Export.{bytes32, decidedBytes, exportCode, exportBuffer};
 use model::Ending;
 use model::Phase;
 use model::Session;
-
-// The value that a process has decided on; 0 where there is none.
-fn decided_value(phase: Phase, estimate: u32) -> u32
-    ensures { λ r. ⌜ r ≡ decidedValue phase estimate ⌝ }
-{
-    match phase {
-        Phase::Idle => 0,
-        Phase::Waiting => 0,
-        Phase::Write => 0,
-        Phase::Scan(_) => 0,
-        Phase::Adopt(_) => 0,
-        Phase::Compare(_) => 0,
-        Phase::Flag(_) => 0,
-        Phase::CheckMark(_) => 0,
-        Phase::CheckValue(_) => 0,
-        Phase::Commit => 0,
-        Phase::Exhausted => 0,
-        Phase::Crashed => 0,
-        Phase::Decided => estimate,
-    }
-}
 
 // Four bytes from a place on hold a 32-bit number, little-endian.
 fn put32(buffer: &mut [u8], at: usize, v: u32)
@@ -41,7 +20,7 @@ fn put32(buffer: &mut [u8], at: usize, v: u32)
     buffer[at + 3] = (v / 16777216 % 256) as u8;
 }
 
-// The bytes of the decided values, four to a process, for all 64.
+// The bytes of the decided values, four to a process, for all 64; 0 where there is none.
 fn put_decided(s: Session, buffer: &mut [u8])
     requires { ⌜ length (now buffer) ≡ 256 ⌝ }
     ensures { λ _. ⌜ now (buffer .exit) ≡ decidedBytes (s .processes) ⌝ }
@@ -50,24 +29,17 @@ fn put_decided(s: Session, buffer: &mut [u8])
     while p < 64 {
         let q = s.processes[p];
         let phase = q.phase;
-        put32(buffer, 4 * p, decided_value(phase, q.estimate));
+        let value = match phase {
+            Phase::Decided => q.estimate,
+            _ => 0,
+        };
+        put32(buffer, 4 * p, value);
         p += 1;
     }
 }
 
-// 0 for finished, 100 for budget ended, or the refusal's number.
-fn ending_code(ending: Ending) -> u32
-    ensures { λ r. ⌜ r ≡ endingCode ending ⌝ }
-{
-    match ending {
-        Ending::Finished => 0,
-        Ending::Refused(code, _) => code,
-        Ending::BudgetEnded => 100,
-        Ending::Rejected(code) => code,
-    }
-}
-
-// Runs a schedule. 15 is tested first; where no session was made the buffer is as it was.
+// Runs a schedule. 15 is tested first; then 0 for finished, 100 for budget ended, or the refusal's number. Where no session was made the buffer is
+// as it was.
 #[no_mangle]
 pub extern "C" fn janus_run(schedule: &[u8], budget: usize, buffer: &mut [u8]) -> u32
     ensures code { λ r. ⌜ r ≡ exportCode (now (schedule .entry)) budget (now (buffer .entry)) ⌝ }
@@ -78,10 +50,12 @@ pub extern "C" fn janus_run(schedule: &[u8], budget: usize, buffer: &mut [u8]) -
     }
     let ran = runner::run(schedule, budget);
     let ending = ran.ending;
-    let code = ending_code(ending);
-    if let Ending::Rejected(_) = ending {
-        return code;
-    }
+    let code = match ending {
+        Ending::Finished => 0,
+        Ending::Refused(code, _) => code,
+        Ending::BudgetEnded => 100,
+        Ending::Rejected(code) => return code,
+    };
     put_decided(ran.session, buffer);
     code
 }

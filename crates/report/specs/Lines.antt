@@ -1,4 +1,5 @@
 -- The lines of a report (01, "The board report"): the cases that the code goes by, and the seats' lines one after another.
+use Prim.{tt}
 use Prim.Native.Nat.{ℕ, zero, suc, _+_, _-_, _*_, _≤_, _<_}
 use native.Mathlib.Nat.{zero-add, add-zero, add-suc, suc-add, not-suc-le-zero, le-of-suc-le-suc}
 use native.Mathlib.Numerals.{add-one}
@@ -8,10 +9,14 @@ use mathlib.Core.Bool.{Bool, true, false, cond}
 use mathlib.Core.List.{List, [], _∷_, _++_, map, append-assoc, append-nil}
 use lib.ListN.{length, getD, take, drop, replicate, length-map, drop-of-length-le}
 use lib.Seq.{take-all, drop-cons}
+use denote.Enum.Declared.{tagOf}
+use types.Run.{OneOf, miss}
 use borrow.Author.Tests.{eq-eqb, ne-eqb}
 use Rattle.model.specs.declared.Phase.{Phase}
 use Rattle.model.specs.declared.Phase.the-variants.{Idle, Waiting, Write, Scan, Adopt, Compare, Flag, CheckMark}
 use Rattle.model.specs.declared.Phase.the-variants.{CheckValue, Commit, Exhausted, Crashed, Decided}
+use Rattle.model.proofs.Ending.{the-type as ending-type}
+use Rattle.model.proofs.Phase.{the-type as phase-type}
 use Rattle.model.specs.declared.Process.{Process}
 use Rattle.model.specs.declared.Session.{Session}
 use Rattle.model.specs.declared.Counts.{Counts}
@@ -19,63 +24,43 @@ use Rattle.model.specs.declared.Ending.{Ending}
 use Rattle.model.specs.declared.Ending.the-variants.{Finished, Refused, BudgetEnded, Rejected}
 use Rattle.model.specs.declared.Ran.{Ran}
 use Rattle.model.specs.Runner.{run}
-use Rattle.model.specs.Report.{bytes, field, outcomeLine, tallyLine, highestFrom, boardLine, standingWords, seatLine, seatLines}
+use Rattle.model.specs.Report.{bytes, field, newline, outcomeLine, tallyLine, highestFrom, boardLine, standingWords, seatLine, seatLines}
 use Rattle.model.specs.Report.{moreLines, report}
 use Rattle.report.specs.Put.{Put, after, within, on-blank}
-use Rattle.report.specs.declared.seats.Shown as shown
-use Rattle.report.specs.declared.seats.Shown.{Shown}
 
--- Whether the sheet was refused.
-abbrev pub isRejected : Ending → Bool
-isRejected Finished = false
-isRejected (Refused c i) = false
-isRejected BudgetEnded = false
-isRejected (Rejected c) = true
+-- The endings and phases that the code's last arm stands for, by their tags.
+pub outcome-finished : (e : Ending) (k : ℕ) → OneOf (0 ∷ 2 ∷ []) (tagOf ending-type e)
+    → bytes "outcome finished" ++ field k ++ newline ≡ outcomeLine e k
+outcome-finished Finished k h = refl
+outcome-finished (Refused c i) k h = absurd (miss (0 ∷ 2 ∷ []) 1 tt h)
+outcome-finished BudgetEnded k h = refl
+outcome-finished (Rejected c) k h = absurd (miss (0 ∷ 2 ∷ []) 3 tt h)
 
-pub more-by : (e : Ending) (s : Session) (c : Counts)
-    → moreLines e s c ≡ cond (isRejected e) [] (tallyLine c ++ boardLine s ++ seatLines 0 (take (s .n) (s .processes)))
-more-by Finished s c = refl
-more-by (Refused k i) s c = refl
-more-by BudgetEnded s c = refl
-more-by (Rejected k) s c = refl
+pub more-lines : (e : Ending) (s : Session) (c : Counts) → OneOf (0 ∷ 1 ∷ 2 ∷ []) (tagOf ending-type e)
+    → tallyLine c ++ boardLine s ++ seatLines 0 (take (s .n) (s .processes)) ≡ moreLines e s c
+more-lines Finished s c h = refl
+more-lines (Refused k i) s c h = refl
+more-lines BudgetEnded s c h = refl
+more-lines (Rejected k) s c h = absurd (miss (0 ∷ 1 ∷ 2 ∷ []) 3 tt h)
 
--- What the report tells of a phase.
-abbrev pub shownAs : Phase → Shown
-shownAs Idle = shown.the-variants.Out
-shownAs Waiting = shown.the-variants.Working
-shownAs Write = shown.the-variants.Working
-shownAs (Scan k) = shown.the-variants.Working
-shownAs (Adopt k) = shown.the-variants.Working
-shownAs (Compare i) = shown.the-variants.Working
-shownAs (Flag i) = shown.the-variants.Working
-shownAs (CheckMark i) = shown.the-variants.Working
-shownAs (CheckValue i) = shown.the-variants.Working
-shownAs Commit = shown.the-variants.Working
-shownAs Exhausted = shown.the-variants.Spent
-shownAs Crashed = shown.the-variants.Crashed
-shownAs Decided = shown.the-variants.Decided
+abbrev working : List ℕ
+working = 1 ∷ 2 ∷ 3 ∷ 4 ∷ 5 ∷ 6 ∷ 7 ∷ 8 ∷ 9 ∷ []
 
-abbrev pub shownWords : Shown → (round estimate : ℕ) → List ℕ
-shownWords shown.the-variants.Out r e = bytes " out"
-shownWords shown.the-variants.Working r e = bytes " working" ++ field r ++ field e
-shownWords shown.the-variants.Spent r e = bytes " spent" ++ field e
-shownWords shown.the-variants.Crashed r e = bytes " crashed"
-shownWords shown.the-variants.Decided r e = bytes " decided" ++ field e
-
-pub standing-words : (f : Phase) (r e : ℕ) → standingWords f r e ≡ shownWords (shownAs f) r e
-standing-words Idle r e = refl
-standing-words Waiting r e = refl
-standing-words Write r e = refl
-standing-words (Scan k) r e = refl
-standing-words (Adopt k) r e = refl
-standing-words (Compare i) r e = refl
-standing-words (Flag i) r e = refl
-standing-words (CheckMark i) r e = refl
-standing-words (CheckValue i) r e = refl
-standing-words Commit r e = refl
-standing-words Exhausted r e = refl
-standing-words Crashed r e = refl
-standing-words Decided r e = refl
+pub standing-working : (f : Phase) (r e : ℕ) → OneOf working (tagOf phase-type f)
+    → bytes " working" ++ field r ++ field e ≡ standingWords f r e
+standing-working Idle r e h = absurd (miss working 0 tt h)
+standing-working Waiting r e h = refl
+standing-working Write r e h = refl
+standing-working (Scan k) r e h = refl
+standing-working (Adopt k) r e h = refl
+standing-working (Compare i) r e h = refl
+standing-working (Flag i) r e h = refl
+standing-working (CheckMark i) r e h = refl
+standing-working (CheckValue i) r e h = refl
+standing-working Commit r e h = refl
+standing-working Exhausted r e h = absurd (miss working 10 tt h)
+standing-working Crashed r e h = absurd (miss working 11 tt h)
+standing-working Decided r e h = absurd (miss working 12 tt h)
 
 -- ---- the highest filled round
 

@@ -33,6 +33,10 @@ after {m} {k} {a} {b} {r} {e} {t} {x} {u} {y} p q =
 pub within : {m M a r : ℕ} {e t x : List ℕ} → Put m e a t x r → m ≤ M → Put M e a t x r
 within p h = record { page = p .page; place = p .place; low = omega arith }
 
+-- A text by another name.
+pub same : {m a r : ℕ} {e t u x : List ℕ} → t ≡ u → Put m e a t x r → Put m e a u x r
+same h p = rw (← h) p
+
 -- No text.
 pub nothing : {M : ℕ} (e : List ℕ) (a : ℕ) → Put M e a [] e a
 nothing e a = record { page = refl; place = sym (add-zero a); low = omega arith }

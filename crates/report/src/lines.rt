@@ -3,10 +3,8 @@ ghost use mathlib.Core.Path.{_≡_};
 ghost use Prim.Native.Nat.{_+_, _≤_};
 ghost use Rattle.model.specs.Report.{outcomeLine, tallyLine, boardLine, moreLines, highestFrom};
 ghost use Rattle.report.specs.Put.{Put};
-ghost use Rattle.report.specs.Lines.{isRejected};
-use crate::page::put_end;
-use crate::page::put_field;
 use crate::page::put_one;
+use crate::page::put_words;
 use crate::seats::put_seats;
 use model::Counts;
 use model::Ending;
@@ -18,22 +16,18 @@ pub(crate) fn put_outcome(out: &mut [u8; 5120], at: usize, ending: Ending, carri
     ensures { λ r. ⌜ Put 59 (now (out .entry)) at (outcomeLine ending carried) (now (out .exit)) r ⌝ }
 {
     match ending {
-        Ending::Finished => {
-            let end = put_one(out, at, b"outcome finished", carried);
-            put_end(out, end)
-        }
         Ending::Refused(code, index) => {
-            let next = put_one(out, at, b"outcome refused", code as usize);
-            let end = put_field(out, next, index);
-            put_end(out, end)
-        }
-        Ending::BudgetEnded => {
-            let end = put_one(out, at, b"outcome finished", carried);
-            put_end(out, end)
+            let next = put_one(out, at, b"outcome refused ", code as usize);
+            let end = put_one(out, next, b" ", index);
+            put_words(out, end, b"\n")
         }
         Ending::Rejected(code) => {
-            let end = put_one(out, at, b"sheet refused", code as usize);
-            put_end(out, end)
+            let end = put_one(out, at, b"sheet refused ", code as usize);
+            put_words(out, end, b"\n")
+        }
+        _ => {
+            let end = put_one(out, at, b"outcome finished ", carried);
+            put_words(out, end, b"\n")
         }
     }
 }
@@ -43,10 +37,10 @@ fn put_tally(out: &mut [u8; 5120], at: usize, c: Counts) -> usize
     requires { ⌜ at + 69 ≤ 5120 ⌝ }
     ensures { λ r. ⌜ Put 69 (now (out .entry)) at (tallyLine c) (now (out .exit)) r ⌝ }
 {
-    let second = put_one(out, at, b"tally", c.reads as usize);
-    let third = put_field(out, second, c.writes as usize);
-    let end = put_field(out, third, c.contested as usize);
-    put_end(out, end)
+    let second = put_one(out, at, b"tally ", c.reads as usize);
+    let third = put_one(out, second, b" ", c.writes as usize);
+    let end = put_one(out, third, b" ", c.contested as usize);
+    put_words(out, end, b"\n")
 }
 
 // "The highest filled round (0 for none)".
@@ -69,21 +63,9 @@ fn put_board(out: &mut [u8; 5120], at: usize, s: Session) -> usize
     requires { ⌜ at + 48 ≤ 5120 ⌝ }
     ensures { λ r. ⌜ Put 48 (now (out .entry)) at (boardLine s) (now (out .exit)) r ⌝ }
 {
-    let next = put_one(out, at, b"board", highest(&s.values));
-    let end = put_field(out, next, s.decision as usize);
-    put_end(out, end)
-}
-
-// Whether the sheet was refused.
-fn rejected(ending: Ending) -> bool
-    ensures { λ r. ⌜ r ≡ isRejected ending ⌝ }
-{
-    match ending {
-        Ending::Finished => false,
-        Ending::Refused(_, _) => false,
-        Ending::BudgetEnded => false,
-        Ending::Rejected(_) => true,
-    }
+    let next = put_one(out, at, b"board ", highest(&s.values));
+    let end = put_one(out, next, b" ", s.decision as usize);
+    put_words(out, end, b"\n")
 }
 
 // "A refused sheet gives only" its line; any other the tally, the board and the seats.
@@ -97,7 +79,7 @@ pub(crate) fn put_more(
     requires { ⌜ at + 4981 ≤ 5120 ⌝ }
     ensures { λ r. ⌜ Put 4981 (now (out .entry)) at (moreLines ending s c) (now (out .exit)) r ⌝ }
 {
-    if rejected(ending) {
+    if let Ending::Rejected(_) = ending {
         return at;
     }
     let board = put_tally(out, at, c);

@@ -3,11 +3,13 @@
 use Prim.Native.Nat.{ℕ, _-_, _≤_}
 use mathlib.Core.Path.{_≡_, refl, sym, _∙_}
 use mathlib.Core.List.{List, map}
+use mathlib.Core.Logic.{⊎-elim}
 use native.Mathlib.Omega.{arith}
 use borrow.Author.Needs.{needs}
-use lib.ListN.{length, length-map}
+use lib.ListN.{length, getD, length-map}
 use Rattle.model.specs.Board.{idle}
-use Rattle.janus.specs.Bytes.{filled, filled-more, filled-all}
+use Rattle.model.specs.Export.{decidedValue}
+use Rattle.janus.specs.Bytes.{undecided, filled, filled-more, filled-all}
 use Rattle.janus.proofs.put_decided.Statement.{statement}
 use Rattle.janus.proofs.put_decided.Tie as tie
 
@@ -32,16 +34,18 @@ loop-holds c = (omega arith, search (needs, sized), search needs, search needs, 
 loop-again : tie.Need-loop-again Inv-loop μ-loop
 loop-again c =
     let call = c .before .before in
-    let l = call .before .before .before .before .before in
+    let m = call .before .before in
+    let l = m .before .before .before in
     let a = l .before .before .args in
-    let h = l .loop .inv in (
+    let h = l .loop .inv in
+    let q = getD (a .t1 .processes) (l .loop .p) idle in
+    let value : m .match .value ≡ decidedValue (q .phase) (q .estimate) =
+    ⊎-elim (λ w. w .2 ∙ rw (w .1 .given .1)) (λ w. w .1 ∙ undecided (q .phase) (q .estimate) (w .0 .keys2)) (m .match .came) in (
       omega arith,
       h .1,
       h .2,
       call .put32 .kept .0 ∙ h .3,
-      call .put32 .ensures
-          ∙ rw (call .before .decided-value .ensures, h .4)
-          (filled-more (a .t1 .processes) (a .buffer .now) (l .loop .p) idle (omega arith) (omega arith)),
+      call .put32 .ensures ∙ rw (value, h .4) (filled-more (a .t1 .processes) (a .buffer .now) (l .loop .p) idle (omega arith) (omega arith)),
     )
 
 returns : tie.Need-returns Inv-loop μ-loop
@@ -54,5 +58,5 @@ pub put-decided-spec : {M : Type 1} → statement M
 put-decided-spec =
     tie.close
     (tie.spec Inv-loop μ-loop loop-holds
-    (λ c. search needs) (λ c. search needs) (λ c. search needs) (λ c κs. search needs) (λ c κs. search needs)
+    (λ c. search needs) (λ c. search needs) (λ c. search needs) (λ c. search needs) (λ c κs. search needs)
     (λ c. search needs) (λ c. search needs) loop-again (λ c. search needs) returns)

@@ -9,7 +9,8 @@ put-board-spec =
     tie.close
     (tie.spec
     (λ c. search needs) (λ c κs. search needs) (λ c κs. search needs)
+    (λ c. search needs) (λ c. search needs) (λ c κs. search needs)
     (λ c. search needs) (λ c κs. search needs)
-    (λ c κs. search needs)
-    (λ c. let d = c .before .before .before .before in
-    rw (← d .before .highest .ensures) (after (after (d .put-one .ensures) (c .before .before .put-field .ensures)) (c .put-end .ensures))))
+    (λ c. let d = c .before .before .before in
+    let b = d .before .before .before in
+    rw (← b .before .highest .ensures) (after (after (b .put-one .ensures) (d .put-one2 .ensures)) (c .put-words .ensures))))

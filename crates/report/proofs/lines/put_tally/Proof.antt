@@ -9,9 +9,10 @@ put-tally-spec =
     tie.close
     (tie.spec
     (λ c. search needs) (λ c. search needs) (λ c κs. search needs)
+    (λ c. search needs) (λ c. search needs) (λ c κs. search needs)
+    (λ c. search needs) (λ c. search needs) (λ c κs. search needs)
     (λ c. search needs) (λ c κs. search needs)
-    (λ c. search needs) (λ c κs. search needs)
-    (λ c κs. search needs)
-    (λ c. let d = c .before .before .before .before .before in
-    after (after (after (d .before .before .before .put-one .ensures) (d .put-field .ensures)) (c .before .before .put-field2 .ensures))
-    (c .put-end .ensures)))
+    (λ c. let third = c .before .before .before in
+    let second = third .before .before .before .before in
+    after (after (after (second .before .before .before .before .put-one .ensures) (second .put-one2 .ensures)) (third .put-one3 .ensures))
+    (c .put-words .ensures)))

@@ -7,7 +7,5 @@ use Rattle.report.proofs.page.put_one.Tie as tie
 pub put-one-spec : {M : Type 1} → statement M
 put-one-spec =
     tie.close
-    (tie.spec
-    (λ c κs. search needs)
-    (λ c κs. search needs)
-    (λ c. after (c .before .before .put-words .ensures) (c .put-field .ensures)))
+    (tie.spec (λ c κs. search needs) (λ c κs. search needs)
+    (λ c. after (c .before .before .put-words .ensures) (c .put-number .ensures)))

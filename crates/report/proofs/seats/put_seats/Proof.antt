@@ -5,17 +5,17 @@ use mathlib.Core.Path.{_≡_}
 use borrow.Author.Needs.{needs}
 use lib.ListN.{length, take}
 use Rattle.model.specs.Report.{seatLines}
-use Rattle.report.specs.Put.{Put, nothing, within}
+use Rattle.report.specs.Put.{Put, nothing, after, within}
 use Rattle.report.specs.Lines.{seat-put, seats-all, length-mapped}
 use Rattle.report.proofs.seats.put_seats.Statement.{statement}
 use Rattle.report.proofs.seats.put_seats.Tie as tie
 
 abbrev Inv-loop : tie.InvT-loop
-Inv-loop out₀ at s next₀ p₀ out next p =
+Inv-loop out₀ at s next₀ p₀ t10 t11 out next p =
     (p ≤ 64) × (p ≤ s .n) × Put (76 * p) out₀ at (seatLines 0 (take p (s .processes))) out next
 
 abbrev μ-loop : tie.MeasureT-loop
-μ-loop out₀ at s next₀ p₀ out next p = 64 - p
+μ-loop out₀ at s next₀ p₀ t10 t11 out next p = 64 - p
 
 -- The records are 64, as the session's own type has it.
 long : (c : tie.Start Inv-loop μ-loop) → length (c .args .t3 .processes) ≡ 64
@@ -23,9 +23,11 @@ long c = search (needs, length-mapped)
 
 again : tie.Need-loop-again Inv-loop μ-loop
 again c =
-    let a = c .before .before .before .before .before in
-    let l = a .before .args .t3 .processes in
-    (omega arith, omega arith, seat-put l _ (a .loop .p) (omega (arith, long (a .before))) (a .loop .inv .2) (c .put-seat .ensures))
+    let standing = c .before .before .before in
+    let seat = standing .before .before in
+    let a = seat .before .before .before .before .before .before in
+    let line = after (after (seat .put-one .ensures) (standing .put-standing .ensures)) (c .put-words .ensures) in
+    (omega arith, omega arith, seat-put (a .before .args .t3 .processes) _ (a .loop .p) (omega (arith, long (a .before))) (a .loop .inv .2) line)
 
 -- Every seat that takes part is put.
 returns : tie.Need-returns Inv-loop μ-loop
@@ -48,10 +50,8 @@ put-seats-spec =
     μ-loop
     (λ c. (omega arith, omega arith, nothing _ _))
     returns
-    (λ c. omega arith)
-    (λ c. omega arith)
-    (λ c κs. omega arith)
-    (λ c. omega arith)
-    (λ c. omega arith)
+    (λ c. omega arith) (λ c. omega arith)
+    (λ c. search needs) (λ c κs. omega arith) (λ c κs. omega arith) (λ c. search needs) (λ c κs. omega arith)
+    (λ c. omega arith) (λ c. omega arith)
     again
     returns-2)

@@ -1,8 +1,8 @@
--- `report::seats::put_standing` meets its contract: each arm is told what is shown of the phase. Assumes nothing.
+-- `report::seats::put_standing` meets its contract: each arm is told the phase. Assumes nothing.
 use native.Mathlib.Omega.{arith}
 use borrow.Author.Needs.{needs}
-use Rattle.report.specs.Put.{after, within}
-use Rattle.report.specs.Lines.{standing-words}
+use Rattle.report.specs.Put.{after, within, same}
+use Rattle.report.specs.Lines.{standing-working}
 use Rattle.report.proofs.seats.put_standing.Statement.{statement}
 use Rattle.report.proofs.seats.put_standing.Tie as tie
 
@@ -10,19 +10,17 @@ pub put-standing-spec : {M : Type 1} → statement M
 put-standing-spec =
     tie.close
     (tie.spec
-    (λ c. search needs) (λ c κs. search needs)
-    (λ c. search needs) (λ c. search needs) (λ c κs. search needs)
-    (λ c. search needs) (λ c. search needs) (λ c κs. search needs) (λ c κs. search needs)
+    (λ c. search needs)
     (λ c. search needs) (λ c. search needs) (λ c κs. search needs)
     (λ c. search needs) (λ c. search needs) (λ c κs. search needs)
     (λ c. search needs) (λ c. search needs) (λ c κs. search needs)
-    (λ c. let t = c .before .before .before in
-    rw (standing-words, ← t .before .before .shown-as .ensures, t .enum-told .given .1) (within (c .put-words .ensures) (omega arith)))
-    (λ c. let t = c .before .before .before .before .before in
-    rw (standing-words, ← t .before .before .shown-as .ensures, t .enum-told2 .given .1) (within (after (c .before .before .put-one .ensures) (c .put-field .ensures)) (omega arith)))
-    (λ c. let t = c .before .before .before in
-    rw (standing-words, ← t .before .before .shown-as .ensures, t .enum-told3 .given .1) (within (c .put-one2 .ensures) (omega arith)))
-    (λ c. let t = c .before .before .before in
-    rw (standing-words, ← t .before .before .shown-as .ensures, t .enum-told4 .given .1) (within (c .put-words2 .ensures) (omega arith)))
-    (λ c. let t = c .before .before .before in
-    rw (standing-words, ← t .before .before .shown-as .ensures, t .enum-told5 .given .1) (within (c .put-one3 .ensures) (omega arith))))
+    (λ c. search needs) (λ c. search needs) (λ c κs. search needs)
+    (λ c. search needs) (λ c κs. search needs) (λ c. search needs) (λ c κs. search needs)
+    (λ c. rw (c .before .before .before .enum-told .given .1) (within (c .put-words .ensures) (omega arith)))
+    (λ c. rw (c .before .before .before .enum-told2 .given .1) (within (c .put-one .ensures) (omega arith)))
+    (λ c. rw (c .before .before .before .enum-told3 .given .1) (within (c .put-words2 .ensures) (omega arith)))
+    (λ c. rw (c .before .before .before .enum-told4 .given .1) (within (c .put-one2 .ensures) (omega arith)))
+    (λ c. let round = c .before .before .before in
+    let m = round .before .before .before in
+    same (standing-working (m .before .before .args .q .phase) _ _ (m .match .keys5))
+    (within (after (round .put-one3 .ensures) (c .put-one4 .ensures)) (omega arith))))
