@@ -4,8 +4,8 @@ use borrow.Author.Needs.{needs}
 use Rattle.model.specs.Sound.{sound}
 use Rattle.model.specs.Board.{processAt}
 use Rattle.model.specs.Refusal.{refusal}
-use Rattle.session.specs.Answers.{tested, number, refuses}
-use Rattle.session.specs.Operations.{crashOwn, crash-is, crash-accepted}
+use Rattle.laws.specs.Answers.{tested, number, refuses}
+use Rattle.session.specs.Answers.{crashOwn, crash-is, crash-accepted}
 use Rattle.session.proofs.crash.Statement.{statement}
 use Rattle.session.proofs.crash.Tie as tie
 

@@ -4,8 +4,8 @@ use borrow.Author.Needs.{needs}
 use Rattle.model.specs.Sound.{sound}
 use Rattle.model.specs.Board.{processAt}
 use Rattle.model.specs.Refusal.{refusal}
-use Rattle.session.specs.Answers.{tested, number, refuses}
-use Rattle.session.specs.Operations.{proposeOwn, propose-is, propose-accepted}
+use Rattle.laws.specs.Answers.{tested, number, refuses}
+use Rattle.session.specs.Answers.{proposeOwn, propose-is, propose-accepted}
 use Rattle.session.proofs.propose.Statement.{statement}
 use Rattle.session.proofs.propose.Tie as tie
 

@@ -1,7 +1,7 @@
--- `session::first_refusal` meets its contract: each return knows which tests hold. Assumes nothing.
+-- `refusals::first_refusal` meets its contract: each return knows which tests hold. Assumes nothing.
 use borrow.Author.Tests.{le-leb, lt-leb, not-true, not-false}
-use Rattle.session.proofs.first_refusal.Statement.{statement}
-use Rattle.session.proofs.first_refusal.Tie as tie
+use Rattle.refusals.proofs.first_refusal.Statement.{statement}
+use Rattle.refusals.proofs.first_refusal.Tie as tie
 
 pub first-refusal-spec : {M : Type 1} → statement M
 first-refusal-spec =
