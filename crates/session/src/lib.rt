@@ -31,8 +31,7 @@ pub fn crash(s: Session, p: usize) -> Changed
     let i = p % 64;
     let q = s.processes[i];
     let phase = q.phase;
-    let own = refusals::turn_refusal(phase);
-    let code = refusals::first_refusal(soundness::sound(s), s.n, p, own);
+    let code = refusals::first_refusal(soundness::sound(s), s.n, p, refusals::turn_refusal(phase));
     let mut after = s;
     if code == 0 {
         after.processes[i] = moves::crashed(q);

@@ -17,7 +17,8 @@ code c = number _ _ (λ q. refusal (learnOwn (c .before .before .before .before 
 
 returns : tie.Need-returns
 returns c =
-    learn-accepted _ _ (c .before .before .if1 .taken) _ (code (c .before .before .before)) (c .before .learnt .ensures) (c .counted .ensures)
+    let a = c .before .before .before .before .before .before .before .args in
+    learn-accepted (a .t1) (a .p) (c .before .before .if1 .taken) (a .c) (code (c .before .before .before)) (c .before .learnt .ensures) (c .counted .ensures)
 
 returns-2 : tie.Need-returns-2
 returns-2 c = refuses _ _ (code (c .before)) (c .if1 .left) ∙ sym (learn-is _ _ _)

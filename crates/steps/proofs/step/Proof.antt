@@ -34,7 +34,8 @@ returns : tie.Need-returns
 returns c =
     let done = c .before .before .before in
     let start = taken done in
-    step-accepted _ _ (start .if1 .taken) _ _ (code (numbered start))
+    let a = numbered start .before .before .before .before .args in
+    step-accepted (a .t1) (a .p) (start .if1 .taken) (a .leader) (a .c) (code (numbered start))
     (done .before .before .before .before .access .ensures)
     (done .perform .ensures .0)
     (done .perform .ensures .1 .0)
