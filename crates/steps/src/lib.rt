@@ -19,28 +19,22 @@ pub fn step(s: Session, p: usize, leader: bool, c: Counts) -> Stepped
     let phase = q.phase;
     let own = refusals::step_refusal(phase, c);
     let code = refusals::first_refusal(soundness::sound(s), n, p, own);
-    let mut values = s.values;
-    let mut marks = s.marks;
-    let mut decision = s.decision;
-    let mut processes = s.processes;
+    let mut after = s;
     let mut counts = c;
     if code == 0 {
         let a = access::access(limit, q, leader);
-        let x = registers::perform(&mut values, &mut marks, &mut decision, a, q.estimate);
+        let mut marks = after.marks;
+        let mut decision = after.decision;
+        let x = registers::perform(&mut after.values, &mut marks, &mut decision, a, q.estimate);
+        after.marks = marks;
+        after.decision = decision;
         let window = window::window(n as u8);
-        processes[i] = next::next(window, limit, q, leader, x);
+        after.processes[i] = next::next(window, limit, q, leader, x);
         counts = counts::counted(a, c);
     }
     Stepped {
         code: code,
-        session: Session {
-            n: n,
-            limit: limit,
-            values: values,
-            marks: marks,
-            decision: decision,
-            processes: processes,
-        },
+        session: after,
         counts: counts,
     }
 }

@@ -18,25 +18,21 @@ code c = number _ _ (λ q. refusal (stepOwn (c .before .before .before .before .
 
 -- The place where the number is known to be 0, from the place where the access is performed.
 abbrev taken : tie.After-perform → tie.Then1
-taken c = c .before .before .before .before .before
-
--- The place where the number is known, from there.
-abbrev numbered : tie.Then1 → tie.After-first-refusal
-numbered c = c .before .before .before .before
+taken c = c .before .before .before .before .before .before
 
 cast-window : tie.Need-cast-window
 cast-window c =
     let start = taken c in
-    let a = numbered start .before .before .before .before .args in
-    omega (arith, step-few (a .t1) (a .p) (start .if1 .taken) (a .c) (code (numbered start)))
+    let a = start .before .before .before .before .before .args in
+    omega (arith, step-few (a .t1) (a .p) (start .if1 .taken) (a .c) (code (start .before)))
 
 returns : tie.Need-returns
 returns c =
     let done = c .before .before .before in
     let start = taken done in
-    let a = numbered start .before .before .before .before .args in
-    step-accepted (a .t1) (a .p) (start .if1 .taken) (a .leader) (a .c) (code (numbered start))
-    (done .before .before .before .before .access .ensures)
+    let a = start .before .before .before .before .before .args in
+    step-accepted (a .t1) (a .p) (start .if1 .taken) (a .leader) (a .c) (code (start .before))
+    (done .before .before .before .before .before .access .ensures)
     (done .perform .ensures .0)
     (done .perform .ensures .1 .0)
     (done .perform .ensures .1 .1 .0)
@@ -46,7 +42,7 @@ returns c =
     (c .counted .ensures)
 
 returns-2 : tie.Need-returns-2
-returns-2 c = refuses _ _ (code (c .before .before .before .before)) (c .if1 .left) ∙ sym (step-is _ _ _ _)
+returns-2 c = refuses _ _ (code (c .before)) (c .if1 .left) ∙ sym (step-is _ _ _ _)
 
 -- The answers in the order of the code: the record's address and index, the tests, the turn's calls with the cast of n among them,
 -- the new record's address and index, the counts.
