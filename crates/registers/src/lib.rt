@@ -1,10 +1,6 @@
 // The registers as one access uses them: what it reads, and what it leaves in each.
 ghost use mathlib.Core.Path.{_≡_};
-ghost use mathlib.Core.Bool.{cond, true, false};
 ghost use Prim.Native.Nat.{_-_};
-ghost use lib.ListN.{getD, set};
-ghost use lib.Dec.{ltb};
-ghost use Rattle.model.specs.Step.{bit};
 ghost use Rattle.registers.specs.Registers.{foundIn, valuesAfter, marksAfter, decisionAfter};
 use model::Access;
 
