@@ -7,3 +7,4 @@ pub mod Ranges
 pub mod Keeps
 pub mod Sounds
 pub mod Operations
+pub mod Answers

@@ -1,8 +1,8 @@
-// The refusals that go by a process' phase and the counts: functions of one record, which change nothing.
+// The refusals: by a process' phase and the counts, functions of one record, and the tests that come before them. They change nothing.
 ghost use mathlib.Core.Path.{_≡_};
-ghost use mathlib.Core.Bool.{not};
+ghost use mathlib.Core.Bool.{cond, not};
 ghost use mathlib.Core.List.{[], _∷_};
-ghost use lib.Dec.{eqb};
+ghost use lib.Dec.{eqb, leb};
 ghost use Rattle.model.specs.Refusal.{standing as standingOf, isOutside, isGone, isSpent, full as fullOf, refusal};
 use model::Counts;
 use model::Phase;
@@ -85,4 +85,15 @@ pub fn step_refusal(phase: Phase, c: Counts) -> u32
         Standing::Spent => 9,
         Standing::Active => full_refusal(c),
     }
+}
+
+// 01, "Numbers returned": 3 for a session that is not sound, 4 for a process number n or above, then the number that the
+// operation's own tests give.
+pub fn first_refusal(sound: bool, n: usize, p: usize, own: u32) -> u32
+    ensures { λ r. ⌜ r ≡ cond sound (cond (leb n p) 4 own) 3 ⌝ }
+{
+    if !sound {
+        return 3;
+    }
+    if n <= p { 4 } else { own }
 }

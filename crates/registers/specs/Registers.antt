@@ -18,17 +18,18 @@ use Rattle.laws.specs.Phases.{process-facts}
 use Rattle.laws.specs.Ranges.{InRange, access-range}
 use Rattle.laws.specs.Sounds.{sound-facts, sound-process}
 
--- The value read from the registers, by the case of the access; 0 where nothing is read.
+-- The value read from the registers, by the case of the access; 0 where nothing is read. An index past the array, which no turn of a
+-- sound process has, reads 0, and below writes nothing.
 abbrev pub foundIn : (values : List ℕ) (marks : List Bool) (decision : ℕ) → Access → ℕ
 foundIn values marks decision Nothing = 0
-foundIn values marks decision (ReadValue r) = getD values (r - 1) 0
+foundIn values marks decision (ReadValue r) = cond (ltb (r - 1) maxRounds) (getD values (r - 1) 0) 0
 foundIn values marks decision (WriteValue r) = 0
-foundIn values marks decision (ReadMark r) = bit (getD marks (r - 1) false)
+foundIn values marks decision (ReadMark r) = cond (ltb (r - 1) maxRounds) (bit (getD marks (r - 1) false)) 0
 foundIn values marks decision (SetMark r) = 0
 foundIn values marks decision ReadDecision = decision
 foundIn values marks decision WriteDecision = 0
 
--- The value registers after an access that may write e. An index past the array, which no turn of a sound process has, writes nothing.
+-- The value registers after an access that may write e.
 abbrev pub valuesAfter : List ℕ → Access → (e : ℕ) → List ℕ
 valuesAfter values Nothing e = values
 valuesAfter values (ReadValue r) e = values
@@ -58,16 +59,16 @@ decisionAfter decision (SetMark r) e = decision
 decisionAfter decision ReadDecision e = decision
 decisionAfter decision WriteDecision e = e
 
--- A session's access reads that.
-pub found-in : (s : Session) (a : Access) → found s a ≡ foundIn (s .values) (s .marks) (s .decision) a
+-- A session's access reads that, where it is one of the registers.
+pub found-in : (s : Session) (a : Access) → InRange maxRounds a → found s a ≡ foundIn (s .values) (s .marks) (s .decision) a
 unfolding found
-found-in s Nothing = refl
-found-in s (ReadValue r) = refl
-found-in s (WriteValue r) = refl
-found-in s (ReadMark r) = refl
-found-in s (SetMark r) = refl
-found-in s ReadDecision = refl
-found-in s WriteDecision = refl
+found-in s Nothing ok = refl
+found-in s (ReadValue r) ok = rw (lt-ltb (r - 1) maxRounds (omega arith))
+found-in s (WriteValue r) ok = refl
+found-in s (ReadMark r) ok = rw (lt-ltb (r - 1) maxRounds (omega arith))
+found-in s (SetMark r) ok = refl
+found-in s ReadDecision ok = refl
+found-in s WriteDecision ok = refl
 
 -- The session with these registers, and another record for process p.
 abbrev pub withTurn : Session → (p : ℕ) → (values : List ℕ) (marks : List Bool) (decision : ℕ) → Process → Session

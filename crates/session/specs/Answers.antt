@@ -1,98 +1,72 @@
--- The answer of an operation by the number of its refusal: the two tests that all operations share, 3 and 4, then its own.
-use Prim.Native.Nat.{ℕ, suc, zero, _<_, _≤_, _%_}
-use native.Mathlib.Omega.{arith}
-use mathlib.Core.Path.{_≡_, refl, sym, _∙_, ap}
-use mathlib.Core.Bool.{Bool, true, false, cond}
-use lib.Dec.{leb}
-use borrow.Author.Tests.{leb-false}
+-- What proposing and crashing answer, by the number of the first refusal and by what the code leaves where it is 0.
+use Prim.Native.Nat.{ℕ, suc, zero, _%_}
+use mathlib.Core.Path.{_≡_, refl, sym, _∙_}
+use mathlib.Core.Bool.{Bool, true, false, cond, not}
+use mathlib.Core.List.{List, [], _∷_}
+use lib.Dec.{eqb, leb}
+use Rattle.model.specs.declared.Phase.the-variants.{Waiting, Crashed}
 use Rattle.model.specs.declared.Process.{Process}
 use Rattle.model.specs.declared.Session.{Session}
-use Rattle.model.specs.declared.Counts.{Counts}
 use Rattle.model.specs.declared.Changed.{Changed}
-use Rattle.model.specs.declared.Stepped.{Stepped}
-use Rattle.model.specs.Board.{processAt, maxProcesses}
-use Rattle.model.specs.Window.{window}
-use Rattle.model.specs.Refusal.{changed, stepped}
+use Rattle.model.specs.Board.{processAt, withProcess}
+use Rattle.model.specs.Step.{process}
+use Rattle.model.specs.Refusal.{Test, refusal, standing, isOutside, isGone, changed}
 use Rattle.model.specs.Sound.{sound}
-use Rattle.laws.specs.Sounds.{sound-facts}
+use Rattle.model.specs.Machine
+use Rattle.model.specs.Machine.{proposed, crashed}
+use Rattle.model.specs.Public
+use Rattle.model.specs.Public.{ifSound}
+use Rattle.laws.specs.Answers.{tested, answer, accepts, admitted, index-is}
 
--- The number of the first refusal: 3 where the session is not sound, 4 where there is no process p, else that of the operation's own
--- tests.
-abbrev pub tested : (sound : Bool) (n p own : ℕ) → ℕ
-tested sound n p own = cond sound (cond (leb n p) 4 own) 3
-
--- By that number: refused, or accepted at 0.
-abbrev pub answer : {X : Type 0} (refused : ℕ → X) (accepted : X) → ℕ → X
-answer refused accepted zero = accepted
-answer refused accepted (suc k) = refused (suc k)
-
-pub refuses : {X : Type 0} (refused : ℕ → X) (accepted : X) {k m : ℕ} → k ≡ m → (k ≡ 0 → ⊥) → refused k ≡ answer refused accepted m
-refuses refused accepted {k} e some = go k some ∙ ap (answer refused accepted) e
-  where
-    go : (j : ℕ) → (j ≡ 0 → ⊥) → refused j ≡ answer refused accepted j
-    go zero some′ = absurd (some′ refl)
-    go (suc j) some′ = refl
-
-pub accepts : {X : Type 0} (refused after : ℕ → X) {k m : ℕ} → k ≡ m → k ≡ 0 → after k ≡ answer refused (after 0) m
-accepts refused after e none = rw (← e, none)
-
--- A session with a number, and with counts.
+-- A session with a number.
 abbrev pub kept : Session → ℕ → Changed
 kept s k = record { code = k; session = s }
 
-abbrev pub keptCounts : Session → Counts → ℕ → Stepped
-keptCounts s c k = record { code = k; session = s; counts = c }
-
--- The definitions' answers are those.
-pub chosen-is : (s t : Session) (k : ℕ) → changed k s t ≡ answer (kept s) (kept t 0) k
-chosen-is s t zero = refl
-chosen-is s t (suc k) = refl
-
--- After the two shared tests. (The machine's answers are those at `true`.)
-pub changed-is : (s t : Session) (b : Bool) (p own : ℕ) →
+-- The definitions' answers are those, after the two shared tests.
+changed-is : (s t : Session) (b : Bool) (p own : ℕ) →
     cond b (changed (cond (leb (s .n) p) 4 own) s t) (kept s 3) ≡ answer (kept s) (kept t 0) (tested b (s .n) p own)
-changed-is s t true p own = chosen-is s t (cond (leb (s .n) p) 4 own)
-changed-is s t false p own = refl
-
-pub stepped-is : (s t : Session) (c d : Counts) (b : Bool) (p own : ℕ) →
-    cond b (stepped (cond (leb (s .n) p) 4 own) s t c d) (keptCounts s c 3)
-    ≡ answer (keptCounts s c) (keptCounts t d 0) (tested b (s .n) p own)
-stepped-is s t c d true p own = go (cond (leb (s .n) p) 4 own)
+changed-is s t true p own = go (cond (leb (s .n) p) 4 own)
   where
-    go : (k : ℕ) → stepped k s t c d ≡ answer (keptCounts s c) (keptCounts t d 0) k
+    go : (k : ℕ) → changed k s t ≡ answer (kept s) (kept t 0) k
     go zero = refl
     go (suc k) = refl
-stepped-is s t c d false p own = refl
+changed-is s t false p own = refl
 
--- What an accepted operation knows.
-pub record Admitted (b : Bool) (n p own : ℕ) : Type 0 where
-  pub tests : b ≡ true
-  pub below : p < n
-  pub none : own ≡ 0
+-- The tests of each operation after the process' number, on the record of the process.
+abbrev pub proposeOwn : (v : ℕ) → Process → List Test
+proposeOwn v q = (eqb v 0, 5) ∷ (not (isOutside (standing (q .phase))), 6) ∷ []
 
-pub admitted : (b : Bool) (n p own : ℕ) → tested b n p own ≡ 0 → Admitted b n p own
-admitted b n p own = go b (leb n p) refl
-  where
-    go : (c t : Bool) → leb n p ≡ t → cond c (cond t 4 own) 3 ≡ 0 → Admitted c n p own
-    go true true et e = absurd (omega arith)
-    go true false et e = record { tests = refl; below = leb-false n p et; none = e }
-    go false t et e = absurd (omega arith)
+abbrev pub crashOwn : Process → List Test
+crashOwn q = (isOutside (standing (q .phase)), 7) ∷ (isGone (standing (q .phase)), 8) ∷ []
 
--- A sound session has few processes, so that the index at which the code reads one is its number.
-pub few : (s : Session) → sound s ≡ true → s .n ≤ maxProcesses
-unfolding sound
-few s t = sound-facts (window (s .n)) s t .few
+-- The operations by the number k of the first refusal: what they are, and what the code leaves where k is 0.
+module _ (s : Session) (p : ℕ) where
+  pub propose-is : (v : ℕ) →
+      Public.propose s p v
+      ≡ answer (kept s) (kept (proposed s p v) 0) (tested (sound s) (s .n) p (refusal (proposeOwn v (processAt s p))))
+  unfolding Public.propose Machine.propose ifSound
+  propose-is v = changed-is s (proposed s p v) (sound s) p _
 
-pub index-is : (s : Session) (p : ℕ) → sound s ≡ true → p < s .n → p % 64 ≡ p
-index-is s p t below = omega (arith, few s t)
+  pub crash-is :
+      Public.crash s p ≡ answer (kept s) (kept (crashed s p) 0) (tested (sound s) (s .n) p (refusal (crashOwn (processAt s p))))
+  unfolding Public.crash Machine.crash ifSound
+  crash-is = changed-is s (crashed s p) (sound s) p _
 
--- The number of the first refusal, with the own tests made on the record that was read.
-pub number : (s : Session) (p : ℕ) (own : Process → ℕ) {b : Bool} {k r : ℕ} → b ≡ sound s → k ≡ own (processAt s (p % 64)) →
-    r ≡ tested b (s .n) p k → r ≡ tested (sound s) (s .n) p (own (processAt s p))
-number s p own eb ek er = er ∙ rw (eb, ek) (go (sound s) (leb (s .n) p) refl refl)
-  where
-    go : (c t : Bool) → sound s ≡ c → leb (s .n) p ≡ t →
-        cond c (cond t 4 (own (processAt s (p % 64)))) 3 ≡ cond c (cond t 4 (own (processAt s p))) 3
-    go true true ec et = refl
-    go true false ec et = rw (index-is s p ec (leb-false (s .n) p et))
-    go false t ec et = refl
+  -- Accepted.
+  module _ {k : ℕ} (none : k ≡ 0) where
+    index : (own : ℕ) → k ≡ tested (sound s) (s .n) p own → p % 64 ≡ p
+    index own e = let a = admitted (sound s) (s .n) p own e none in index-is s p (a .tests) (a .below)
+
+    pub propose-accepted : (v : ℕ) {q : Process} →
+        k ≡ tested (sound s) (s .n) p (refusal (proposeOwn v (processAt s p))) →
+        q ≡ process Waiting (processAt s (p % 64) .round) v →
+        kept (withProcess s (p % 64) q) k ≡ Public.propose s p v
+    unfolding proposed
+    propose-accepted v e eq = rw (eq, index _ e) (accepts (kept s) (kept (proposed s p v)) e none ∙ sym (propose-is v))
+
+    pub crash-accepted : {q : Process} →
+        k ≡ tested (sound s) (s .n) p (refusal (crashOwn (processAt s p))) →
+        q ≡ process Crashed (processAt s (p % 64) .round) (processAt s (p % 64) .estimate) →
+        kept (withProcess s (p % 64) q) k ≡ Public.crash s p
+    unfolding crashed
+    crash-accepted e eq = rw (eq, index _ e) (accepts (kept s) (kept (crashed s p)) e none ∙ sym crash-is)

@@ -1,3 +1,2 @@
 -- The laws of the operations' answers.
 pub mod Answers
-pub mod Operations

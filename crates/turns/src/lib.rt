@@ -10,7 +10,7 @@ use model::Session;
 pub fn step(s: Session, p: usize, leader: bool, counts: &mut Counts) -> Changed
     ensures { λ r. ⌜ withCounts r (now (counts .exit)) ≡ stepOf s p leader (now (counts .entry)) ⌝ }
 {
-    let answer = session::step(s, p, leader, *counts);
+    let answer = steps::step(s, p, leader, *counts);
     *counts = answer.counts;
     Changed {
         code: answer.code,
@@ -22,7 +22,7 @@ pub fn step(s: Session, p: usize, leader: bool, counts: &mut Counts) -> Changed
 pub fn learn(s: Session, p: usize, counts: &mut Counts) -> Changed
     ensures { λ r. ⌜ withCounts r (now (counts .exit)) ≡ learnOf s p (now (counts .entry)) ⌝ }
 {
-    let answer = session::learn(s, p, *counts);
+    let answer = steps::learn(s, p, *counts);
     *counts = answer.counts;
     Changed {
         code: answer.code,

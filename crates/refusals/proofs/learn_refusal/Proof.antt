@@ -1,5 +1,5 @@
 -- `refusals::learn_refusal` meets its contract: the standing of the phase says which test holds. Assumes nothing.
-use mathlib.Core.Path.{sym, _∙_}
+use mathlib.Core.Path.{refl, sym, _∙_}
 use borrow.Author.Needs.{needs}
 use Rattle.refusals.proofs.learn_refusal.Statement.{statement}
 use Rattle.refusals.proofs.learn_refusal.Tie as tie
@@ -9,6 +9,8 @@ learn-refusal-spec =
     tie.close
     (tie.spec
     (λ c κs. search needs) (λ c. search needs) (λ c. search needs) (λ c. search needs) (λ c κs. search needs)
-    (λ c. search needs) (λ c κs. search needs) (λ c. search needs) (λ c. search needs)
-    (λ c. simp (sym (c .before .before .before .standing .ensures) ∙ c .before .enum-told3 .given .1) (c .full-refusal .ensures))
-    (λ c. simp (sym (c .before .before .before .standing .ensures) ∙ c .before .enum-told4 .given .1) (c .full-refusal2 .ensures)))
+    (λ c. search needs) (λ c κs. search needs)
+    (λ c. rw (sym (c .before .before .standing .ensures) ∙ c .enum-told .given .1) refl)
+    (λ c. rw (sym (c .before .before .standing .ensures) ∙ c .enum-told2 .given .1) refl)
+    (λ c. rw (sym (c .before .before .before .standing .ensures) ∙ c .before .enum-told3 .given .1) (c .full-refusal .ensures))
+    (λ c. rw (sym (c .before .before .before .standing .ensures) ∙ c .before .enum-told4 .given .1) (c .full-refusal2 .ensures)))

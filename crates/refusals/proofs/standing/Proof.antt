@@ -1,4 +1,5 @@
 -- `refusals::standing` meets its contract: each arm is told the phase. Assumes nothing.
+use mathlib.Core.Path.{refl}
 use borrow.Author.Needs.{needs}
 use Rattle.refusals.proofs.standing.Statement.{statement}
 use Rattle.refusals.proofs.standing.Tie as tie
@@ -10,16 +11,16 @@ standing-spec =
     (λ c. search needs) (λ c. search needs) (λ c. search needs) (λ c. search needs) (λ c. search needs) (λ c. search needs)
     (λ c. search needs) (λ c. search needs) (λ c. search needs) (λ c. search needs) (λ c. search needs) (λ c. search needs)
     (λ c. search needs)
-    (λ c. rw (c .enum-told .given .1))
-    (λ c. rw (c .enum-told2 .given .1))
-    (λ c. rw (c .enum-told3 .given .1))
-    (λ c. rw (c .enum-told4 .given .1))
-    (λ c. rw (c .enum-told5 .given .1))
-    (λ c. rw (c .enum-told6 .given .1))
-    (λ c. rw (c .enum-told7 .given .1))
-    (λ c. rw (c .enum-told8 .given .1))
-    (λ c. rw (c .enum-told9 .given .1))
-    (λ c. rw (c .enum-told10 .given .1))
-    (λ c. rw (c .enum-told11 .given .1))
-    (λ c. rw (c .enum-told12 .given .1))
-    (λ c. rw (c .enum-told13 .given .1)))
+    (λ c. rw (c .enum-told .given .1) refl)
+    (λ c. rw (c .enum-told2 .given .1) refl)
+    (λ c. rw (c .enum-told3 .given .1) refl)
+    (λ c. rw (c .enum-told4 .given .1) refl)
+    (λ c. rw (c .enum-told5 .given .1) refl)
+    (λ c. rw (c .enum-told6 .given .1) refl)
+    (λ c. rw (c .enum-told7 .given .1) refl)
+    (λ c. rw (c .enum-told8 .given .1) refl)
+    (λ c. rw (c .enum-told9 .given .1) refl)
+    (λ c. rw (c .enum-told10 .given .1) refl)
+    (λ c. rw (c .enum-told11 .given .1) refl)
+    (λ c. rw (c .enum-told12 .given .1) refl)
+    (λ c. rw (c .enum-told13 .given .1) refl))

@@ -1,5 +1,5 @@
 -- `refusals::step_refusal` meets its contract: the standing of the phase says which test holds. Assumes nothing.
-use mathlib.Core.Path.{sym, _∙_}
+use mathlib.Core.Path.{refl, sym, _∙_}
 use borrow.Author.Needs.{needs}
 use Rattle.refusals.proofs.step_refusal.Statement.{statement}
 use Rattle.refusals.proofs.step_refusal.Tie as tie
@@ -9,5 +9,8 @@ step-refusal-spec =
     tie.close
     (tie.spec
     (λ c κs. search needs) (λ c. search needs) (λ c. search needs) (λ c. search needs) (λ c. search needs)
-    (λ c κs. search needs) (λ c. search needs) (λ c. search needs) (λ c. search needs)
-    (λ c. simp (sym (c .before .before .before .standing .ensures) ∙ c .before .enum-told4 .given .1) (c .full-refusal .ensures)))
+    (λ c κs. search needs)
+    (λ c. rw (sym (c .before .before .standing .ensures) ∙ c .enum-told .given .1) refl)
+    (λ c. rw (sym (c .before .before .standing .ensures) ∙ c .enum-told2 .given .1) refl)
+    (λ c. rw (sym (c .before .before .standing .ensures) ∙ c .enum-told3 .given .1) refl)
+    (λ c. rw (sym (c .before .before .before .standing .ensures) ∙ c .before .enum-told4 .given .1) (c .full-refusal .ensures)))

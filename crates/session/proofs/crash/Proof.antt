@@ -4,8 +4,8 @@ use borrow.Author.Needs.{needs}
 use Rattle.model.specs.Sound.{sound}
 use Rattle.model.specs.Board.{processAt}
 use Rattle.model.specs.Refusal.{refusal}
-use Rattle.session.specs.Answers.{tested, number, refuses}
-use Rattle.session.specs.Operations.{crashOwn, crash-is, crash-accepted}
+use Rattle.laws.specs.Answers.{tested, number, refuses}
+use Rattle.session.specs.Answers.{crashOwn, crash-is, crash-accepted}
 use Rattle.session.proofs.crash.Statement.{statement}
 use Rattle.session.proofs.crash.Tie as tie
 
@@ -13,10 +13,12 @@ use Rattle.session.proofs.crash.Tie as tie
 code : (c : tie.After-first-refusal) →
     let a = c .before .before .before .before .args in
     c .first-refusal .result ≡ tested (sound (a .t1)) (a .t1 .n) (a .p) (refusal (crashOwn (processAt (a .t1) (a .p))))
-code c = number _ _ (λ q. refusal (crashOwn q)) (c .before .sound .ensures) (c .before .before .turn-refusal .ensures) (c .first-refusal .ensures)
+code c = number _ _ (λ q. refusal (crashOwn q)) (c .before .before .sound .ensures) (c .before .turn-refusal .ensures) (c .first-refusal .ensures)
 
 returns : tie.Need-returns
-returns c = crash-accepted _ _ (c .before .if1 .taken) (code (c .before .before)) (c .crashed .ensures)
+returns c =
+    let a = c .before .before .before .before .before .before .args in
+    crash-accepted (a .t1) (a .p) (c .before .if1 .taken) (code (c .before .before)) (c .crashed .ensures)
 
 returns-2 : tie.Need-returns-2
 returns-2 c = refuses _ _ (code (c .before)) (c .if1 .left) ∙ sym (crash-is _ _)

@@ -4,8 +4,8 @@ use borrow.Author.Needs.{needs}
 use Rattle.model.specs.Sound.{sound}
 use Rattle.model.specs.Board.{processAt}
 use Rattle.model.specs.Refusal.{refusal}
-use Rattle.session.specs.Answers.{tested, number, refuses}
-use Rattle.session.specs.Operations.{proposeOwn, propose-is, propose-accepted}
+use Rattle.laws.specs.Answers.{tested, number, refuses}
+use Rattle.session.specs.Answers.{proposeOwn, propose-is, propose-accepted}
 use Rattle.session.proofs.propose.Statement.{statement}
 use Rattle.session.proofs.propose.Tie as tie
 
@@ -16,7 +16,9 @@ code : (c : tie.After-first-refusal) →
 code c = number _ _ (λ q. refusal (proposeOwn (c .before .before .before .before .args .v) q)) (c .before .sound .ensures) (c .before .before .propose-refusal .ensures) (c .first-refusal .ensures)
 
 returns : tie.Need-returns
-returns c = propose-accepted _ _ (c .before .if1 .taken) _ (code (c .before .before)) (c .proposed .ensures)
+returns c =
+    let a = c .before .before .before .before .before .before .args in
+    propose-accepted (a .t1) (a .p) (c .before .if1 .taken) (a .v) (code (c .before .before)) (c .proposed .ensures)
 
 returns-2 : tie.Need-returns-2
 returns-2 c = refuses _ _ (code (c .before)) (c .if1 .left) ∙ sym (propose-is _ _ _)

@@ -1,5 +1,5 @@
--- `turns::learn` meets its contract: a walk of its MIR, by hand. The counts are read behind the reference, `session::learn` is called on them, its answer's counts are stored where they stood, and the rest of the answer is returned.
--- All that the proof knows of `session::learn` is that it meets its contract. What the walk shares with that of `step` is in `Lent.antt`.
+-- `turns::learn` meets its contract: a walk of its MIR, by hand. The counts are read behind the reference, `steps::learn` is called on them, its answer's counts are stored where they stood, and the rest of the answer is returned.
+-- All that the proof knows of `steps::learn` is that it meets its contract. What the walk shares with that of `step` is in `Lent.antt`.
 -- Assumes nothing.
 use mathlib.Core.Path.{refl}
 use Prim.Native.Nat.{ℕ, _<_, _^_}
@@ -46,10 +46,10 @@ use Rattle.model.proofs.Session as Se
 use Rattle.model.proofs.Session.Laws as Se′
 use Rattle.model.proofs.Stepped as St
 use Rattle.model.proofs.Stepped.Laws as St′
-use Rattle.session.proofs.learn as callee
-use Rattle.session.proofs.learn.Symbol as callee-def
-use Rattle.session.proofs.learn.Symbol.{name as #session·learn}
-use Rattle.session.proofs.learn.Met as callee-thm
+use Rattle.steps.proofs.learn as callee
+use Rattle.steps.proofs.learn.Symbol as callee-def
+use Rattle.steps.proofs.learn.Symbol.{name as #steps·learn}
+use Rattle.steps.proofs.learn.Met as callee-thm
 use Rattle.turns.proofs.Lent.{board, tally, result, without, counts-are, rest-is, answered, opened, closed, lent, apart, taken, left, finished}
 use Rattle.turns.proofs.learn.Key.{name as #turns·learn}
 use Rattle.turns.proofs.learn as learn
@@ -99,7 +99,7 @@ module _ {M : Type 1} (𝓤 : URA M) (H : Heap 𝓤) (A : Atoms 𝓤) (W : Given
       qed W [] ∵ nothing ! $ owned ! Ct.the-row (Is Ct.the-row) (LL.makes Ct.the-type Ct′.the-plain 𝓤 H A) c _ is $ fjoin ! $
       owned ! usize (Is usize) (uint-makes 𝓤 H A W w64) p _ (refl, fits) $ fjoin ! $ owned ! Se.the-row (Is Se.the-row) (LL.makes Se.the-type Se′.the-plain 𝓤 H A) s _ s-is $ fjoin ! $ nothing ! $ join ! $ frame ! $ done !
 
-  module _ (C : Calls 𝓤 H) (Λ : Loops 𝓤 H) (fm : FmC 𝓤 H (W .laws) C) (known : Triple 𝓤 (C #session·learn) (Callee 𝓤 H A mem run)) where
+  module _ (C : Calls 𝓤 H) (Λ : Loops 𝓤 H) (fm : FmC 𝓤 H (W .laws) C) (known : Triple 𝓤 (C #steps·learn) (Callee 𝓤 H A mem run)) where
     walk : Is Se.the-row s (board s ∷ []) → p < 2 ^ 64 → ent 𝓤 (onEntry 𝓤 H A learn.signature (κ, tt) (q, tt) x at) (WpFn 𝓤 H C Λ code.function (board s ∷ vint w64 p ∷ vptr b o ∷ []) Post)
     walk s-is fits =
         qed W ((‵ (flft κ q) ⊛ ‵ ftrue) ∷ ‵ (owns (Se.the-row ∷ usize ∷ MutRef (named 0) κ Ct.the-row ∷ []) x at) ∷ []) ∵
@@ -123,7 +123,7 @@ module _ {M : Type 1} (𝓤 : URA M) (H : Heap 𝓤) (A : Atoms 𝓤) (W : Given
         by ! (exits (rest-is found is)))))))))))
 
 module _ {M : Type 1} (𝓤 : URA M) (H : Heap 𝓤) (A : Atoms 𝓤) (W : Given 𝓤 H A) (mem : Memory → SProp 𝓤) (run : Routine → Fun 𝓤) where
-  walks : (C : Calls 𝓤 H) (Λ : Loops 𝓤 H) → FmC 𝓤 H (W .laws) C → Triple 𝓤 (C #session·learn) (Callee 𝓤 H A mem run) → Walks 𝓤 H A learn.ended stayed (WpFn 𝓤 H C Λ code.function) (learn.clauses 𝓤 H A mem run)
+  walks : (C : Calls 𝓤 H) (Λ : Loops 𝓤 H) → FmC 𝓤 H (W .laws) C → Triple 𝓤 (C #steps·learn) (Callee 𝓤 H A mem run) → Walks 𝓤 H A learn.ended stayed (WpFn 𝓤 H C Λ code.function) (learn.clauses 𝓤 H A mem run)
   walks C Λ fm known = walked 𝓤 H A learn.ended stayed (learn.clauses 𝓤 H A mem run) (WpFn 𝓤 H C Λ code.function)
       (λ κs. (LL.vals Se.the-type Se′.the-laws, (uint-vals w64, (ptr-vals, tt)))) (λ κs. (LL.tells Se.the-type Se′.the-laws, (uint-tells w64, (mut-tells (named 0) (κs .0) Ct.the-row, tt))))
       (λ κs qs bounds a g are. via 𝓤 _ (fst∗ 𝓤 _ (emp 𝓤)) (walk 𝓤 H A W mem run (κs .0) (qs .0) (a .0) (a .1 .0) (a .1 .1 .0 .ptr .0) (a .1 .1 .0 .ptr .1) (a .1 .1 .0 .name) (a .1 .1 .0 .now) C Λ fm known (are .0) (are .1 .0 .1)))
@@ -132,4 +132,4 @@ pub learn-spec : {M : Type 1} → stated.statement M
 unfolding code.routine
 learn-spec 𝓤 H 𝓜 𝓖 𝓡 =
     finished 𝓤 H 𝓜 𝓖 𝓡 learn.ended stayed (learn.clauses 𝓤 H (𝓖 .A) (𝓜 .mem) (𝓡 .run)) (goes 𝓤 H (𝓖 .A) (givenOf 𝓤 H 𝓜 𝓖)) code.env #turns·learn code.function (code.unfolded 𝓤 H 𝓜 𝓡)
-    (Callee 𝓤 H (𝓖 .A) (𝓜 .mem) (𝓡 .run)) #session·learn callee-def.routine code.calls-session·learn (callee-thm.met 𝓤 H 𝓜 𝓖 𝓡) (walks 𝓤 H (𝓖 .A) (givenOf 𝓤 H 𝓜 𝓖) (𝓜 .mem) (𝓡 .run))
+    (Callee 𝓤 H (𝓖 .A) (𝓜 .mem) (𝓡 .run)) #steps·learn callee-def.routine code.calls-steps·learn (callee-thm.met 𝓤 H 𝓜 𝓖 𝓡) (walks 𝓤 H (𝓖 .A) (givenOf 𝓤 H 𝓜 𝓖) (𝓜 .mem) (𝓡 .run))

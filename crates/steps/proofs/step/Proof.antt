@@ -1,14 +1,14 @@
--- `session::step` meets its contract: by the number of its first refusal, and by the registers, the record and the counts that it leaves. Assumes nothing.
+-- `steps::step` meets its contract: by the number of its first refusal, and by the registers, the record and the counts that it leaves. Assumes nothing.
 use mathlib.Core.Path.{_≡_, sym, _∙_}
 use native.Mathlib.Omega.{arith}
 use borrow.Author.Needs.{needs}
 use Rattle.model.specs.Sound.{sound}
 use Rattle.model.specs.Board.{processAt}
 use Rattle.model.specs.Refusal.{refusal}
-use Rattle.session.specs.Answers.{tested, number, refuses}
-use Rattle.session.specs.Operations.{stepOwn, step-is, step-few, step-accepted}
-use Rattle.session.proofs.step.Statement.{statement}
-use Rattle.session.proofs.step.Tie as tie
+use Rattle.laws.specs.Answers.{tested, number, refuses}
+use Rattle.steps.specs.Answers.{stepOwn, step-is, step-few, step-accepted}
+use Rattle.steps.proofs.step.Statement.{statement}
+use Rattle.steps.proofs.step.Tie as tie
 
 -- The number of the first refusal.
 code : (c : tie.After-first-refusal) →
@@ -16,9 +16,9 @@ code : (c : tie.After-first-refusal) →
     c .first-refusal .result ≡ tested (sound (a .t1)) (a .t1 .n) (a .p) (refusal (stepOwn (a .c) (processAt (a .t1) (a .p))))
 code c = number _ _ (λ q. refusal (stepOwn (c .before .before .before .before .args .c) q)) (c .before .sound .ensures) (c .before .before .step-refusal .ensures) (c .first-refusal .ensures)
 
--- The place where the number is known to be 0, from the place where the registers are written.
-abbrev taken : tie.After-decision-after → tie.Then1
-taken c = c .before .before .before .before .before .before .before .before .before .before .before .before
+-- The place where the number is known to be 0, from the place where the access is performed.
+abbrev taken : tie.After-perform → tie.Then1
+taken c = c .before .before .before .before .before .before
 
 cast-window : tie.Need-cast-window
 cast-window c =
@@ -29,14 +29,14 @@ cast-window c =
 returns : tie.Need-returns
 returns c =
     let done = c .before .before .before in
-    let chosen = done .before .before .before .before .before in
     let start = taken done in
-    step-accepted _ _ (start .if1 .taken) _ _ (code (start .before))
-    (chosen .before .before .before .before .before .before .access .ensures)
-    (chosen .read .ensures)
-    (done .before .before .before .write-value .ensures)
-    (done .before .write-mark .ensures)
-    (done .decision-after .ensures)
+    let a = start .before .before .before .before .before .args in
+    step-accepted (a .t1) (a .p) (start .if1 .taken) (a .leader) (a .c) (code (start .before))
+    (done .before .before .before .before .before .access .ensures)
+    (done .perform .ensures .0)
+    (done .perform .ensures .1 .0)
+    (done .perform .ensures .1 .1 .0)
+    (done .perform .ensures .1 .1 .1)
     (c .before .before .window .ensures)
     (c .before .next .ensures)
     (c .counted .ensures)
@@ -50,6 +50,5 @@ pub step-spec : {M : Type 1} → statement M
 step-spec =
     tie.close
     (tie.spec (λ c. search needs) (λ c. search needs) (λ c κs. search needs) (λ c κs. search needs) (λ c κs. search needs)
-    (λ c κs. search needs) (λ c κs. search needs) (λ c κs. search needs) (λ c κs. search needs) (λ c κs. search needs)
-    cast-window (λ c κs. search needs) (λ c κs. search needs) (λ c. search needs) (λ c. search needs) (λ c κs. search needs)
-    returns returns-2)
+    (λ c κs. search needs) (λ c κs. search needs) cast-window (λ c κs. search needs) (λ c κs. search needs)
+    (λ c. search needs) (λ c. search needs) (λ c κs. search needs) returns returns-2)

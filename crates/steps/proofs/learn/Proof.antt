@@ -1,13 +1,13 @@
--- `session::learn` meets its contract: by the number of its first refusal, and by the record and the counts that it leaves. Assumes nothing.
+-- `steps::learn` meets its contract: by the number of its first refusal, and by the record and the counts that it leaves. Assumes nothing.
 use mathlib.Core.Path.{_≡_, sym, _∙_}
 use borrow.Author.Needs.{needs}
 use Rattle.model.specs.Sound.{sound}
 use Rattle.model.specs.Board.{processAt}
 use Rattle.model.specs.Refusal.{refusal}
-use Rattle.session.specs.Answers.{tested, number, refuses}
-use Rattle.session.specs.Operations.{learnOwn, learn-is, learn-accepted}
-use Rattle.session.proofs.learn.Statement.{statement}
-use Rattle.session.proofs.learn.Tie as tie
+use Rattle.laws.specs.Answers.{tested, number, refuses}
+use Rattle.steps.specs.Answers.{learnOwn, learn-is, learn-accepted}
+use Rattle.steps.proofs.learn.Statement.{statement}
+use Rattle.steps.proofs.learn.Tie as tie
 
 -- The number of the first refusal.
 code : (c : tie.After-first-refusal) →
@@ -17,7 +17,8 @@ code c = number _ _ (λ q. refusal (learnOwn (c .before .before .before .before 
 
 returns : tie.Need-returns
 returns c =
-    learn-accepted _ _ (c .before .before .if1 .taken) _ (code (c .before .before .before)) (c .before .learnt .ensures) (c .counted .ensures)
+    let a = c .before .before .before .before .before .before .before .args in
+    learn-accepted (a .t1) (a .p) (c .before .before .if1 .taken) (a .c) (code (c .before .before .before)) (c .before .learnt .ensures) (c .counted .ensures)
 
 returns-2 : tie.Need-returns-2
 returns-2 c = refuses _ _ (code (c .before)) (c .if1 .left) ∙ sym (learn-is _ _ _)

@@ -1,0 +1,2 @@
+-- The laws of a turn's answers.
+pub mod Answers
