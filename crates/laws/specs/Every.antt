@@ -1,29 +1,13 @@
 -- A test of every element of a list (the model's `every`).
-use Prim.Native.Nat.{ℕ, zero, suc, _+_, _≤_, _<_}
+use Prim.Native.Nat.{ℕ, zero, suc}
 use mathlib.Core.Path.{_≡_, refl}
 use mathlib.Core.Bool.{Bool, true, false}
 use mathlib.Core.List.{List, [], _∷_}
-use native.Mathlib.Numerals.{add-one}
-use native.Mathlib.Omega.{arith}
-use lib.ListN.{length, getD, drop, set, replicate, drop-of-length-le}
-use lib.Seq.{drop-cons}
+use lib.ListN.{getD, drop, set, replicate}
 use Rattle.basics.specs.Bools.{and-left, and-right, and-both}
 use Rattle.model.specs.Sound.{every}
 
 module _ {A : Type 0} (P : A → Bool) where
-  -- One more element, where the test holds of it, and where it does not.
-  pub every-more : (xs : List A) (i : ℕ) (d : A) → i < length xs → P (getD xs i d) ≡ true
-      → every P (drop i xs) ≡ every P (drop (i + 1) xs)
-  every-more xs i d h p = rw (add-one, drop-cons xs i d, p)
-
-  pub every-stop : (xs : List A) (i : ℕ) (d : A) → i < length xs → P (getD xs i d) ≡ false
-      → every P (drop i xs) ≡ false
-  every-stop xs i d h p = rw (drop-cons xs i d, p)
-
-  -- Past the end there is nothing to test.
-  pub every-end : (xs : List A) (i : ℕ) → length xs ≤ i → every P (drop i xs) ≡ true
-  every-end xs i h = rw drop-of-length-le
-
   -- What holds of every element, and of what is read past the end, holds at each place.
   pub every-get : (xs : List A) (i : ℕ) (d : A) → P d ≡ true → every P xs ≡ true → P (getD xs i d) ≡ true
   every-get [] i d other all = other

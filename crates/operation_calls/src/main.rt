@@ -7,11 +7,11 @@ use readout::decision;
 use readout::process_record;
 use readout::register;
 use session::crash;
-use session::learn;
 use session::propose;
-use session::step;
 use standing_values::standing_values;
 use std::num::wrapping_add_u32;
+use steps::learn;
+use steps::step;
 
 // A session of 8 processes and 256 rounds, in which all but process 7 have proposed.
 fn proposed() -> Session {

@@ -9,7 +9,7 @@ use model::Phase;
 use model::Standing;
 
 // 01, "Numbers returned": whether the process is out, works, is spent, or crashed or decided.
-pub fn standing(phase: Phase) -> Standing
+fn standing(phase: Phase) -> Standing
     ensures { λ r. ⌜ r ≡ standingOf phase ⌝ }
 {
     match phase {
