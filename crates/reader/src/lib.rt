@@ -1,12 +1,11 @@
 // A reader that stays attached to a schedule's bytes and its place. 01, "Turn sheets": "A reader that stays attached to the
 // sheet's bytes and its place hands the entries out." Each function takes the reader apart and leaves the work to
-// `schedule::places`; those with plain parameters are for every caller outside.
+// `places`; those with plain parameters are for every caller outside.
 ghost use mathlib.Core.Path.{_≡_};
 ghost use Rattle.schedule.specs.Places.{begin, handed, advanced};
 ghost use Rattle.reader.specs.Reading.{attached, handedBy, movedOn};
 use schedule::Handed;
 use schedule::Place;
-use schedule::places;
 
 pub struct Reader<'a> {
     pub schedule: &'a [u8],

@@ -10,8 +10,8 @@ use types.Kit.{Given, _$_, !, by, move}
 use types.Part.{agg}
 use types.Run.{look, init, stop, from, load, and-then, no-more, assigns, land, returns, alloc1, alloc0, params1, pass1, pass0, free0}
 use base.Logic.{id⊢}
-use Rattle.schedule.proofs.places.begin.Symbol as callee
-use Rattle.schedule.proofs.places.begin.Met as callee-thm
+use Rattle.places.proofs.begin.Symbol as callee
+use Rattle.places.proofs.begin.Met as callee-thm
 use Rattle.reader.proofs.Rows.{begins, attaches, at, with-place}
 use Rattle.reader.proofs.Walk.{Walk, lends, gone, asks, leaves, proved}
 use Rattle.reader.proofs.attach.Key
@@ -33,5 +33,5 @@ walk 𝓤 H A W C Λ fm known κs qs a ty =
 pub attach-spec : {M : Type 1} → stated.statement M
 unfolding code.routine
 attach-spec 𝓤 H 𝓜 𝓖 𝓡 =
-    proved 𝓤 H 𝓜 𝓖 𝓡 code.env Key.name code.function (code.unfolded 𝓤 H 𝓜 𝓡) attaches callee.name callee.routine code.calls-schedule·places·begin begins (callee-thm.met 𝓤 H 𝓜 𝓖 𝓡)
+    proved 𝓤 H 𝓜 𝓖 𝓡 code.env Key.name code.function (code.unfolded 𝓤 H 𝓜 𝓡) attaches callee.name callee.routine code.calls-places·begin begins (callee-thm.met 𝓤 H 𝓜 𝓖 𝓡)
     (walk 𝓤 H (𝓖 .A) (givenOf 𝓤 H 𝓜 𝓖))

@@ -9,8 +9,8 @@ use contract.Running.{givenOf}
 use types.Kit.{Given, _$_, !, by, move}
 use types.Part.{whole, sub, look-in}
 use types.Run.{look, init, stop, fld, from, load, of-opd, and-then, no-more, assigns, land, returns, alloc1, alloc0, params1, pass1, pass0, free0}
-use Rattle.schedule.proofs.places.handed.Symbol as callee
-use Rattle.schedule.proofs.places.handed.Met as callee-thm
+use Rattle.places.proofs.handed.Symbol as callee
+use Rattle.places.proofs.handed.Met as callee-thm
 use Rattle.reader.proofs.Rows.{hands, reads, parts, apart}
 use Rattle.reader.proofs.Walk.{Walk, lends, gone, asks, leaves, proved}
 use Rattle.reader.proofs.entry.Key
@@ -31,5 +31,5 @@ walk 𝓤 H A W C Λ fm known κs qs a ty =
 pub entry-spec : {M : Type 1} → stated.statement M
 unfolding code.routine
 entry-spec 𝓤 H 𝓜 𝓖 𝓡 =
-    proved 𝓤 H 𝓜 𝓖 𝓡 code.env Key.name code.function (code.unfolded 𝓤 H 𝓜 𝓡) reads callee.name callee.routine code.calls-schedule·places·handed hands (callee-thm.met 𝓤 H 𝓜 𝓖 𝓡)
+    proved 𝓤 H 𝓜 𝓖 𝓡 code.env Key.name code.function (code.unfolded 𝓤 H 𝓜 𝓡) reads callee.name callee.routine code.calls-places·handed hands (callee-thm.met 𝓤 H 𝓜 𝓖 𝓡)
     (walk 𝓤 H (𝓖 .A) (givenOf 𝓤 H 𝓜 𝓖))

@@ -9,8 +9,8 @@ use contract.Running.{givenOf}
 use types.Kit.{Given, _$_, !, by, move}
 use types.Part.{whole, sub, look-in, agg}
 use types.Run.{look, init, stop, fld, from, load, of-opd, and-then, no-more, assigns, land, returns, alloc1, alloc0, params1, pass1, pass0, free0}
-use Rattle.schedule.proofs.places.advance.Symbol as callee
-use Rattle.schedule.proofs.places.advance.Met as callee-thm
+use Rattle.places.proofs.advance.Symbol as callee
+use Rattle.places.proofs.advance.Met as callee-thm
 use Rattle.reader.proofs.Rows.{advances, moves, at, parts, apart, slice-of, with-place}
 use Rattle.reader.proofs.Walk.{Walk, lends, gone, asks, leaves, proved}
 use Rattle.reader.proofs.moved.Key
@@ -35,5 +35,5 @@ walk 𝓤 H A W C Λ fm known κs qs a ty =
 pub moved-spec : {M : Type 1} → stated.statement M
 unfolding code.routine
 moved-spec 𝓤 H 𝓜 𝓖 𝓡 =
-    proved 𝓤 H 𝓜 𝓖 𝓡 code.env Key.name code.function (code.unfolded 𝓤 H 𝓜 𝓡) moves callee.name callee.routine code.calls-schedule·places·advance advances (callee-thm.met 𝓤 H 𝓜 𝓖 𝓡)
+    proved 𝓤 H 𝓜 𝓖 𝓡 code.env Key.name code.function (code.unfolded 𝓤 H 𝓜 𝓡) moves callee.name callee.routine code.calls-places·advance advances (callee-thm.met 𝓤 H 𝓜 𝓖 𝓡)
     (walk 𝓤 H (𝓖 .A) (givenOf 𝓤 H 𝓜 𝓖))
