@@ -1,6 +1,5 @@
 // The bytes and the runs of a schedule. 01, "Turn sheets": "Numbers are little-endian." Past the end every byte reads as 0.
 ghost use mathlib.Core.Path.{_≡_};
-ghost use Prim.Native.Nat.{_+_, _*_, _<_};
 ghost use Rattle.model.specs.Schedule.{byteAt};
 ghost use Rattle.runs.specs.Runs.{IsRun};
 
@@ -17,14 +16,6 @@ pub fn byte(s: &[u8], i: usize) -> u8
     if i < s.len() { s[i] } else { 0 }
 }
 
-// A 16-bit number, the low byte first.
-fn word(low: u8, high: u8) -> usize
-    ensures { λ r. ⌜ r ≡ low + 256 * high ⌝ }
-    ensures small { λ r. ⌜ r < 65536 ⌝ }
-{
-    low as usize + 256 * (high as usize)
-}
-
 // "Then p pairs, 16-bit offset and 16-bit length", of which this is the one numbered i, whatever i is.
 pub fn run_at(s: &[u8], i: usize) -> Span
     ensures { λ r. ⌜ IsRun (now (s .entry)) i (r .offset) (r .size) ⌝ }
@@ -36,9 +27,13 @@ pub fn run_at(s: &[u8], i: usize) -> Span
         };
     }
     let at = 4 + 4 * i;
+    let offset_low = byte(s, at) as usize;
+    let offset_high = byte(s, at + 1) as usize;
     let size = at + 2;
+    let size_low = byte(s, size) as usize;
+    let size_high = byte(s, size + 1) as usize;
     Span {
-        offset: word(byte(s, at), byte(s, at + 1)),
-        size: word(byte(s, size), byte(s, size + 1)),
+        offset: offset_low + 256 * offset_high,
+        size: size_low + 256 * size_high,
     }
 }

@@ -18,12 +18,24 @@ returns c =
       size-small = lit< tt;
     }
 
+returns-2 : tie.Need-returns-2
+returns-2 c =
+    let o = c .before .before in
+    record {
+      offset-is = rw (o .before .byte .ensures, o .byte2 .ensures);
+      size-is = rw (c .before .byte3 .ensures, c .byte4 .ensures);
+      offset-small = omega (arith, o .before .byte .ok, o .byte2 .ok);
+      size-small = omega (arith, c .before .byte3 .ok, c .byte4 .ok);
+    }
+
 pub run-at-spec : {M : Type 1} → statement M
 run-at-spec =
     tie.close
     (tie.spec
     returns
-    (λ c. search needs) (λ c. search needs) (λ c. search needs)
-    (λ c κs. search needs) (λ c. search needs) (λ c κs. search needs) (λ c κs. search needs)
-    (λ c κs. search needs) (λ c. search needs) (λ c κs. search needs) (λ c κs. search needs)
-    (λ c. search needs))
+    (λ c. search needs) (λ c. search needs)
+    (λ c κs. search needs) (λ c. search needs) (λ c. search needs) (λ c κs. search needs) (λ c. search needs)
+    (λ c. search needs)
+    (λ c κs. search needs) (λ c. search needs) (λ c. search needs) (λ c κs. search needs) (λ c. search needs)
+    (λ c. search needs) (λ c. search needs) (λ c. search needs) (λ c. search needs)
+    returns-2)
