@@ -2,7 +2,7 @@
 --     Row              a parameter's or a result's type: its row, how its machine value is spelled, and the laws that a walk asks
 --     slots, kept, stays, rows, spells, all-tell, lasts, fits, all-vals, AllTyped, all-go, all-typed, all-copy      of a list of them, what `Denote/Triple/Walked.antt` and `Denote/Laws.antt` ask of a signature's parameters
 --     own-all          what the values own
---     Promise          what is taken, what is given, and the fact that is kept
+--     Claim, Promise   what is said of arguments and result; what is taken, what is given, and the claim that is kept.        saying      a promise with another claim
 --     ended, clauses   the signature and the clauses. A generated module has the same, by computation.        triple        the contract of the two
 --     on-entry, bound  what a call is handed, and the same as the contract binds it.        Post      what a walk ends in
 -- What is shown of a Row's laws takes `Given`. The rest assumes nothing.
@@ -103,10 +103,17 @@ module _ {M : Type 1} (𝓤 : URA M) (H : Heap 𝓤) (A : Atoms 𝓤) (W : Given
   all-copy κs (R ∷ Rs) = (R .copies 𝓤 H A W κs, all-copy κs Rs)
 
 -- ---- the contract
+abbrev pub Claim : List Row → Row → Type 1
+Claim Rs R = (κs : Lfts 1) → Denots (typesAt (slots Rs) κs) → R .row κs .Denot → Type 0
+
 pub record Promise : Type 2 where
   pub takes : List Row
   pub gives : Row
-  pub keeps : (κs : Lfts 1) → Denots (typesAt (slots takes) κs) → gives .row κs .Denot → Type 0
+  pub keeps : Claim takes gives
+
+-- the same with another claim
+abbrev pub saying : (p : Promise) → Claim (p .takes) (p .gives) → Promise
+saying p says = record { takes = p .takes; gives = p .gives; keeps = says }
 
 module _ (p : Promise) where
   abbrev pub ended : Ended
