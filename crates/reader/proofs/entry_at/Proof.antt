@@ -10,12 +10,12 @@ use contract.Running.{givenOf}
 use types.Kit.{Given, _$_, !, by, move}
 use types.Part.{agg}
 use types.Run.{look, init, stop, from, load, and-then, no-more, assigns, land, returns, alloc1, alloc0, params1, pass1, pass0, free0}
-use Rattle.reader.proofs.entry.Symbol as callee
-use Rattle.reader.proofs.entry.Met as callee-thm
+use Rattle.reading.proofs.entry.Symbol as callee
+use Rattle.reading.proofs.entry.Met as callee-thm
 use Rattle.schedule.specs.declared.Handed.{Handed}
-use Rattle.reader.proofs.Rows.{hands, reads, at, together}
-use Rattle.reader.proofs.Promise.{Args, Claim, saying}
-use Rattle.reader.proofs.Walk.{Walk, lends, gone, asks, leaves, proved}
+use Rattle.reading.proofs.Rows.{hands, reads, at, together}
+use Rattle.reading.proofs.Promise.{Args, Claim, saying}
+use Rattle.reading.proofs.Walk.{Walk, lends, gone, asks, leaves, proved}
 use Rattle.reader.proofs.entry_at.Key
 use Rattle.reader.proofs.entry_at.Statement as stated
 use Rattle.reader.proofs.entry_at.Code as code
@@ -36,5 +36,5 @@ walk 𝓤 H A W says so C Λ fm known κs qs a ty =
 pub entry-at-spec : {M : Type 1} → stated.statement M
 unfolding code.routine
 entry-at-spec 𝓤 H 𝓜 𝓖 𝓡 =
-    proved 𝓤 H 𝓜 𝓖 𝓡 code.env Key.name code.function (code.unfolded 𝓤 H 𝓜 𝓡) (saying hands _) callee.name callee.routine code.calls-reader·entry reads (callee-thm.met 𝓤 H 𝓜 𝓖 𝓡)
+    proved 𝓤 H 𝓜 𝓖 𝓡 code.env Key.name code.function (code.unfolded 𝓤 H 𝓜 𝓡) (saying hands _) callee.name callee.routine code.calls-reading·entry reads (callee-thm.met 𝓤 H 𝓜 𝓖 𝓡)
     (walk 𝓤 H (𝓖 .A) (givenOf 𝓤 H 𝓜 𝓖) _ (λ κs a r e. e))

@@ -10,12 +10,12 @@ use contract.Running.{givenOf}
 use types.Kit.{Given, _$_, !, by, move, use1, ‵}
 use types.Part.{whole, sub, look-in, agg}
 use types.Run.{look, init, stop, fld, from, load, of-opd, and-then, no-more, assigns, land, returns, alloc1, alloc0, params1, pass1, pass0, free0}
-use Rattle.reader.proofs.moved.Symbol as callee
-use Rattle.reader.proofs.moved.Met as callee-thm
-use Rattle.reader.specs.declared.Reader.{Reader}
-use Rattle.reader.proofs.Rows.{place, advances, moves, at, together, place-of}
-use Rattle.reader.proofs.Promise.{Args, Claim, saying}
-use Rattle.reader.proofs.Walk.{Walk, lends, gone, asks, leaves, proved}
+use Rattle.reading.proofs.moved.Symbol as callee
+use Rattle.reading.proofs.moved.Met as callee-thm
+use Rattle.reading.specs.declared.Reader.{Reader}
+use Rattle.reading.proofs.Rows.{place, advances, moves, at, together, place-of}
+use Rattle.reading.proofs.Promise.{Args, Claim, saying}
+use Rattle.reading.proofs.Walk.{Walk, lends, gone, asks, leaves, proved}
 use Rattle.reader.proofs.place_after.Key
 use Rattle.reader.proofs.place_after.Statement as stated
 use Rattle.reader.proofs.place_after.Code as code
@@ -39,5 +39,5 @@ walk 𝓤 H A W says so C Λ fm known κs qs a ty =
 pub place-after-spec : {M : Type 1} → stated.statement M
 unfolding code.routine
 place-after-spec 𝓤 H 𝓜 𝓖 𝓡 =
-    proved 𝓤 H 𝓜 𝓖 𝓡 code.env Key.name code.function (code.unfolded 𝓤 H 𝓜 𝓡) (saying advances _) callee.name callee.routine code.calls-reader·moved moves (callee-thm.met 𝓤 H 𝓜 𝓖 𝓡)
+    proved 𝓤 H 𝓜 𝓖 𝓡 code.env Key.name code.function (code.unfolded 𝓤 H 𝓜 𝓡) (saying advances _) callee.name callee.routine code.calls-reading·moved moves (callee-thm.met 𝓤 H 𝓜 𝓖 𝓡)
     (walk 𝓤 H (𝓖 .A) (givenOf 𝓤 H 𝓜 𝓖) _ (λ κs a r e. ap (λ (x : Reader). x .place) e))

@@ -1,4 +1,4 @@
--- `reader::entry` meets its contract: a walk of its MIR, by hand. The reader is taken apart, and `places::handed` is called on its slice and its place.
+-- `reading::entry` meets its contract: a walk of its MIR, by hand. The reader is taken apart, and `places::handed` is called on its slice and its place.
 -- Assumes nothing.
 use mathlib.Core.Path.{refl}
 use mathlib.Core.List.{[], _∷_}
@@ -13,12 +13,12 @@ use types.Run.{look, init, stop, fld, from, load, of-opd, and-then, no-more, ass
 use Rattle.places.proofs.handed.Symbol as callee
 use Rattle.places.proofs.handed.Met as callee-thm
 use Rattle.schedule.specs.declared.Handed.{Handed}
-use Rattle.reader.proofs.Rows.{hands, reads, parts, apart}
-use Rattle.reader.proofs.Promise.{Args, Claim, saying}
-use Rattle.reader.proofs.Walk.{Walk, lends, gone, asks, leaves, proved}
-use Rattle.reader.proofs.entry.Key
-use Rattle.reader.proofs.entry.Statement as stated
-use Rattle.reader.proofs.entry.Code as code
+use Rattle.reading.proofs.Rows.{hands, reads, parts, apart}
+use Rattle.reading.proofs.Promise.{Args, Claim, saying}
+use Rattle.reading.proofs.Walk.{Walk, lends, gone, asks, leaves, proved}
+use Rattle.reading.proofs.entry.Key
+use Rattle.reading.proofs.entry.Statement as stated
+use Rattle.reading.proofs.entry.Code as code
 
 -- whatever is said of the result, if it follows from what the callee keeps
 walk : {M : Type 1} (𝓤 : URA M) (H : Heap 𝓤) (A : Atoms 𝓤) (W : Given 𝓤 H A) (says : Claim (reads .takes) (reads .gives))

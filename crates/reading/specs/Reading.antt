@@ -5,7 +5,7 @@ use mathlib.Core.List.{List}
 use denote.Ref.{RefT, now}
 use Rattle.schedule.specs.Places.{begin, handed, advanced}
 use Rattle.schedule.specs.declared.Handed.{Handed}
-use Rattle.reader.specs.declared.Reader.{Reader}
+use Rattle.reading.specs.declared.Reader.{Reader}
 
 -- A reader of the schedule, at the place of its first entry.
 abbrev pub attached : RefT (List ℕ) → Reader

@@ -36,7 +36,7 @@ use denote.Triple.Entry.{alive}
 use denote.Triple.Statement.{Triple}
 use denote.Triple.Table.{entered, cited}
 use denote.Triple.Walked.{says, ends-at, walked, walk-meets, hasOf}
-use Rattle.reader.proofs.Promise.{slots, kept, AllTyped, all-typed, stays, rows, spells, all-tell, lasts, fits, all-vals, own-all, all-go, all-copy, Promise, ended, Args, clauses, triple, on-entry, bound, Post}
+use Rattle.reading.proofs.Promise.{slots, kept, AllTyped, all-typed, stays, rows, spells, all-tell, lasts, fits, all-vals, own-all, all-go, all-copy, Promise, ended, Args, clauses, triple, on-entry, bound, Post}
 
 -- the lifetime's token
 abbrev pub token : {M : Type 1} (𝓤 : URA M) (H : Heap 𝓤) (A : Atoms 𝓤) → Promise → Lfts 1 → Shares 1 → SProp 𝓤

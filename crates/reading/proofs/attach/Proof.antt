@@ -1,4 +1,4 @@
--- `reader::attach` meets its contract: a walk of its MIR, by hand. `places::begin` is called on the slice, and a reader is made of the slice and the place that it returns.
+-- `reading::attach` meets its contract: a walk of its MIR, by hand. `places::begin` is called on the slice, and a reader is made of the slice and the place that it returns.
 -- Assumes nothing.
 use mathlib.Core.Path.{refl, ap}
 use mathlib.Core.List.{[], _∷_}
@@ -14,12 +14,12 @@ use base.Logic.{id⊢}
 use Rattle.places.proofs.begin.Symbol as callee
 use Rattle.places.proofs.begin.Met as callee-thm
 use Rattle.schedule.specs.declared.Place.{Place}
-use Rattle.reader.proofs.Rows.{begins, attaches, at, with-place}
-use Rattle.reader.proofs.Promise.{Args, Claim, saying}
-use Rattle.reader.proofs.Walk.{Walk, lends, gone, asks, leaves, proved}
-use Rattle.reader.proofs.attach.Key
-use Rattle.reader.proofs.attach.Statement as stated
-use Rattle.reader.proofs.attach.Code as code
+use Rattle.reading.proofs.Rows.{begins, attaches, at, with-place}
+use Rattle.reading.proofs.Promise.{Args, Claim, saying}
+use Rattle.reading.proofs.Walk.{Walk, lends, gone, asks, leaves, proved}
+use Rattle.reading.proofs.attach.Key
+use Rattle.reading.proofs.attach.Statement as stated
+use Rattle.reading.proofs.attach.Code as code
 
 -- whatever is said of the result, if it follows from what the callee keeps
 walk : {M : Type 1} (𝓤 : URA M) (H : Heap 𝓤) (A : Atoms 𝓤) (W : Given 𝓤 H A) (says : Claim (attaches .takes) (attaches .gives))

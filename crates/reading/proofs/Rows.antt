@@ -34,11 +34,11 @@ use Rattle.schedule.proofs.Place as P
 use Rattle.schedule.proofs.Place.Laws as P′
 use Rattle.schedule.proofs.Handed as H′
 use Rattle.schedule.proofs.Handed.Laws as H″
-use Rattle.reader.specs.declared.Reader.{Reader}
-use Rattle.reader.specs.Reading.{attached, handedBy, movedOn}
-use Rattle.reader.proofs.Reader as T
-use Rattle.reader.proofs.Reader.Laws as T′
-use Rattle.reader.proofs.Promise.{Row, rows, all-vals, own-all, all-copy, Args, Promise}
+use Rattle.reading.specs.declared.Reader.{Reader}
+use Rattle.reading.specs.Reading.{attached, handedBy, movedOn}
+use Rattle.reading.proofs.Reader as T
+use Rattle.reading.proofs.Reader.Laws as T′
+use Rattle.reading.proofs.Promise.{Row, rows, all-vals, own-all, all-copy, Args, Promise}
 
 abbrev pub schedule : Row
 schedule = record {

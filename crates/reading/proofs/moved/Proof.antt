@@ -1,4 +1,4 @@
--- `reader::moved` meets its contract: a walk of its MIR, by hand. The reader is taken apart, `places::advance` is called on its slice and its place, and a reader is made of the slice and the place that it returns.
+-- `reading::moved` meets its contract: a walk of its MIR, by hand. The reader is taken apart, `places::advance` is called on its slice and its place, and a reader is made of the slice and the place that it returns.
 -- Assumes nothing.
 use mathlib.Core.Path.{refl, ap}
 use mathlib.Core.List.{[], _∷_}
@@ -13,12 +13,12 @@ use types.Run.{look, init, stop, fld, from, load, of-opd, and-then, no-more, ass
 use Rattle.places.proofs.advance.Symbol as callee
 use Rattle.places.proofs.advance.Met as callee-thm
 use Rattle.schedule.specs.declared.Place.{Place}
-use Rattle.reader.proofs.Rows.{advances, moves, at, parts, apart, slice-of, with-place}
-use Rattle.reader.proofs.Promise.{Args, Claim, saying}
-use Rattle.reader.proofs.Walk.{Walk, lends, gone, asks, leaves, proved}
-use Rattle.reader.proofs.moved.Key
-use Rattle.reader.proofs.moved.Statement as stated
-use Rattle.reader.proofs.moved.Code as code
+use Rattle.reading.proofs.Rows.{advances, moves, at, parts, apart, slice-of, with-place}
+use Rattle.reading.proofs.Promise.{Args, Claim, saying}
+use Rattle.reading.proofs.Walk.{Walk, lends, gone, asks, leaves, proved}
+use Rattle.reading.proofs.moved.Key
+use Rattle.reading.proofs.moved.Statement as stated
+use Rattle.reading.proofs.moved.Code as code
 
 -- whatever is said of the result, if it follows from what the callee keeps
 walk : {M : Type 1} (𝓤 : URA M) (H : Heap 𝓤) (A : Atoms 𝓤) (W : Given 𝓤 H A) (says : Claim (moves .takes) (moves .gives))
