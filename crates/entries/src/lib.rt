@@ -48,7 +48,11 @@ pub fn entry_at(s: &[u8], at: usize) -> Entry
         if at <= s.len() - 6 {
             let low = at + 2;
             let high = low + 2;
-            return entry_of(s[at], s[at + 1], word32(s[low], s[low + 1], s[high], s[high + 1]));
+            return entry_of(
+                s[at],
+                s[at + 1],
+                word32(s[low], s[low + 1], s[high], s[high + 1]),
+            );
         }
     }
     if at < s.len() {

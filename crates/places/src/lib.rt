@@ -11,7 +11,11 @@ use schedule::Place;
 fn left(place: Place) -> usize
     ensures { λ r. ⌜ r ≡ place .end - place .at ⌝ }
 {
-    if place.end < place.at { 0 } else { place.end - place.at }
+    if place.end < place.at {
+        0
+    } else {
+        place.end - place.at
+    }
 }
 
 // The first run from the given one on that has an entry, opened. "Length 0 is allowed."

@@ -2,13 +2,12 @@
 // reader that stays attached to the sheet's bytes and its place hands the entries out."
 ghost use mathlib.Core.Path.{_≡_};
 ghost use Rattle.schedule.specs.Places.{begin, handed, advanced};
-use schedule::Handed;
-use schedule::Place;
-
 pub use reading::Reader;
 pub use reading::attach;
 pub use reading::entry;
 pub use reading::moved;
+use schedule::Handed;
+use schedule::Place;
 
 // The place of a reader that was just attached.
 pub fn first_place(schedule: &[u8]) -> Place

@@ -3,7 +3,7 @@
 --     lends            what a function is handed gives what its callee asks, and a copy is kept for the exit
 --     asks             the call. Its result is spelled out, and the callee's fact of it is known
 --     gone             a local is freed, whatever it holds
---     leaves           the exit, with the result, the token and the copy of the arguments
+--     leaves           the exit, with the result, the token and the copy of the arguments. What is said of the value that the result is known to be is said of it
 --     proved           the walk, taken to the function's own routine
 -- Assumes `Given`, and that the table of calls is monotone under a frame, as every `Tables` is.
 use mathlib.Core.Path.{_≡_, sym, subst, ap}
@@ -89,12 +89,12 @@ module _ {M : Type 1} {𝓤 : URA M} {H : Heap 𝓤} {A : Atoms 𝓤} {K : Type 
         (sym (ap only (p .gives .tells κs r (u ∷ []) is))) (λ is′. k r e (p .gives .lawful 𝓤 H A W κs .typed r _ is′)) is))))
 
 module _ {M : Type 1} {𝓤 : URA M} {H : Heap 𝓤} {A : Atoms 𝓤} (W : Given 𝓤 H A) where
-  pub leaves : (p : Promise) (κs : Lfts 1) (qs : Shares 1) (a : Args p κs) (r : p .gives .row κs .Denot) → p .keeps κs a r
+  pub leaves : (p : Promise) (κs : Lfts 1) (qs : Shares 1) (a : Args p κs) (r : p .gives .row κs .Denot) {v : p .gives .row κs .Denot} → r ≡ v → p .keeps κs a v
       → ent 𝓤 (⋆ 𝓤 H A (‵ (p .gives .row κs .own r (p .gives .val κs r ∷ [])) ∷ raw (token 𝓤 H A p κs qs) ∷ ‵ (hasOf κs (slots (p .takes)) (kept (p .takes)) (stays (p .takes)) a (lasts κs (p .takes) a) (all-vals κs (p .takes) a)) ∷ []))
       (Post p 𝓤 H A κs qs a (p .gives .val κs r))
-  leaves p κs qs a r e =
+  leaves p κs qs a r e h =
       qed W (‵ (p .gives .row κs .own r (p .gives .val κs r ∷ [])) ∷ raw (token 𝓤 H A p κs qs) ∷ ‵ (hasOf κs (slots (p .takes)) (kept (p .takes)) (stays (p .takes)) a (lasts κs (p .takes) a) (all-vals κs (p .takes) a)) ∷ []) ∵
-      suffices ! _ (ends-at 𝓤 H A (ended p) (stays (p .takes)) (clauses p 𝓤 H A) W (bound p 𝓤 H A κs qs a) (p .gives .val κs r) r (lasts κs (p .takes) a) (fits κs (p .takes) a)) $ says ! e $
+      suffices ! _ (ends-at 𝓤 H A (ended p) (stays (p .takes)) (clauses p 𝓤 H A) W (bound p 𝓤 H A κs qs a) (p .gives .val κs r) r (lasts κs (p .takes) a) (fits κs (p .takes) a)) $ says ! (subst (p .keeps κs a) (sym e) h) $
       move ! (1 ∷ 2 ∷ []) $ frame ! $ frame ! $ done !
 
 -- k′ is the callee's name and r′ its routine

@@ -21,10 +21,7 @@ pub fn run_at(s: &[u8], i: usize) -> Span
     ensures { λ r. ⌜ IsRun (now (s .entry)) i (r .offset) (r .size) ⌝ }
 {
     if s.len() / 4 <= i {
-        return Span {
-            offset: 0,
-            size: 0,
-        };
+        return Span { offset: 0, size: 0 };
     }
     let at = 4 + 4 * i;
     let offset_low = byte(s, at) as usize;

@@ -14,6 +14,7 @@ use base.Logic.{id⊢}
 use Rattle.reading.proofs.attach.Symbol as callee
 use Rattle.reading.proofs.attach.Met as callee-thm
 use Rattle.reading.specs.declared.Reader.{Reader}
+use Rattle.reading.specs.Reading.{attached}
 use Rattle.reading.proofs.Rows.{place, begins, attaches, place-of}
 use Rattle.reading.proofs.Promise.{Args, Claim, saying}
 use Rattle.reading.proofs.Walk.{Walk, lends, gone, asks, leaves, proved}
@@ -21,9 +22,9 @@ use Rattle.reader.proofs.first_place.Key
 use Rattle.reader.proofs.first_place.Statement as stated
 use Rattle.reader.proofs.first_place.Code as code
 
--- whatever is said of the result, if it follows from what the callee keeps
+-- for whatever is said of the value that the callee's promise makes the result
 walk : {M : Type 1} (𝓤 : URA M) (H : Heap 𝓤) (A : Atoms 𝓤) (W : Given 𝓤 H A) (says : Claim (begins .takes) (begins .gives))
-    → ((κs : Lfts 1) (a : Args begins κs) (r : Reader) → attaches .keeps κs a r → says κs a (r .place))
+    → ((κs : Lfts 1) (a : Args begins κs) → says κs a (attached (a .0) .place))
     → Walk 𝓤 H A W code.function (saying begins says) callee.name attaches
 walk 𝓤 H A W says so C Λ fm known κs qs a ty =
     alloc1 ! (λ l₀. alloc1 ! (λ l₁. alloc1 ! (λ l₂. alloc0 ! $ params1 ! $ pass1 ! (init ! 2 refl (ty .0 .0)) $ pass0 ! $
@@ -34,10 +35,10 @@ walk 𝓤 H A W says so C Λ fm known κs qs a ty =
     land ! (from ! (stop !)) (init ! 3 refl (wt .0)) $
     assigns ! (of-opd ! (load ! (from ! (fld ! refl (stop !))) (look-in ! 3 (sub ! 1 refl (whole !))))) (from ! (stop !)) (init ! 7 refl (tt, wt .0 .1 .1 .0)) $
     returns ! (look ! 7 refl) $ gone ! 7 refl refl $ gone ! 5 refl refl $ gone ! 3 refl refl $ free0 ! $
-    use1 W (‵ (place .row κs .own (r .place) (place .val κs (r .place) ∷ []))) (place-of 𝓤 H A W κs (r .schedule) (r .place)) $ by ! (leaves W (saying begins says) κs qs a (r .place) (so κs a r e))))))
+    use1 W (‵ (place .row κs .own (r .place) (place .val κs (r .place) ∷ []))) (place-of 𝓤 H A W κs (r .schedule) (r .place)) $ by ! (leaves W (saying begins says) κs qs a (r .place) (ap (λ (x : Reader). x .place) e) (so κs a))))))
 
 pub first-place-spec : {M : Type 1} → stated.statement M
 unfolding code.routine
 first-place-spec 𝓤 H 𝓜 𝓖 𝓡 =
     proved 𝓤 H 𝓜 𝓖 𝓡 code.env Key.name code.function (code.unfolded 𝓤 H 𝓜 𝓡) (saying begins _) callee.name callee.routine code.calls-reading·attach attaches (callee-thm.met 𝓤 H 𝓜 𝓖 𝓡)
-    (walk 𝓤 H (𝓖 .A) (givenOf 𝓤 H 𝓜 𝓖) _ (λ κs a r e. ap (λ (x : Reader). x .place) e))
+    (walk 𝓤 H (𝓖 .A) (givenOf 𝓤 H 𝓜 𝓖) _ (λ κs a. refl))

@@ -13,6 +13,7 @@ use types.Run.{look, init, stop, fld, from, load, of-opd, and-then, no-more, ass
 use Rattle.reading.proofs.moved.Symbol as callee
 use Rattle.reading.proofs.moved.Met as callee-thm
 use Rattle.reading.specs.declared.Reader.{Reader}
+use Rattle.reading.specs.Reading.{movedOn}
 use Rattle.reading.proofs.Rows.{place, advances, moves, at, together, place-of}
 use Rattle.reading.proofs.Promise.{Args, Claim, saying}
 use Rattle.reading.proofs.Walk.{Walk, lends, gone, asks, leaves, proved}
@@ -20,9 +21,9 @@ use Rattle.reader.proofs.place_after.Key
 use Rattle.reader.proofs.place_after.Statement as stated
 use Rattle.reader.proofs.place_after.Code as code
 
--- whatever is said of the result, if it follows from what the callee keeps
+-- for whatever is said of the value that the callee's promise makes the result
 walk : {M : Type 1} (𝓤 : URA M) (H : Heap 𝓤) (A : Atoms 𝓤) (W : Given 𝓤 H A) (says : Claim (advances .takes) (advances .gives))
-    → ((κs : Lfts 1) (a : Args advances κs) (r : Reader) → moves .keeps κs (at (a .0) (a .1 .0), tt) r → says κs a (r .place))
+    → ((κs : Lfts 1) (a : Args advances κs) → says κs a (movedOn (at (a .0) (a .1 .0)) .place))
     → Walk 𝓤 H A W code.function (saying advances says) callee.name moves
 walk 𝓤 H A W says so C Λ fm known κs qs a ty =
     alloc1 ! (λ l₀. alloc1 ! (λ l₁. alloc1 ! (λ l₂. alloc1 ! (λ l₃. alloc1 ! (λ l₄. alloc0 ! $ params1 ! $ pass1 ! (init ! 6 refl (ty .0 .0)) $ pass1 ! (init ! 4 refl (ty .1 .0 .0)) $ pass0 ! $
@@ -34,10 +35,10 @@ walk 𝓤 H A W says so C Λ fm known κs qs a ty =
     land ! (from ! (stop !)) (init ! 5 refl (wt .0)) $
     assigns ! (of-opd ! (load ! (from ! (fld ! refl (stop !))) (look-in ! 5 (sub ! 1 refl (whole !))))) (from ! (stop !)) (init ! 11 refl (tt, wt .0 .1 .1 .0)) $
     returns ! (look ! 11 refl) $ gone ! 11 refl refl $ gone ! 9 refl refl $ gone ! 7 refl refl $ gone ! 5 refl refl $ gone ! 3 refl refl $ free0 ! $
-    use1 W (‵ (place .row κs .own (r .place) (place .val κs (r .place) ∷ []))) (place-of 𝓤 H A W κs (r .schedule) (r .place)) $ by ! (leaves W (saying advances says) κs qs a (r .place) (so κs a r e))))))))
+    use1 W (‵ (place .row κs .own (r .place) (place .val κs (r .place) ∷ []))) (place-of 𝓤 H A W κs (r .schedule) (r .place)) $ by ! (leaves W (saying advances says) κs qs a (r .place) (ap (λ (x : Reader). x .place) e) (so κs a))))))))
 
 pub place-after-spec : {M : Type 1} → stated.statement M
 unfolding code.routine
 place-after-spec 𝓤 H 𝓜 𝓖 𝓡 =
     proved 𝓤 H 𝓜 𝓖 𝓡 code.env Key.name code.function (code.unfolded 𝓤 H 𝓜 𝓡) (saying advances _) callee.name callee.routine code.calls-reading·moved moves (callee-thm.met 𝓤 H 𝓜 𝓖 𝓡)
-    (walk 𝓤 H (𝓖 .A) (givenOf 𝓤 H 𝓜 𝓖) _ (λ κs a r e. ap (λ (x : Reader). x .place) e))
+    (walk 𝓤 H (𝓖 .A) (givenOf 𝓤 H 𝓜 𝓖) _ (λ κs a. refl))

@@ -13,7 +13,8 @@ use types.Run.{look, init, stop, from, load, and-then, no-more, assigns, land, r
 use base.Logic.{id⊢}
 use Rattle.places.proofs.begin.Symbol as callee
 use Rattle.places.proofs.begin.Met as callee-thm
-use Rattle.schedule.specs.declared.Place.{Place}
+use denote.Ref.{now}
+use Rattle.schedule.specs.Places.{begin}
 use Rattle.reading.proofs.Rows.{begins, attaches, at, with-place}
 use Rattle.reading.proofs.Promise.{Args, Claim, saying}
 use Rattle.reading.proofs.Walk.{Walk, lends, gone, asks, leaves, proved}
@@ -21,9 +22,9 @@ use Rattle.reading.proofs.attach.Key
 use Rattle.reading.proofs.attach.Statement as stated
 use Rattle.reading.proofs.attach.Code as code
 
--- whatever is said of the result, if it follows from what the callee keeps
+-- for whatever is said of the value that the callee's promise makes the result
 walk : {M : Type 1} (𝓤 : URA M) (H : Heap 𝓤) (A : Atoms 𝓤) (W : Given 𝓤 H A) (says : Claim (attaches .takes) (attaches .gives))
-    → ((κs : Lfts 1) (a : Args attaches κs) (r : Place) → begins .keeps κs a r → says κs a (at (a .0) r))
+    → ((κs : Lfts 1) (a : Args attaches κs) → says κs a (at (a .0) (begin (now (a .0)))))
     → Walk 𝓤 H A W code.function (saying attaches says) callee.name begins
 walk 𝓤 H A W says so C Λ fm known κs qs a ty =
     alloc1 ! (λ l₀. alloc1 ! (λ l₁. alloc1 ! (λ l₂. alloc0 ! $ params1 ! $ pass1 ! (init ! 2 refl (ty .0 .0)) $ pass0 ! $
@@ -34,10 +35,10 @@ walk 𝓤 H A W says so C Λ fm known κs qs a ty =
     land ! (from ! (stop !)) (init ! 3 refl (p .0)) $
     assigns ! (agg ! (and-then ! (load ! (from ! (stop !)) (look ! 5 refl)) (and-then ! (load ! (from ! (stop !)) (look ! 3 refl)) (no-more !)))) (from ! (stop !)) (init ! 7 refl (tt, (ty .0 .0 .1, (p .0 .1, tt)))) $
     returns ! (look ! 7 refl) $ gone ! 7 refl refl $ gone ! 5 refl refl $ gone ! 3 refl refl $ free0 ! $
-    move ! (0 ∷ 2 ∷ []) $ with-place ! (saying attaches says) κs a (a .0) r (id⊢ 𝓤 _) $ move ! (0 ∷ 2 ∷ 1 ∷ []) $ by ! (leaves W (saying attaches says) κs qs a (at (a .0) r) (so κs a r e))))))
+    move ! (0 ∷ 2 ∷ []) $ with-place ! (saying attaches says) κs a (a .0) r (id⊢ 𝓤 _) $ move ! (0 ∷ 2 ∷ 1 ∷ []) $ by ! (leaves W (saying attaches says) κs qs a (at (a .0) r) (ap (at (a .0)) e) (so κs a))))))
 
 pub attach-spec : {M : Type 1} → stated.statement M
 unfolding code.routine
 attach-spec 𝓤 H 𝓜 𝓖 𝓡 =
     proved 𝓤 H 𝓜 𝓖 𝓡 code.env Key.name code.function (code.unfolded 𝓤 H 𝓜 𝓡) (saying attaches _) callee.name callee.routine code.calls-places·begin begins (callee-thm.met 𝓤 H 𝓜 𝓖 𝓡)
-    (walk 𝓤 H (𝓖 .A) (givenOf 𝓤 H 𝓜 𝓖) _ (λ κs a r e. ap (at (a .0)) e))
+    (walk 𝓤 H (𝓖 .A) (givenOf 𝓤 H 𝓜 𝓖) _ (λ κs a. refl))

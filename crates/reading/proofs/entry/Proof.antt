@@ -12,7 +12,8 @@ use types.Part.{whole, sub, look-in}
 use types.Run.{look, init, stop, fld, from, load, of-opd, and-then, no-more, assigns, land, returns, alloc1, alloc0, params1, pass1, pass0, free0}
 use Rattle.places.proofs.handed.Symbol as callee
 use Rattle.places.proofs.handed.Met as callee-thm
-use Rattle.schedule.specs.declared.Handed.{Handed}
+use denote.Ref.{now}
+use Rattle.schedule.specs.Places.{handed}
 use Rattle.reading.proofs.Rows.{hands, reads, parts, apart}
 use Rattle.reading.proofs.Promise.{Args, Claim, saying}
 use Rattle.reading.proofs.Walk.{Walk, lends, gone, asks, leaves, proved}
@@ -20,9 +21,9 @@ use Rattle.reading.proofs.entry.Key
 use Rattle.reading.proofs.entry.Statement as stated
 use Rattle.reading.proofs.entry.Code as code
 
--- whatever is said of the result, if it follows from what the callee keeps
+-- for whatever is said of the value that the callee's promise makes the result
 walk : {M : Type 1} (𝓤 : URA M) (H : Heap 𝓤) (A : Atoms 𝓤) (W : Given 𝓤 H A) (says : Claim (reads .takes) (reads .gives))
-    → ((κs : Lfts 1) (a : Args reads κs) (r : Handed) → hands .keeps κs (parts (a .0)) r → says κs a r)
+    → ((κs : Lfts 1) (a : Args reads κs) → says κs a (handed (now (a .0 .schedule)) (a .0 .place)))
     → Walk 𝓤 H A W code.function (saying reads says) callee.name hands
 walk 𝓤 H A W says so C Λ fm known κs qs a ty =
     alloc1 ! (λ l₀. alloc1 ! (λ l₁. alloc1 ! (λ l₂. alloc1 ! (λ l₃. alloc0 ! $ params1 ! $ pass1 ! (init ! 4 refl (ty .0 .0)) $ pass0 ! $
@@ -32,10 +33,10 @@ walk 𝓤 H A W says so C Λ fm known κs qs a ty =
     -- [what the callee is handed; what the reader owns; _3; …; _2; …; _1; …; room for _0; …]
     asks ! fm hands known κs qs (parts (a .0)) (and-then ! (load ! (from ! (stop !)) (look ! 4 refl)) (and-then ! (load ! (from ! (stop !)) (look ! 2 refl)) (no-more !))) (λ r e wt.
     -- [the result; the token; what the reader owns; _3; …; _2; …; _1; …; room for _0; …]
-    land ! (from ! (stop !)) (init ! 9 refl (wt .0)) $ returns ! (look ! 9 refl) $ gone ! 9 refl refl $ gone ! 7 refl refl $ gone ! 5 refl refl $ gone ! 3 refl refl $ free0 ! $ by ! (leaves W (saying reads says) κs qs a r (so κs a r e)))))))
+    land ! (from ! (stop !)) (init ! 9 refl (wt .0)) $ returns ! (look ! 9 refl) $ gone ! 9 refl refl $ gone ! 7 refl refl $ gone ! 5 refl refl $ gone ! 3 refl refl $ free0 ! $ by ! (leaves W (saying reads says) κs qs a r e (so κs a)))))))
 
 pub entry-spec : {M : Type 1} → stated.statement M
 unfolding code.routine
 entry-spec 𝓤 H 𝓜 𝓖 𝓡 =
     proved 𝓤 H 𝓜 𝓖 𝓡 code.env Key.name code.function (code.unfolded 𝓤 H 𝓜 𝓡) (saying reads _) callee.name callee.routine code.calls-places·handed hands (callee-thm.met 𝓤 H 𝓜 𝓖 𝓡)
-    (walk 𝓤 H (𝓖 .A) (givenOf 𝓤 H 𝓜 𝓖) _ (λ κs a r e. e))
+    (walk 𝓤 H (𝓖 .A) (givenOf 𝓤 H 𝓜 𝓖) _ (λ κs a. refl))
