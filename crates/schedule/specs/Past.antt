@@ -1,26 +1,2 @@
--- Past the end of a schedule every byte reads as 0, and so does every number.
-use Prim.Native.Nat.{ℕ, _+_, _≤_}
-use native.Mathlib.Omega.{arith}
-use mathlib.Core.Path.{_≡_, refl}
-use mathlib.Core.Bool.{Bool, true, false, cond}
-use mathlib.Core.List.{List}
-use lib.ListN.{length, List·getD-eq-default}
-use Rattle.model.specs.Schedule.{byteAt, word16, word32, entryOf, entryAt}
-
--- Where both answers are one, the test does not matter.
-pub cond-same : {A : Type 0} (t : Bool) (x : A) → cond t x x ≡ x
-cond-same true x = refl
-cond-same false x = refl
-
-module _ (s : List ℕ) where
-  pub byte-past : (i : ℕ) → length s ≤ i → byteAt s i ≡ 0
-  byte-past i h = List·getD-eq-default s 0 h
-
-  pub word16-past : (i : ℕ) → length s ≤ i → word16 s i ≡ 0
-  word16-past i h = rw (byte-past i h, byte-past (i + 1) (omega arith))
-
-  pub word32-past : (i : ℕ) → length s ≤ i → word32 s i ≡ 0
-  word32-past i h = rw (word16-past i h, word16-past (i + 2) (omega arith))
-
-  pub entry-past : (i : ℕ) → length s ≤ i → entryAt s i ≡ entryOf 0 0 0
-  entry-past i h = rw (byte-past i h, byte-past (i + 1) (omega arith), word32-past (i + 2) (omega arith))
+-- Laws of the bytes that others above use too.
+pub use Rattle.runs.specs.Past.{cond-same}

@@ -11,7 +11,7 @@ use Rattle.model.specs.declared.Entry.{Entry}
 use Rattle.model.specs.Schedule.{runAt, runCount, runsFrom, runs, entryAt, entriesOf, entries}
 use Rattle.schedule.specs.Places.{hasEntry, openedRun, between, openFrom, settled, begin, handed, passed}
 use Rattle.schedule.specs.Places.{advanced, rest, before, Proper}
-use Rattle.schedule.specs.Runs.{runs-none}
+use Rattle.runs.specs.Runs.{runs-none}
 use Rattle.schedule.specs.declared.Place.{Place}
 use Rattle.schedule.specs.declared.Handed.{Handed}
 use Rattle.schedule.specs.declared.Handed.the-variants.{Next, End}

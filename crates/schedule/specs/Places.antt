@@ -1,7 +1,7 @@
 -- Document 01, "Turn sheets": "A reader that stays attached to the sheet's bytes and its place hands the entries out."
 -- A place names the next run to be opened, and which bytes of the current run, from `at` up to `end`, are still to be
 -- handed out.
-use Prim.Native.Nat.{ℕ, suc, zero, _+_, _-_, _/_, _≤_, _<_}
+use Prim.Native.Nat.{ℕ, suc, zero, _+_, _-_, _/_, _≤_}
 use mathlib.Core.Path.{_≡_}
 use mathlib.Core.Bool.{Bool, false, cond}
 use mathlib.Core.List.{List, [], _∷_, _++_}
@@ -15,13 +15,6 @@ use Rattle.schedule.specs.declared.Handed.the-variants.{Next, End}
 -- "An entry has 6 bytes": whether one is left between `at` and `end`.
 abbrev pub hasEntry : Place → Bool
 hasEntry p = leb 6 (p .end - p .at)
-
--- What reading the numbers of run i gives: they are its offset and its length, of 16 bits each.
-pub record IsRun (s : List ℕ) (i offset size : ℕ) : Type 0 where
-  pub offset-is : offset ≡ runAt s i .offset
-  pub size-is : size ≡ runAt s i .size
-  pub offset-small : offset < 65536
-  pub size-small : size < 65536
 
 -- Run i, opened: its bytes are to be handed out, and i + 1 is the next run.
 abbrev pub openedRun : (i : ℕ) → Run → Place

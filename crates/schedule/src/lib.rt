@@ -1,12 +1,6 @@
-// Reading a schedule (01: a turn sheet): its refusal, and its entries one after another.
-ghost use mathlib.Core.Path.{_≡_};
-ghost use Rattle.model.specs.Schedule.{scheduleRefusal};
+// Reading a schedule (01: a turn sheet): its refusal, and the places at which a reader of its entries stands. The functions
+// stand in crates of their own: `runs`, `entries`, `layout`, `header` beneath this one, and `places` above it.
 use model::Entry;
-
-mod entries;
-mod header;
-pub mod places;
-mod words;
 
 // A place in a schedule (01, "Turn sheets": "a reader .. its place"): run is the next run to be opened; of the current run
 // the bytes from at up to end are still to be handed out, 6 to an entry.
@@ -22,25 +16,4 @@ pub enum Handed {
     End,
 }
 
-pub use entries::entry_at;
-
-// The refusal of a schedule, 0 where it is accepted. 01, "Numbers returned", Order: "Sheet 10, 1, 2, 11 over all pairs, 12
-// over all runs."
-pub fn refusal(s: &[u8]) -> u32
-    ensures { λ r. ⌜ r ≡ scheduleRefusal (now (s .entry)) ⌝ }
-{
-    if !header::has_header(s) {
-        return 10;
-    }
-    let opening = opening::open_refusal(words::wide(words::byte(s, 0)), words::word16(s, 2));
-    if opening != 0 {
-        return opening;
-    }
-    if !header::in_order(s) {
-        return 11;
-    }
-    if !header::whole(s) {
-        return 12;
-    }
-    0
-}
+pub use header::refusal;

@@ -1,0 +1,2 @@
+-- Entries past the end of a schedule.
+pub mod Past

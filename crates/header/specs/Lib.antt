@@ -1,0 +1,2 @@
+-- The refusal of a schedule, part by part.
+pub mod Parts

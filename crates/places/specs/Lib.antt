@@ -1,0 +1,2 @@
+-- What the next place is, case by case.
+pub mod Steps
