@@ -4,11 +4,13 @@
 Each file of tests/theorem-edits names a file, a text of it and another text, the crate to check after the change, and the file
 and lemma at which the check must refuse it first. The check runs in a copy of the repository.
 """
+import os
 import re
 import shutil
 import subprocess
 import sys
 import tempfile
+from concurrent.futures import ThreadPoolExecutor
 from pathlib import Path
 
 ROOT = Path(__file__).resolve().parent.parent
@@ -55,8 +57,9 @@ def refused_as_said(path):
 def main():
     edits = sorted((ROOT / "tests" / "theorem-edits").glob("*.edit"))
     failed = 0
-    for path in edits:
-        fault = refused_as_said(path)
+    with ThreadPoolExecutor(os.cpu_count()) as pool:
+        faults = list(pool.map(refused_as_said, edits))
+    for path, fault in zip(edits, faults):
         failed += fault is not None
         print(f"theorem edit {path.stem}: {'refused, as it must be' if fault is None else 'FAILED: ' + fault}", flush=True)
     print(f"theorem edits: {len(edits) - failed} refused, {failed} not")
