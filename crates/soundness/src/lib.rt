@@ -2,12 +2,19 @@
 ghost use mathlib.Core.Path.{_≡_};
 ghost use mathlib.Core.Bool.{not, _&&_, _||_};
 ghost use lib.ListN.{length, drop};
-ghost use lib.Dec.{eqb};
+ghost use lib.Dec.{leb, ltb, eqb};
 ghost use Rattle.model.specs.Refusal.{standing, isOutside};
 ghost use Rattle.model.specs.Sound.{every, soundProcess, sound as soundOf};
 use model::Phase;
 use model::Process;
 use model::Session;
+
+// A record that is not out: it is a process', with "a value above 0 and a round of at most L".
+fn held(seated: bool, limit: usize, q: Process) -> bool
+    ensures { λ r. ⌜ r ≡ seated && ltb 0 (q .estimate) && leb (q .round) limit ⌝ }
+{
+    seated & (0 < q.estimate) & (q.round <= limit)
+}
 
 // "Records from n on are out; out has round 0 and value 0, every other stance a value above 0 and a round of at most L", and the
 // clause of the phase.
@@ -16,23 +23,20 @@ fn record_sound(window: usize, limit: usize, seated: bool, q: Process) -> bool
 {
     let phase = q.phase;
     let round = q.round;
-    let held = seated & (0 < q.estimate) & (round <= limit);
-    let begun = held & (1 <= round);
-    let late = held & (window <= round);
     match phase {
         Phase::Idle => (q.estimate == 0) & (round <= limit) & (round == 0),
-        Phase::Waiting => held,
-        Phase::Write => begun,
-        Phase::Scan(k) => begun & (round < k) & (k <= limit),
-        Phase::Adopt(k) => begun & (round <= k) & (k <= limit),
-        Phase::Compare(i) => begun & (i < round) & (i < window),
-        Phase::Flag(i) => begun & (i < round) & (i < window),
-        Phase::CheckMark(i) => late & (i < window),
-        Phase::CheckValue(i) => late & (i < window),
-        Phase::Commit => late,
-        Phase::Exhausted => held & (round == limit),
-        Phase::Crashed => held,
-        Phase::Decided => held,
+        Phase::Waiting => held(seated, limit, q),
+        Phase::Write => held(seated, limit, q) & (1 <= round),
+        Phase::Scan(k) => held(seated, limit, q) & (1 <= round) & (round < k) & (k <= limit),
+        Phase::Adopt(k) => held(seated, limit, q) & (1 <= round) & (round <= k) & (k <= limit),
+        Phase::Compare(i) => held(seated, limit, q) & (1 <= round) & (i < round) & (i < window),
+        Phase::Flag(i) => held(seated, limit, q) & (1 <= round) & (i < round) & (i < window),
+        Phase::CheckMark(i) => held(seated, limit, q) & (window <= round) & (i < window),
+        Phase::CheckValue(i) => held(seated, limit, q) & (window <= round) & (i < window),
+        Phase::Commit => held(seated, limit, q) & (window <= round),
+        Phase::Exhausted => held(seated, limit, q) & (round == limit),
+        Phase::Crashed => held(seated, limit, q),
+        Phase::Decided => held(seated, limit, q),
     }
 }
 

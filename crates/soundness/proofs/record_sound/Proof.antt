@@ -67,21 +67,27 @@ pub record-sound-spec : {M : Type 1} → statement M
 unfolding soundPhase
 record-sound-spec =
     tie.close
-    (tie.spec (λ c. search needs) (λ c. search needs) (λ c. search needs)
-    (λ c. search needs) (λ c. search needs) (λ c. search needs) (λ c. search needs) (λ c. search needs) (λ c. search needs)
-    (λ c. search needs) (λ c. search needs) (λ c. search needs) (λ c. search needs)
-    (λ c. let a = c .before .before .before .before .args in out (a .window) (a .limit) (a .seated) (a .q) (c .before .enum-told .given .1) refl)
-    (λ c. let a = c .before .before .before .args in free (a .window) (a .limit) (a .seated) (a .q) (c .enum-told2 .given .1) refl refl)
-    (λ c. let a = c .before .before .before .args in one (a .window) (a .limit) (a .seated) (a .q) (c .enum-told3 .given .1) refl refl)
-    (λ c. let a = c .before .before .before .before .args in three (a .window) (a .limit) (a .seated) (a .q) (c .before .phase .given .1) refl _ _ _ refl)
-    (λ c. let a = c .before .before .before .before .args in three (a .window) (a .limit) (a .seated) (a .q) (c .before .phase2 .given .1) refl _ _ _ refl)
-    (λ c. let a = c .before .before .before .before .args in three (a .window) (a .limit) (a .seated) (a .q) (c .before .phase3 .given .1) refl _ _ _
-    (near (c .before .phase3 .given .0 .0) (a .q .round) (a .window)))
-    (λ c. let a = c .before .before .before .before .args in three (a .window) (a .limit) (a .seated) (a .q) (c .before .phase4 .given .1) refl _ _ _
-    (near (c .before .phase4 .given .0 .0) (a .q .round) (a .window)))
-    (λ c. let a = c .before .before .before .before .args in two (a .window) (a .limit) (a .seated) (a .q) (c .before .phase5 .given .1) refl _ _ refl)
-    (λ c. let a = c .before .before .before .before .args in two (a .window) (a .limit) (a .seated) (a .q) (c .before .phase6 .given .1) refl _ _ refl)
-    (λ c. let a = c .before .before .before .args in one (a .window) (a .limit) (a .seated) (a .q) (c .enum-told4 .given .1) refl refl)
-    (λ c. let a = c .before .before .before .args in one (a .window) (a .limit) (a .seated) (a .q) (c .enum-told5 .given .1) refl refl)
-    (λ c. let a = c .before .before .before .args in free (a .window) (a .limit) (a .seated) (a .q) (c .enum-told6 .given .1) refl refl)
-    (λ c. let a = c .before .before .before .args in free (a .window) (a .limit) (a .seated) (a .q) (c .enum-told7 .given .1) refl refl))
+    (tie.spec (λ c. search needs)
+    (λ c. search needs) (λ c κs. search needs) (λ c. search needs) (λ c κs. search needs) (λ c. search needs) (λ c κs. search needs)
+    (λ c. search needs) (λ c κs. search needs) (λ c. search needs) (λ c κs. search needs) (λ c. search needs) (λ c κs. search needs)
+    (λ c. search needs) (λ c κs. search needs) (λ c. search needs) (λ c κs. search needs) (λ c. search needs) (λ c κs. search needs)
+    (λ c. search needs) (λ c κs. search needs) (λ c. search needs) (λ c κs. search needs) (λ c. search needs) (λ c κs. search needs)
+    (λ c. let a = c .before .before .before .args in out (a .window) (a .limit) (a .seated) (a .q) (c .before .enum-told .given .1) refl)
+    (λ c. let a = c .before .before .before .args in c .held .ensures ∙ free (a .window) (a .limit) (a .seated) (a .q) (c .before .enum-told2 .given .1) refl refl)
+    (λ c. let a = c .before .before .before .args in rw (c .held2 .ensures) (one (a .window) (a .limit) (a .seated) (a .q) (c .before .enum-told3 .given .1) refl refl))
+    (λ c. let a = c .before .before .before .before .args in
+    rw (c .held3 .ensures) (three (a .window) (a .limit) (a .seated) (a .q) (c .before .before .phase .given .1) refl _ _ _ refl))
+    (λ c. let a = c .before .before .before .before .args in
+    rw (c .held4 .ensures) (three (a .window) (a .limit) (a .seated) (a .q) (c .before .before .phase2 .given .1) refl _ _ _ refl))
+    (λ c. let a = c .before .before .before .before .args in
+    rw (c .held5 .ensures) (three (a .window) (a .limit) (a .seated) (a .q) (c .before .before .phase3 .given .1) refl _ _ _ (near (c .before .before .phase3 .given .0 .0) (a .q .round) (a .window))))
+    (λ c. let a = c .before .before .before .before .args in
+    rw (c .held6 .ensures) (three (a .window) (a .limit) (a .seated) (a .q) (c .before .before .phase4 .given .1) refl _ _ _ (near (c .before .before .phase4 .given .0 .0) (a .q .round) (a .window))))
+    (λ c. let a = c .before .before .before .before .args in
+    rw (c .held7 .ensures) (two (a .window) (a .limit) (a .seated) (a .q) (c .before .before .phase5 .given .1) refl _ _ refl))
+    (λ c. let a = c .before .before .before .before .args in
+    rw (c .held8 .ensures) (two (a .window) (a .limit) (a .seated) (a .q) (c .before .before .phase6 .given .1) refl _ _ refl))
+    (λ c. let a = c .before .before .before .args in rw (c .held9 .ensures) (one (a .window) (a .limit) (a .seated) (a .q) (c .before .enum-told4 .given .1) refl refl))
+    (λ c. let a = c .before .before .before .args in rw (c .held10 .ensures) (one (a .window) (a .limit) (a .seated) (a .q) (c .before .enum-told5 .given .1) refl refl))
+    (λ c. let a = c .before .before .before .args in c .held11 .ensures ∙ free (a .window) (a .limit) (a .seated) (a .q) (c .before .enum-told6 .given .1) refl refl)
+    (λ c. let a = c .before .before .before .args in c .held12 .ensures ∙ free (a .window) (a .limit) (a .seated) (a .q) (c .before .enum-told7 .given .1) refl refl))
