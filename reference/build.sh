@@ -1,15 +1,14 @@
 #!/bin/sh
 # Builds the reference program and its unit tests into target/reference/ and
 # runs the tests. With the path of a libjanus.a it also builds the differential
-# harness against that library; what follows goes to rustc for the harness.
+# harness against that library.
 #
-# usage: reference/build.sh [LIBRARY [--cfg janus_report]]
+# usage: reference/build.sh [LIBRARY]
 set -eu
 
 library=
 if [ $# -gt 0 ]; then
     library=$(cd "$(dirname "$1")" && pwd)
-    shift
 fi
 cd "$(dirname "$0")/.."
 out=target/reference
@@ -25,7 +24,7 @@ build --crate-type rlib --crate-name janus_reference \
 build --crate-name reference $uses reference/src/main.rs -o "$out/reference"
 build --test --crate-name tests reference/src/lib.rs -o "$out/tests"
 if [ -n "$library" ]; then
-    build --crate-name differential $uses --check-cfg 'cfg(janus_report)' "$@" \
+    build --crate-name differential $uses \
         -L native="$library" -l static=janus \
         reference/differential.rs -o "$out/differential"
 fi

@@ -11,9 +11,11 @@
 //!
 //! The library is linked in statically as `entry` and exports
 //! `uint32_t janus_run(const uint8_t *sheet, size_t sheet_len, uint64_t budget,
-//! uint8_t *buffer, size_t buffer_len)`. Built with `--cfg janus_report` the
-//! harness compares the board report too; see `mod library`.
+//! uint8_t *buffer, size_t buffer_len)`. Where the environment variable
+//! BOARD_REPORT names the report's program, that is run on every 50th of the
+//! first 100,000 sheets, and its text is compared with the reference's.
 
+use std::ffi::OsStr;
 use std::io::{self, Read, Write};
 use std::process::{Command, ExitCode, Stdio};
 use std::sync::mpsc::{channel, Receiver, RecvTimeoutError};
@@ -43,19 +45,6 @@ mod library {
         let (from, to) = (sheet.as_ptr(), buffer.as_mut_ptr());
         // SAFETY: both pointers stand with their own lengths.
         unsafe { janus_run(from, sheet.len(), budget, to, buffer.len()) }
-    }
-
-    /// The place for the board report: a function that writes the report's text
-    /// to `out` and returns its length. Compared once `--cfg janus_report` is
-    /// given.
-    #[cfg(janus_report)]
-    pub fn report(sheet: &[u8], out: &mut [u8]) -> usize {
-        extern "C" {
-            fn janus_report(sheet: *const u8, len: usize, out: *mut u8, out_len: usize) -> usize;
-        }
-        let (from, to) = (sheet.as_ptr(), out.as_mut_ptr());
-        // SAFETY: both pointers stand with their own lengths.
-        unsafe { janus_report(from, sheet.len(), to, out.len()) }
     }
 }
 
@@ -1176,6 +1165,7 @@ struct Clock {
     library: Duration,
     reference: Duration,
     calls: u64,
+    reports: u64,
 }
 
 /// Bytes on either side of the lent buffer, which no call may touch.
@@ -1206,27 +1196,44 @@ fn compare(case: &Case, budget: u64, fill: u8, clock: &mut Clock) -> Result<(), 
     })
 }
 
-/// Compares the board report of a sheet, once the library has one.
-#[cfg(janus_report)]
-fn compare_report(case: &Case) -> Result<(), String> {
+/// Set to the path of the report's program, if its text is to be compared.
+const REPORT: &str = "BOARD_REPORT";
+
+/// What the report's program writes for a sheet. Its input is written beside it,
+/// since it may write before it has read all.
+fn reported(program: &OsStr, sheet: &[u8]) -> io::Result<Vec<u8>> {
+    let pipes = (Stdio::piped(), Stdio::piped());
+    let mut child = Command::new(program).stdin(pipes.0).stdout(pipes.1).spawn()?;
+    let mut input = child.stdin.take().expect("the input is a pipe");
+    let sheet = sheet.to_vec();
+    let writer = std::thread::spawn(move || input.write_all(&sheet));
+    let output = child.wait_with_output()?;
+    // A sheet that is too long may be left unread.
+    let _ = writer.join();
+    Ok(output.stdout)
+}
+
+/// Compares the board report of a sheet, where it is one of those to be compared.
+fn compare_report(index: u64, case: &Case, clock: &mut Clock) -> Result<(), String> {
+    let Some(program) = std::env::var_os(REPORT) else {
+        return Ok(());
+    };
+    if index % 50 != 0 || index >= 100_000 {
+        return Ok(());
+    }
     let expected = janus_reference::report(&case.sheet);
-    let mut out = [0; 8192];
-    let length = library::report(&case.sheet, &mut out);
-    let text = out.get(..length).unwrap_or(&[]);
+    let text = reported(&program, &case.sheet).map_err(|error| error.to_string())?;
+    clock.reports += 1;
     if text == expected.as_bytes() {
         return Ok(());
     }
-    let text = String::from_utf8_lossy(text);
+    let text = String::from_utf8_lossy(&text);
     Err(format!("report: library\n{text}reference\n{expected}"))
-}
-
-#[cfg(not(janus_report))]
-fn compare_report(_: &Case) -> Result<(), String> {
-    Ok(())
 }
 
 /// Runs one case with each of its budgets.
 fn run_case(
+    index: u64,
     random: &mut Random,
     coverage: &mut Coverage,
     clock: &mut Clock,
@@ -1244,7 +1251,7 @@ fn run_case(
             coverage.wrong_buffer(&case);
         }
     }
-    compare_report(&case).map_err(|words| (case, words))
+    compare_report(index, &case, clock).map_err(|words| (case, words))
 }
 
 /// COUNT and SEED of the command line, or none where they are not numbers.
@@ -1262,6 +1269,7 @@ fn arguments() -> Option<(u64, u64)> {
 fn print_clock(count: u64, coverage: &Coverage, clock: &Clock) {
     let (calls, entries) = (clock.calls, coverage.entries);
     println!("{count} sheets, {calls} calls, {entries} entries carried out");
+    println!("{} reports", clock.reports);
     for (name, time) in [("library", clock.library), ("reference", clock.reference)] {
         let seconds = time.as_secs_f64();
         let (sheets, rate) = (calls as f64 / seconds, entries as f64 / seconds);
@@ -1288,7 +1296,7 @@ fn work(count: u64, seed: u64) -> io::Result<ExitCode> {
         io::stdout().write_all(&[0])?;
         io::stdout().flush()?;
         let mut random = Random::of(seed, index);
-        if let Err((case, words)) = run_case(&mut random, &mut coverage, &mut clock) {
+        if let Err((case, words)) = run_case(index, &mut random, &mut coverage, &mut clock) {
             return Ok(keep(seed, index, &case.sheet, &words));
         }
     }
