@@ -20,7 +20,7 @@ extern "C" {
 
 const BUFFER: usize = 256;
 const MOST: usize = 10_921;
-const ROUNDS: usize = 25;
+const ROUNDS: usize = 150;
 const ENTRIES_A_ROUND: usize = 400_000;
 
 /// The proved entry, on slices.
