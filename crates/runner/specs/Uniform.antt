@@ -32,7 +32,7 @@ use Rattle.laws.specs.Accepted.{none-holds, propose-accepted, step-accepted, le
 use Rattle.laws.specs.Operations.{proposed-sound, worked-sound, looked-sound, crashed-sound}
 use Rattle.registers.specs.Registers.{valuesAfter, marksAfter, decisionAfter, withTurn, turn-is, access-all}
 use Rattle.schedule.specs.Past.{cond-same}
-use Rattle.runner.specs.Cells.{valueIn, markIn, read-is}
+use Rattle.runner.specs.Operation.{valueIn, markIn, read-is}
 
 -- The seat that an entry names; 0 where it names none.
 abbrev pub seatOf : Entry → ℕ
@@ -117,7 +117,7 @@ changesOf D (Learn p) = not (eqb D 0)
 changesOf D (Crash p) = true
 changesOf D Malformed = false
 
--- To what, where it does.
+-- To what, where it does. (Where it does not, any record will do.)
 abbrev pub changed : Process → (D : ℕ) → Entry → Process
 changed q D (Propose p v) = process Waiting (q .round) v
 changed q D (Step p leader) = process Crashed (q .round) (q .estimate)

@@ -12,7 +12,7 @@ use model::Ran;
 use model::Session;
 use schedule::Handed;
 
-mod cells;
+mod operation;
 mod turns;
 
 // A byte as a number.
@@ -67,8 +67,12 @@ fn carry(schedule: &[u8], budget: usize, window: usize, mut s: Session, mut c: C
                 return ran(k, s, c, Ending::Refused(code, k));
             }
             let a = access::access(s.limit, q, leader);
-            let x = cells::mark(cells::value(&mut s.values, a, q.estimate), &mut s.marks, a);
-            s.decision = cells::decision(s.decision, a, q.estimate);
+            let x = operation::mark(
+                operation::value(&mut s.values, a, q.estimate),
+                &mut s.marks,
+                a,
+            );
+            s.decision = operation::decision(s.decision, a, q.estimate);
             s.processes[p] = next::next(window, s.limit, q, leader, x);
             c = counts::counted(a, c);
         } else {

@@ -76,7 +76,8 @@ pub(crate) fn changes(decision: u32, e: Entry) -> bool
     }
 }
 
-// 01, "One turn at a time", proposal, look and crash: what the seat becomes where it changes.
+// 01, "One turn at a time", proposal, look and crash: what the seat becomes where it changes. (The answer for the two entries that change
+// none here, a work turn and a malformed one, is not used.)
 pub(crate) fn becomes(q: Process, decision: u32, e: Entry) -> Process
     ensures { λ r. ⌜ r ≡ changed q decision e ⌝ }
 {

@@ -22,7 +22,7 @@ use Rattle.schedule.specs.Places.{handed, rest}
 use Rattle.schedule.specs.PlaceLaws.{begin-rest, begin-proper}
 use Rattle.registers.specs.Registers.{access-all}
 use Rattle.laws.specs.Ranges.{InRange}
-use Rattle.runner.specs.Cells.{in-range}
+use Rattle.runner.specs.Operation.{in-range}
 use Rattle.runner.specs.Uniform.{isStep, step-own, step-access, step-leaves, other-changes, other-stays, other-access}
 use Rattle.runner.specs.Carried.{Carrying, Entered, accepted, tallied}
 use Rattle.runner.specs.Carried.{ends, row-low, shorter, halted, due, refused, goes-on}

@@ -3,7 +3,7 @@ ghost use mathlib.Core.Path.{_≡_};
 ghost use Rattle.laws.specs.Ranges.{InRange};
 ghost use Rattle.model.specs.Step.{bit as bitOf};
 ghost use Rattle.registers.specs.Registers.{valuesAfter, marksAfter, decisionAfter};
-ghost use Rattle.runner.specs.Cells.{valueIn, markIn};
+ghost use Rattle.runner.specs.Operation.{valueIn, markIn};
 use model::Access;
 
 // 01, "One turn at a time": the value register T[r], read or written with e. 0 where the operation reads no value.
