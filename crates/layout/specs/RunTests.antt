@@ -1,10 +1,11 @@
 -- Document 01, "Numbers returned", Order: ".. 11 over all pairs, 12 over all runs", and what the two say run by run.
 use Prim.Native.Nat.{ℕ, _+_, _-_, _%_, _≤_, _<_}
 use native.Mathlib.Numerals.{add-one}
-use mathlib.Core.Path.{_≡_}
-use mathlib.Core.Bool.{cond, not}
+use mathlib.Core.Path.{_≡_, _∙_}
+use mathlib.Core.Bool.{cond, not, _&&_}
 use mathlib.Core.List.{List, [], _∷_}
 use lib.ListN.{length}
+use lib.Dec.{eqb}
 use borrow.Author.Tests.{le-leb, lt-leb, eq-eqb, ne-eqb}
 use Rattle.model.specs.Refusal.{Test}
 use Rattle.model.specs.Schedule.{Run, runs, runsFrom, headerEnd, inOrder, wholeEntries}
@@ -29,29 +30,17 @@ module _ {s : List ℕ} {i o z : ℕ} (r : IsRun s i o z) (k : ℕ) (h : i < k) 
   pub long : from ≤ o → size < o + z → leftRefusal from size n (runsFrom s i (k - i)) ≡ 11
   long e f = rw (left-next i k h, ← r .offset-is, ← r .size-is, le-leb from o e, lt-leb (o + z) size f)
 
+  -- In its place: its length, and the runs behind it.
+  fits : from ≤ o → o + z ≤ size
+      → leftRefusal from size n (runsFrom s i (k - i))
+      ≡ cond (not (inOrder (o + z) size (runsFrom s (i + 1) (k - (i + 1))))) 11
+      (cond (not (eqb (z % 6) 0 && every wholeEntries (runsFrom s (i + 1) (k - (i + 1))))) 12 n)
+  fits e f = rw (left-next i k h, ← r .offset-is, ← r .size-is, le-leb from o e, le-leb (o + z) size f, add-one i)
+
   pub not-whole : from ≤ o → o + z ≤ size → (z % 6 ≡ 0 → ⊥)
       → leftRefusal from size n (runsFrom s i (k - i)) ≡ leftRefusal (o + z) size 12 (runsFrom s (i + 1) (k - (i + 1)))
-  not-whole e f g =
-      rw (
-        left-next i k h,
-        ← r .offset-is,
-        ← r .size-is,
-        le-leb from o e,
-        le-leb (o + z) size f,
-        ne-eqb (z % 6) 0 g,
-        add-one i,
-        cond-same,
-      )
+  not-whole e f g = fits e f ∙ rw (ne-eqb (z % 6) 0 g, cond-same)
 
   pub on : from ≤ o → o + z ≤ size → z % 6 ≡ 0
       → leftRefusal from size n (runsFrom s i (k - i)) ≡ leftRefusal (o + z) size n (runsFrom s (i + 1) (k - (i + 1)))
-  on e f g =
-      rw (
-        left-next i k h,
-        ← r .offset-is,
-        ← r .size-is,
-        le-leb from o e,
-        le-leb (o + z) size f,
-        eq-eqb (z % 6) 0 g,
-        add-one i,
-      )
+  on e f g = fits e f ∙ rw (eq-eqb (z % 6) 0 g)

@@ -30,8 +30,8 @@ use Rattle.schedule.specs.declared.Place.{Place}
 use Rattle.schedule.specs.declared.Handed.the-variants.{Next, End}
 use Rattle.schedule.specs.Places.{handed, advanced, rest, Proper}
 use Rattle.schedule.specs.PlaceLaws.{advanced-proper, rest-next, rest-end}
-use Rattle.runner.specs.Uniform.{seatOf, refusalOf, ownRefusal, haltOf, accessOf, after, countsAfter}
-use Rattle.runner.specs.Uniform.{performed-uniform, seated, unseated, accepted-counts, entry-sound}
+use Rattle.runner.specs.Uniform.{processOf, refusalOf, ownRefusal, haltOf, accessOf, after, countsAfter}
+use Rattle.runner.specs.Uniform.{performed-uniform, below-n, not-below-n, accepted-counts, entry-sound}
 
 -- A session to start from: sound, at its window.
 pub record Opened (W : ℕ) (s : Session) : Type 0 where
@@ -72,13 +72,13 @@ run-accepted t budget e = rw e
 
 module _ (b k : ℕ) (s : Session) (c : Counts) (e : Entry) (es : List Entry) where
   -- An entry that is not refused is carried out, and the run goes on.
-  one-more : refusalOf (s .n) (processAt s (seatOf e)) c e ≡ 0 →
+  one-more : refusalOf (s .n) (processAt s (processOf e)) c e ≡ 0 →
       runFrom (suc b) k s c (e ∷ es) ≡ runFrom b (suc k) (after (window (s .n)) s e) (countsAfter s c e) es
   unfolding runFrom
   one-more h = rw (performed-uniform s c e, h)
 
   -- A refused one ends it.
-  one-refused : (r : ℕ) → refusalOf (s .n) (processAt s (seatOf e)) c e ≡ r → (r ≡ 0 → ⊥) →
+  one-refused : (r : ℕ) → refusalOf (s .n) (processAt s (processOf e)) c e ≡ r → (r ≡ 0 → ⊥) →
       runFrom (suc b) k s c (e ∷ es) ≡ ran k s c (Refused r k)
   unfolding runFrom
   one-refused zero h some = absurd (some refl)
@@ -86,26 +86,26 @@ module _ (b k : ℕ) (s : Session) (c : Counts) (e : Entry) (es : List Entry) wh
 
 -- ---- where the code stands in a turn
 
--- An entry e, its seat p, which is one of the n, and the number r of its own refusal.
+-- An entry e, its process p, which is one of the n, and the number r of its own refusal.
 pub record Entered (s : Session) (c : Counts) (e : Entry) (p r : ℕ) : Type 0 where
-  pub seat : p ≡ seatOf e
+  pub named : p ≡ processOf e
   pub below : p < s .n
   pub code : r ≡ ownRefusal (processAt s p) c e
 
 module _ {s : Session} {c : Counts} {e : Entry} {p : ℕ} where
   pub accepted : {r : ℕ} → Entered s c e p r → r ≡ 0 → Entered s c e p 0
-  accepted f zero′ = record { seat = f .seat; below = f .below; code = sym zero′ ∙ f .code }
+  accepted f zero′ = record { named = f .named; below = f .below; code = sym zero′ ∙ f .code }
 
   -- The number is that of the entry's refusal.
-  entered-code : {r : ℕ} → Entered s c e p r → r ≡ refusalOf (s .n) (processAt s (seatOf e)) c e
+  entered-code : {r : ℕ} → Entered s c e p r → r ≡ refusalOf (s .n) (processAt s (processOf e)) c e
   entered-code f =
-      let low : seatOf e < s .n = rw (← f .seat) (f .below) in
-      f .code ∙ rw (f .seat) (sym (seated (s .n) (processAt s (seatOf e)) c e low))
+      let low : processOf e < s .n = rw (← f .named) (f .below) in
+      f .code ∙ rw (f .named) (sym (below-n (s .n) (processAt s (processOf e)) c e low))
 
   -- The counts that the code leaves are those of the one form.
   pub tallied : {b : Access} {d : Counts} → Entered s c e p 0 → b ≡ accessOf (s .limit) (processAt s p) e →
       d ≡ cond (full c) c (counted b c) → d ≡ countsAfter s c e
-  tallied f eb ed = ed ∙ rw eb (accepted-counts (processAt s p) c (s .limit) e (sym (f .code)) ∙ rw (f .seat))
+  tallied f eb ed = ed ∙ rw eb (accepted-counts (processAt s p) c (s .limit) e (sym (f .code)) ∙ rw (f .named))
 
 after-n : (W : ℕ) (s : Session) (e : Entry) → window (s .n) ≡ window ((after W s e) .n)
 unfolding turn
@@ -131,7 +131,7 @@ module _ {answer : Ran} {t : List ℕ} {budget W : ℕ} {s : Session} {c : Count
   unfolding runFrom
   ends e = h .same ∙ rw (rest-end t place (h .proper) e)
 
-  -- A seat of the session is one of the 64 rows.
+  -- A process of the session is one of the 64 rows.
   pub row-low : {p : ℕ} → p < s .n → p < 64
   row-low below = omega (arith, sound-facts W s (h .opened .sound) .few)
 
@@ -157,12 +157,12 @@ module _ {answer : Ran} {t : List ℕ} {budget W : ℕ} {s : Session} {c : Count
       pub refused : {p r : ℕ} → Entered s c e p r → (r ≡ 0 → ⊥) → answer ≡ ran k s c (Refused r k)
       refused {p} {r} f some = here ∙ one-refused _ k s c e _ r (sym (entered-code f)) some
 
-      -- An entry whose seat is n or above.
-      unknown : s .n ≤ seatOf e → answer ≡ ran k s c (Refused 4 k)
+      -- An entry whose process is n or above.
+      unknown : s .n ≤ processOf e → answer ≡ ran k s c (Refused 4 k)
       unknown high =
           here
           ∙ one-refused _ k s c e _ 4
-          (unseated (s .n) (processAt s (seatOf e)) c e (sound-facts W s (h .opened .sound) .some) high)
+          (not-below-n (s .n) (processAt s (processOf e)) c e (sound-facts W s (h .opened .sound) .some) high)
           (λ z. omega arith)
 
       -- An accepted entry: what the code leaves is what the one form has, and one more is carried out.
@@ -188,15 +188,15 @@ module _ {answer : Ran} {t : List ℕ} {budget W : ℕ} {s : Session} {c : Count
             };
           })
 
-    -- "budget ended .. that next one is not tried", and a seat n or above.
-    pub halted : {p : ℕ} → p ≡ seatOf e → (leb budget k || leb (s .n) p) ≡ true → answer ≡ ran k s c (haltOf budget k)
-    halted {p} seat = go (leb budget k) refl
+    -- "budget ended .. that next one is not tried", and a process n or above.
+    pub halted : {p : ℕ} → p ≡ processOf e → (leb budget k || leb (s .n) p) ≡ true → answer ≡ ran k s c (haltOf budget k)
+    halted {p} named = go (leb budget k) refl
       where
         go : (b : Bool) → leb budget k ≡ b → (b || leb (s .n) p) ≡ true → answer ≡ ran k s c (cond b BudgetEnded (Refused 4 k))
         go true e o = spent (leb-true budget k e)
-        go false e o = unknown (leb-false budget k e) (rw (← seat) (leb-true (s .n) p o))
+        go false e o = unknown (leb-false budget k e) (rw (← named) (leb-true (s .n) p o))
 
-    -- Past that test there is budget left, and the seat is one of the n.
+    -- Past that test there is budget left, and the process is one of the n.
     pub due : {p : ℕ} → (leb budget k || leb (s .n) p) ≡ false → (k < budget) × (p < s .n)
     due {p} = go (leb budget k) refl
       where

@@ -1,4 +1,4 @@
--- Every entry has one form: a refusal, a register operation and what the seat becomes, each by the seat's record alone. That this
+-- Every entry has one form: a refusal, a register operation and what the process becomes, each by the process's record alone. That this
 -- is what the machine does is `performed-uniform`.
 use Prim.Native.Nat.{ℕ, suc, zero, _<_, _≤_}
 use native.Mathlib.Omega.{arith}
@@ -34,13 +34,13 @@ use Rattle.registers.specs.Registers.{valuesAfter, marksAfter, decisionAfter, w
 use Rattle.schedule.specs.Past.{cond-same}
 use Rattle.runner.specs.Operation.{valueIn, markIn, read-is}
 
--- The seat that an entry names; 0 where it names none.
-abbrev pub seatOf : Entry → ℕ
-seatOf (Propose p v) = p
-seatOf (Step p leader) = p
-seatOf (Learn p) = p
-seatOf (Crash p) = p
-seatOf Malformed = 0
+-- The process that an entry names; 0 where it names none.
+abbrev pub processOf : Entry → ℕ
+processOf (Propose p v) = p
+processOf (Step p leader) = p
+processOf (Learn p) = p
+processOf (Crash p) = p
+processOf Malformed = 0
 
 -- Whether it is a work turn.
 abbrev pub isStep : Entry → Bool
@@ -50,11 +50,11 @@ isStep (Learn p) = false
 isStep (Crash p) = false
 isStep Malformed = false
 
--- The test of the seat's number.
-abbrev pub seatTest : (n p : ℕ) → Test
-seatTest n p = (leb n p, 4)
+-- The test of the process's number.
+abbrev pub processTest : (n p : ℕ) → Test
+processTest n p = (leb n p, 4)
 
--- The tests after it, by the record q of the seat: of a work turn, and of every entry.
+-- The tests after it, by the record q of the process: of a work turn, and of every entry.
 abbrev pub stepOwn : Process → Counts → List Test
 stepOwn q c =
     (isOutside (standing (q .phase)), 7)
@@ -71,16 +71,16 @@ ownTests q c (Learn p) =
 ownTests q c (Crash p) = (isOutside (standing (q .phase)), 7) ∷ (isGone (standing (q .phase)), 8) ∷ []
 ownTests q c Malformed = []
 
--- How the run ends at an entry that is past the budget, or whose seat is n or above.
+-- How the run ends at an entry that is past the budget, or whose process is n or above.
 abbrev pub haltOf : (budget k : ℕ) → Ending
 haltOf budget k = cond (leb budget k) BudgetEnded (Refused 4 k)
 
 -- The number of the refusal, 0 for none: "each entry 13 first, then its operation's own order".
 unfoldable pub refusalOf : (n : ℕ) → Process → Counts → Entry → ℕ
-refusalOf n q c (Propose p v) = refusal (seatTest n p ∷ ownTests q c (Propose p v))
-refusalOf n q c (Step p leader) = refusal (seatTest n p ∷ ownTests q c (Step p leader))
-refusalOf n q c (Learn p) = refusal (seatTest n p ∷ ownTests q c (Learn p))
-refusalOf n q c (Crash p) = refusal (seatTest n p ∷ ownTests q c (Crash p))
+refusalOf n q c (Propose p v) = refusal (processTest n p ∷ ownTests q c (Propose p v))
+refusalOf n q c (Step p leader) = refusal (processTest n p ∷ ownTests q c (Step p leader))
+refusalOf n q c (Learn p) = refusal (processTest n p ∷ ownTests q c (Learn p))
+refusalOf n q c (Crash p) = refusal (processTest n p ∷ ownTests q c (Crash p))
 refusalOf n q c Malformed = 13
 
 -- The one register operation: a proposal and a crash have none, a look reads D.
@@ -91,7 +91,7 @@ accessOf L q (Learn p) = ReadDecision
 accessOf L q (Crash p) = Nothing
 accessOf L q Malformed = Nothing
 
--- What the seat becomes by the value x that was read.
+-- What the process becomes by the value x that was read.
 unfoldable pub becomes : (W L : ℕ) → Process → Entry → (x : ℕ) → Process
 becomes W L q (Propose p v) x = process Waiting (q .round) v
 becomes W L q (Step p leader) x = next W L q leader x
@@ -109,7 +109,7 @@ ownRefusal q c (Learn p) = refusal (ownTests q c (Learn p))
 ownRefusal q c (Crash p) = refusal (ownTests q c (Crash p))
 ownRefusal q c Malformed = 13
 
--- Whether the record of the seat changes, by the decision register D.
+-- Whether the record of the process changes, by the decision register D.
 abbrev pub changesOf : (D : ℕ) → Entry → Bool
 changesOf D (Propose p v) = true
 changesOf D (Step p leader) = false
@@ -136,12 +136,12 @@ otherAccess Malformed = Nothing
 -- The session after an accepted entry, at window W.
 abbrev pub after : (W : ℕ) → Session → Entry → Session
 after W s e =
-    let q = processAt s (seatOf e) in
-    turn s (seatOf e) (accessOf (s .limit) q e) (becomes W (s .limit) q e)
+    let q = processAt s (processOf e) in
+    turn s (processOf e) (accessOf (s .limit) q e) (becomes W (s .limit) q e)
 
 -- The counts after it.
 abbrev pub countsAfter : Session → Counts → Entry → Counts
-countsAfter s c e = counted (accessOf (s .limit) (processAt s (seatOf e)) e) c
+countsAfter s c e = counted (accessOf (s .limit) (processAt s (processOf e)) e) c
 
 -- An operation that counts nothing, as one that counts.
 uncounted-is : (k : ℕ) (s t : Session) (c : Counts) → uncounted (Refusal.changed k s t) c ≡ stepped k s t c c
@@ -151,7 +151,7 @@ uncounted-is (suc k) s t c = refl
 -- The one form is what the machine gives.
 pub performed-uniform : (s : Session) (c : Counts) (e : Entry) →
     performed s c e
-    ≡ stepped (refusalOf (s .n) (processAt s (seatOf e)) c e) s (after (window (s .n)) s e) c (countsAfter s c e)
+    ≡ stepped (refusalOf (s .n) (processAt s (processOf e)) c e) s (after (window (s .n)) s e) c (countsAfter s c e)
 unfolding refusalOf accessOf becomes turn written found counted Machine.propose Machine.step Machine.learn Machine.crash proposed worked looked crashed
 performed-uniform s c (Propose p v) = uncounted-is (refusal (proposeTests s p v)) s (proposed s p v) c
 performed-uniform s c (Step p leader) = refl
@@ -162,23 +162,23 @@ performed-uniform s c Malformed = refl
 -- ---- what the code's tests say
 
 module _ (n : ℕ) (q : Process) (c : Counts) where
-  -- Of a seat below n the own tests decide.
-  pub seated : (e : Entry) → seatOf e < n → refusalOf n q c e ≡ ownRefusal q c e
+  -- Of a process below n the own tests decide.
+  pub below-n : (e : Entry) → processOf e < n → refusalOf n q c e ≡ ownRefusal q c e
   unfolding refusalOf
-  seated (Propose p v) h = rw (lt-leb n p h)
-  seated (Step p leader) h = rw (lt-leb n p h)
-  seated (Learn p) h = rw (lt-leb n p h)
-  seated (Crash p) h = rw (lt-leb n p h)
-  seated Malformed h = refl
+  below-n (Propose p v) h = rw (lt-leb n p h)
+  below-n (Step p leader) h = rw (lt-leb n p h)
+  below-n (Learn p) h = rw (lt-leb n p h)
+  below-n (Crash p) h = rw (lt-leb n p h)
+  below-n Malformed h = refl
 
-  -- A seat n or above is refused by its number.
-  pub unseated : (e : Entry) → 1 ≤ n → n ≤ seatOf e → refusalOf n q c e ≡ 4
+  -- A process n or above is refused by its number.
+  pub not-below-n : (e : Entry) → 1 ≤ n → n ≤ processOf e → refusalOf n q c e ≡ 4
   unfolding refusalOf
-  unseated (Propose p v) some h = rw (le-leb n p h)
-  unseated (Step p leader) some h = rw (le-leb n p h)
-  unseated (Learn p) some h = rw (le-leb n p h)
-  unseated (Crash p) some h = rw (le-leb n p h)
-  unseated Malformed some h = absurd (omega arith)
+  not-below-n (Propose p v) some h = rw (le-leb n p h)
+  not-below-n (Step p leader) some h = rw (le-leb n p h)
+  not-below-n (Learn p) some h = rw (le-leb n p h)
+  not-below-n (Crash p) some h = rw (le-leb n p h)
+  not-below-n Malformed some h = absurd (omega arith)
 
 -- Where an accepted entry counts a register operation, the counts are not full: the code's own test of that changes nothing.
 pub accepted-counts : (q : Process) (c : Counts) (L : ℕ) (e : Entry) → ownRefusal q c e ≡ 0 →
@@ -204,7 +204,7 @@ step-access L q told = rw told
 pub step-leaves : (W : ℕ) (s : Session) (p : ℕ) (leader : Bool) {e : Entry} {m v x y : ℕ} {a : Access} {values : List ℕ} {marks : List Bool} {q : Process} →
     soundAt W s ≡ true →
     e ≡ Step m leader →
-    p ≡ seatOf e →
+    p ≡ processOf e →
     a ≡ access (s .limit) (processAt s p) leader →
     v ≡ valueIn (s .values) a →
     x ≡ markIn v (s .marks) a →
@@ -214,21 +214,21 @@ pub step-leaves : (W : ℕ) (s : Session) (p : ℕ) (leader : Bool) {e : Entry} 
     q ≡ next W (s .limit) (processAt s p) leader x →
     withTurn s p values marks y q ≡ after W s e
 unfolding accessOf becomes access
-step-leaves W s p leader {m = m} t told seat ea er ex ev em ey eq =
+step-leaves W s p leader {m = m} t told named ea er ex ev em ey eq =
     let r = processAt s m in
     let read = read-is s (s .limit) (r .round) (r .phase) leader in
-    rw (eq, ev, em, ey, ex, er, ea, seat, told, read)
+    rw (eq, ev, em, ey, ex, er, ea, named, told, read)
     (sym (turn-is s m (access (s .limit) r leader) (next W (s .limit) r leader) (access-all W s m leader t)))
 
 -- Any other entry, where the record changes.
-pub other-changes : (W : ℕ) (s : Session) (p : ℕ) (e : Entry) {q : Process} → isStep e ≡ false → p ≡ seatOf e →
+pub other-changes : (W : ℕ) (s : Session) (p : ℕ) (e : Entry) {q : Process} → isStep e ≡ false → p ≡ processOf e →
     changesOf (s .decision) e ≡ true → q ≡ changed (processAt s p) (s .decision) e → withProcess s p q ≡ after W s e
 unfolding accessOf becomes turn written found
-other-changes W s p (Propose m v) not-step seat h eq = rw (eq, seat)
-other-changes W s p (Step m leader) not-step seat h eq = absurd (true≢false not-step)
-other-changes W s p (Learn m) not-step seat h eq = rw (eq, seat)
-other-changes W s p (Crash m) not-step seat h eq = rw (eq, seat)
-other-changes W s p Malformed not-step seat h eq = absurd (true≢false (sym h))
+other-changes W s p (Propose m v) not-step named h eq = rw (eq, named)
+other-changes W s p (Step m leader) not-step named h eq = absurd (true≢false not-step)
+other-changes W s p (Learn m) not-step named h eq = rw (eq, named)
+other-changes W s p (Crash m) not-step named h eq = rw (eq, named)
+other-changes W s p Malformed not-step named h eq = absurd (true≢false (sym h))
 
 -- And where it does not: a look at a blank D.
 pub other-stays : (W : ℕ) (s : Session) (c : Counts) (p : ℕ) (e : Entry) → isStep e ≡ false →
@@ -252,7 +252,7 @@ other-access L q Malformed not-step = refl
 -- ---- an accepted entry keeps the session sound
 
 module _ (W : ℕ) (s : Session) (t : soundAt W s ≡ true) where
-  pub entry-sound : 1 ≤ W → (c : Counts) (e : Entry) → refusalOf (s .n) (processAt s (seatOf e)) c e ≡ 0 → soundAt W (after W s e) ≡ true
+  pub entry-sound : 1 ≤ W → (c : Counts) (e : Entry) → refusalOf (s .n) (processAt s (processOf e)) c e ≡ 0 → soundAt W (after W s e) ≡ true
   unfolding refusalOf accessOf becomes turn written found proposed worked looked crashed
   entry-sound wide c (Propose p v) h = let a = propose-accepted s p v h in proposed-sound W wide s p t v (a .0) (a .1)
   entry-sound wide c (Step p leader) h = let a = step-accepted s p c h in worked-sound W wide s p t leader (a .0) (a .1)

@@ -15,6 +15,9 @@ use schedule::Handed;
 mod operation;
 mod turns;
 
+use operation::mark;
+use operation::value;
+
 // A byte as a number.
 fn wide(x: u8) -> usize
     ensures { λ r. ⌜ (r ≡ x) × (r < 256) ⌝ }
@@ -56,7 +59,7 @@ fn carry(schedule: &[u8], budget: usize, window: usize, mut s: Session, mut c: C
         let Handed::Next(e) = reader::entry_at(schedule, place) else {
             return ran(k, s, c, Ending::Finished);
         };
-        let p = turns::seat_of(e);
+        let p = turns::process_of(e);
         if turns::halts(budget, k, s.n, p) {
             return ran(k, s, c, turns::halt(budget, k));
         }
@@ -67,11 +70,7 @@ fn carry(schedule: &[u8], budget: usize, window: usize, mut s: Session, mut c: C
                 return ran(k, s, c, Ending::Refused(code, k));
             }
             let a = access::access(s.limit, q, leader);
-            let x = operation::mark(
-                operation::value(&mut s.values, a, q.estimate),
-                &mut s.marks,
-                a,
-            );
+            let x = mark(value(&mut s.values, a, q.estimate), &mut s.marks, a);
             s.decision = operation::decision(s.decision, a, q.estimate);
             s.processes[p] = next::next(window, s.limit, q, leader, x);
             c = counts::counted(a, c);

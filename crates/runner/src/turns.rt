@@ -1,18 +1,18 @@
-// What one entry does to the seat that it names, as functions of that seat's record, the tally and one value read.
+// What one entry does to the process that it names, as functions of that process's record, the tally and one value read.
 ghost use mathlib.Core.Path.{_≡_};
 ghost use mathlib.Core.Bool.{_||_};
 ghost use lib.Dec.{leb};
 ghost use Rattle.model.specs.Refusal.{refusal};
-ghost use Rattle.runner.specs.Uniform.{seatOf, haltOf, stepOwn, ownRefusal, changesOf, changed, otherAccess};
+ghost use Rattle.runner.specs.Uniform.{processOf, haltOf, stepOwn, ownRefusal, changesOf, changed, otherAccess};
 use model::Access;
 use model::Counts;
 use model::Ending;
 use model::Entry;
 use model::Process;
 
-// The seat that the entry names.
-pub(crate) fn seat_of(e: Entry) -> usize
-    ensures { λ r. ⌜ r ≡ seatOf e ⌝ }
+// The process that the entry names.
+pub(crate) fn process_of(e: Entry) -> usize
+    ensures { λ r. ⌜ r ≡ processOf e ⌝ }
 {
     match e {
         Entry::Propose(p, _) => p,
@@ -23,7 +23,7 @@ pub(crate) fn seat_of(e: Entry) -> usize
     }
 }
 
-// Whether the entry of seat p is not tried: the budget has ended, or there is no such seat.
+// Whether the entry of process p is not tried: the budget has ended, or there is no such process.
 pub(crate) fn halts(budget: usize, k: usize, n: usize, p: usize) -> bool
     ensures { λ r. ⌜ r ≡ leb budget k || leb n p ⌝ }
 {
@@ -41,7 +41,7 @@ pub(crate) fn halt(budget: usize, k: usize) -> Ending
     }
 }
 
-// 01, "Numbers returned", work, after the seat's number.
+// 01, "Numbers returned", work, after the process's number.
 pub(crate) fn step_refusal(q: Process, c: Counts) -> u32
     ensures { λ r. ⌜ r ≡ refusal (stepOwn q c) ⌝ }
 {
@@ -63,7 +63,7 @@ pub(crate) fn refusal_of(q: Process, c: Counts, e: Entry) -> u32
     }
 }
 
-// Whether it changes the record of its seat: a look at a blank D does not. (A record that stays is not stored again.)
+// Whether it changes the record of its process: a look at a blank D does not. (A record that stays is not stored again.)
 pub(crate) fn changes(decision: u32, e: Entry) -> bool
     ensures { λ r. ⌜ r ≡ changesOf decision e ⌝ }
 {
@@ -76,7 +76,7 @@ pub(crate) fn changes(decision: u32, e: Entry) -> bool
     }
 }
 
-// 01, "One turn at a time", proposal, look and crash: what the seat becomes where it changes. (The answer for the two entries that change
+// 01, "One turn at a time", proposal, look and crash: what the process becomes where it changes. (The answer for the two entries that change
 // none here, a work turn and a malformed one, is not used.)
 pub(crate) fn becomes(q: Process, decision: u32, e: Entry) -> Process
     ensures { λ r. ⌜ r ≡ changed q decision e ⌝ }

@@ -10,33 +10,33 @@ use model::Process;
 use model::Session;
 
 // A record that is not out: it is a process', with "a value above 0 and a round of at most L".
-fn held(seated: bool, limit: usize, q: Process) -> bool
-    ensures { λ r. ⌜ r ≡ seated && ltb 0 (q .estimate) && leb (q .round) limit ⌝ }
+fn held(member: bool, limit: usize, q: Process) -> bool
+    ensures { λ r. ⌜ r ≡ member && ltb 0 (q .estimate) && leb (q .round) limit ⌝ }
 {
-    seated & (0 < q.estimate) & (q.round <= limit)
+    member & (0 < q.estimate) & (q.round <= limit)
 }
 
 // "Records from n on are out; out has round 0 and value 0, every other stance a value above 0 and a round of at most L", and the
 // clause of the phase.
-fn record_sound(window: usize, limit: usize, seated: bool, q: Process) -> bool
-    ensures { λ r. ⌜ r ≡ (seated || isOutside (standing (q .phase))) && soundProcess window limit q ⌝ }
+fn record_sound(window: usize, limit: usize, member: bool, q: Process) -> bool
+    ensures { λ r. ⌜ r ≡ (member || isOutside (standing (q .phase))) && soundProcess window limit q ⌝ }
 {
     let phase = q.phase;
     let round = q.round;
     match phase {
         Phase::Idle => (q.estimate == 0) & (round <= limit) & (round == 0),
-        Phase::Waiting => held(seated, limit, q),
-        Phase::Write => held(seated, limit, q) & (1 <= round),
-        Phase::Scan(k) => held(seated, limit, q) & (1 <= round) & (round < k) & (k <= limit),
-        Phase::Adopt(k) => held(seated, limit, q) & (1 <= round) & (round <= k) & (k <= limit),
-        Phase::Compare(i) => held(seated, limit, q) & (1 <= round) & (i < round) & (i < window),
-        Phase::Flag(i) => held(seated, limit, q) & (1 <= round) & (i < round) & (i < window),
-        Phase::CheckMark(i) => held(seated, limit, q) & (window <= round) & (i < window),
-        Phase::CheckValue(i) => held(seated, limit, q) & (window <= round) & (i < window),
-        Phase::Commit => held(seated, limit, q) & (window <= round),
-        Phase::Exhausted => held(seated, limit, q) & (round == limit),
-        Phase::Crashed => held(seated, limit, q),
-        Phase::Decided => held(seated, limit, q),
+        Phase::Waiting => held(member, limit, q),
+        Phase::Write => held(member, limit, q) & (1 <= round),
+        Phase::Scan(k) => held(member, limit, q) & (1 <= round) & (round < k) & (k <= limit),
+        Phase::Adopt(k) => held(member, limit, q) & (1 <= round) & (round <= k) & (k <= limit),
+        Phase::Compare(i) => held(member, limit, q) & (1 <= round) & (i < round) & (i < window),
+        Phase::Flag(i) => held(member, limit, q) & (1 <= round) & (i < round) & (i < window),
+        Phase::CheckMark(i) => held(member, limit, q) & (window <= round) & (i < window),
+        Phase::CheckValue(i) => held(member, limit, q) & (window <= round) & (i < window),
+        Phase::Commit => held(member, limit, q) & (window <= round),
+        Phase::Exhausted => held(member, limit, q) & (round == limit),
+        Phase::Crashed => held(member, limit, q),
+        Phase::Decided => held(member, limit, q),
     }
 }
 

@@ -47,12 +47,12 @@ loop-of c = c .before .before .before .before .before .before .before
 abbrev start-of : Here → tie.Start Inv-loop μ-loop
 start-of c = loop-of c .before .before .before
 
-abbrev seat-of : Here → ℕ
-seat-of c = c .before .before .seat-of .result
+abbrev process-of : Here → ℕ
+process-of c = c .before .before .process-of .result
 
 -- The entry that was handed out, and what it is.
 abbrev Handed-out : Type 0
-Handed-out = tie.After-seat-of Inv-loop μ-loop
+Handed-out = tie.After-process-of Inv-loop μ-loop
 
 abbrev entry-of : Handed-out → Entry
 entry-of c = c .before .before .e .given .0 .0
@@ -62,21 +62,21 @@ next-of : (c : Handed-out) →
     handed (l .before .before .before .args .schedule .now) (l .loop .place) ≡ Next (entry-of c)
 next-of c = sym (c .before .before .before .before .entry-at .ensures) ∙ c .before .before .e .given .1
 
--- There is budget left, and its seat is one of the n.
-due-of : (c : Here) → (loop-of c .loop .k < start-of c .args .budget) × (seat-of c < loop-of c .loop .s .n)
+-- There is budget left, and its process is one of the n.
+due-of : (c : Here) → (loop-of c .loop .k < start-of c .args .budget) × (process-of c < loop-of c .loop .s .n)
 due-of c = due (loop-of c .loop .inv) (next-of (c .before .before)) (sym (c .before .halts .ensures) ∙ c .if1 .left)
 
-low : (c : Here) → seat-of c < 64
+low : (c : Here) → process-of c < 64
 low c = row-low (loop-of c .loop .inv) (due-of c .1)
 
 -- A work turn.
 step-entered : (c : tie.After-step-refusal Inv-loop μ-loop) →
     let h = c .before .before .before .before .before in
-    Entered (loop-of h .loop .s) (loop-of h .loop .c) (entry-of (h .before .before)) (seat-of h) (c .step-refusal .result)
+    Entered (loop-of h .loop .s) (loop-of h .loop .c) (entry-of (h .before .before)) (process-of h) (c .step-refusal .result)
 step-entered c =
     let h = c .before .before .before .before .before in
     record {
-      seat = h .before .before .seat-of .ensures;
+      named = h .before .before .process-of .ensures;
       below = due-of h .1;
       code = c .step-refusal .ensures ∙ step-own _ _ (c .before .before .e2 .given .1);
     }
@@ -101,11 +101,11 @@ other-tag Malformed h = refl
 
 other-entered : (c : tie.After-refusal-of Inv-loop μ-loop) →
     let h = c .before .before .before in
-    Entered (loop-of h .loop .s) (loop-of h .loop .c) (entry-of (h .before .before)) (seat-of h) (c .refusal-of .result)
+    Entered (loop-of h .loop .s) (loop-of h .loop .c) (entry-of (h .before .before)) (process-of h) (c .refusal-of .result)
 other-entered c =
     let h = c .before .before .before in
     record {
-      seat = h .before .before .seat-of .ensures;
+      named = h .before .before .process-of .ensures;
       below = due-of h .1;
       code = c .refusal-of .ensures;
     }
@@ -127,7 +127,7 @@ returns c =
     let h = c .before .before .before in
     c .ran .ensures ∙ sym (ends (h .before .loop .inv) (sym (h .entry-at .ensures) ∙ c .before .enum-told .given .1))
 
--- Budget ended, or no such seat.
+-- Budget ended, or no such process.
 returns-2 : tie.Need-returns-2 Inv-loop μ-loop
 returns-2 c =
     let t = c .before .before in
@@ -135,7 +135,7 @@ returns-2 c =
     let l = h .before .before .before .before .before in
     c .ran2 .ensures
     ∙ rw (c .before .halt .ensures)
-    (sym (halted (l .loop .inv) (next-of h) (h .seat-of .ensures) (sym (t .before .halts .ensures) ∙ t .if1 .taken)))
+    (sym (halted (l .loop .inv) (next-of h) (h .process-of .ensures) (sym (t .before .halts .ensures) ∙ t .if1 .taken)))
 
 -- Refused.
 returns-3 : tie.Need-returns-3 Inv-loop μ-loop
@@ -183,7 +183,7 @@ loop-again c =
     (w .4 .left) in
     on f
     (w .14
-    ∙ step-leaves W (l .s) (seat-of h) _ (l .inv .opened .sound) told (f .seat) (w .5 .ensures) (w .7 .ensures .0) (w .9 .ensures .0)
+    ∙ step-leaves W (l .s) (process-of h) _ (l .inv .opened .sound) told (f .named) (w .5 .ensures) (w .7 .ensures .0) (w .9 .ensures .0)
     (w .7 .ensures .1) (w .9 .ensures .1) (w .10 .ensures) (w .11 .ensures))
     (w .13 ∙ tallied f (w .5 .ensures ∙ step-access _ _ told) (w .12 .ensures))
     (c .place-after .ensures))
@@ -194,10 +194,10 @@ loop-again c =
     on f
     (w .8
     ∙ ⊎-elim
-    (λ v. v .2 ∙ other-changes W (l .s) (seat-of h) e other (f .seat) (sym (w .3 .ensures) ∙ v .0 .taken) (v .1 .ensures))
-    (λ v. v .1 ∙ other-stays W (l .s) (l .c) (seat-of h) e other (sym (w .3 .ensures) ∙ v .0 .left) (sym (f .code)))
+    (λ v. v .2 ∙ other-changes W (l .s) (process-of h) e other (f .named) (sym (w .3 .ensures) ∙ v .0 .taken) (v .1 .ensures))
+    (λ v. v .1 ∙ other-stays W (l .s) (l .c) (process-of h) e other (sym (w .3 .ensures) ∙ v .0 .left) (sym (f .code)))
     (w .4 .came))
-    (w .7 ∙ tallied f (w .5 .ensures ∙ other-access (l .s .limit) (processAt (l .s) (seat-of h)) e other) (w .6 .ensures))
+    (w .7 ∙ tallied f (w .5 .ensures ∙ other-access (l .s .limit) (processAt (l .s) (process-of h)) e other) (w .6 .ensures))
     (c .place-after .ensures))
     (j .match2 .came)
 

@@ -32,26 +32,26 @@ arranged true e l p = refl
 arranged false e l p = refl
 
 -- The test of the record, by its phase and the clause that the phase has.
-module _ (W L : ℕ) (seated : Bool) (q : Process) where
+module _ (W L : ℕ) (member : Bool) (q : Process) where
   abbrev Tested : Bool
-  Tested = (seated || isOutside (standing (q .phase))) && soundProcess W L q
+  Tested = (member || isOutside (standing (q .phase))) && soundProcess W L q
 
   -- A process that has not proposed.
   out : {b : Bool} → q .phase ≡ Idle → b ≡ (eqb (q .estimate) 0 && leb (q .round) L && eqb (q .round) 0) → b ≡ Tested
   unfolding soundProcess soundPhase
-  out told p = rw (told, or-true seated) p
+  out told p = rw (told, or-true member) p
 
   -- Any other, by the number of tests that the clause of its phase has.
   module _ {φ : Phase} (told : q .phase ≡ φ) (ins : isOutside (standing φ) ≡ false) where
     abbrev held : Bool
-    held = seated && ltb 0 (q .estimate) && leb (q .round) L
+    held = member && ltb 0 (q .estimate) && leb (q .round) L
 
     abbrev clause : Bool
     clause = soundPhase W L (q .round) φ
 
     one : {a : Bool} → a ≡ clause → (held && a) ≡ Tested
     unfolding soundProcess
-    one p = rw (told, ins, p) (arranged seated _ _ _)
+    one p = rw (told, ins, p) (arranged member _ _ _)
 
     free : true ≡ clause → held ≡ Tested
     free p = sym (and-true held) ∙ one p
@@ -72,22 +72,22 @@ record-sound-spec =
     (λ c. search needs) (λ c κs. search needs) (λ c. search needs) (λ c κs. search needs) (λ c. search needs) (λ c κs. search needs)
     (λ c. search needs) (λ c κs. search needs) (λ c. search needs) (λ c κs. search needs) (λ c. search needs) (λ c κs. search needs)
     (λ c. search needs) (λ c κs. search needs) (λ c. search needs) (λ c κs. search needs) (λ c. search needs) (λ c κs. search needs)
-    (λ c. let a = c .before .before .before .args in out (a .window) (a .limit) (a .seated) (a .q) (c .before .enum-told .given .1) refl)
-    (λ c. let a = c .before .before .before .args in c .held .ensures ∙ free (a .window) (a .limit) (a .seated) (a .q) (c .before .enum-told2 .given .1) refl refl)
-    (λ c. let a = c .before .before .before .args in rw (c .held2 .ensures) (one (a .window) (a .limit) (a .seated) (a .q) (c .before .enum-told3 .given .1) refl refl))
+    (λ c. let a = c .before .before .before .args in out (a .window) (a .limit) (a .member) (a .q) (c .before .enum-told .given .1) refl)
+    (λ c. let a = c .before .before .before .args in c .held .ensures ∙ free (a .window) (a .limit) (a .member) (a .q) (c .before .enum-told2 .given .1) refl refl)
+    (λ c. let a = c .before .before .before .args in rw (c .held2 .ensures) (one (a .window) (a .limit) (a .member) (a .q) (c .before .enum-told3 .given .1) refl refl))
     (λ c. let a = c .before .before .before .before .args in
-    rw (c .held3 .ensures) (three (a .window) (a .limit) (a .seated) (a .q) (c .before .before .phase .given .1) refl _ _ _ refl))
+    rw (c .held3 .ensures) (three (a .window) (a .limit) (a .member) (a .q) (c .before .before .phase .given .1) refl _ _ _ refl))
     (λ c. let a = c .before .before .before .before .args in
-    rw (c .held4 .ensures) (three (a .window) (a .limit) (a .seated) (a .q) (c .before .before .phase2 .given .1) refl _ _ _ refl))
+    rw (c .held4 .ensures) (three (a .window) (a .limit) (a .member) (a .q) (c .before .before .phase2 .given .1) refl _ _ _ refl))
     (λ c. let a = c .before .before .before .before .args in
-    rw (c .held5 .ensures) (three (a .window) (a .limit) (a .seated) (a .q) (c .before .before .phase3 .given .1) refl _ _ _ (near (c .before .before .phase3 .given .0 .0) (a .q .round) (a .window))))
+    rw (c .held5 .ensures) (three (a .window) (a .limit) (a .member) (a .q) (c .before .before .phase3 .given .1) refl _ _ _ (near (c .before .before .phase3 .given .0 .0) (a .q .round) (a .window))))
     (λ c. let a = c .before .before .before .before .args in
-    rw (c .held6 .ensures) (three (a .window) (a .limit) (a .seated) (a .q) (c .before .before .phase4 .given .1) refl _ _ _ (near (c .before .before .phase4 .given .0 .0) (a .q .round) (a .window))))
+    rw (c .held6 .ensures) (three (a .window) (a .limit) (a .member) (a .q) (c .before .before .phase4 .given .1) refl _ _ _ (near (c .before .before .phase4 .given .0 .0) (a .q .round) (a .window))))
     (λ c. let a = c .before .before .before .before .args in
-    rw (c .held7 .ensures) (two (a .window) (a .limit) (a .seated) (a .q) (c .before .before .phase5 .given .1) refl _ _ refl))
+    rw (c .held7 .ensures) (two (a .window) (a .limit) (a .member) (a .q) (c .before .before .phase5 .given .1) refl _ _ refl))
     (λ c. let a = c .before .before .before .before .args in
-    rw (c .held8 .ensures) (two (a .window) (a .limit) (a .seated) (a .q) (c .before .before .phase6 .given .1) refl _ _ refl))
-    (λ c. let a = c .before .before .before .args in rw (c .held9 .ensures) (one (a .window) (a .limit) (a .seated) (a .q) (c .before .enum-told4 .given .1) refl refl))
-    (λ c. let a = c .before .before .before .args in rw (c .held10 .ensures) (one (a .window) (a .limit) (a .seated) (a .q) (c .before .enum-told5 .given .1) refl refl))
-    (λ c. let a = c .before .before .before .args in c .held11 .ensures ∙ free (a .window) (a .limit) (a .seated) (a .q) (c .before .enum-told6 .given .1) refl refl)
-    (λ c. let a = c .before .before .before .args in c .held12 .ensures ∙ free (a .window) (a .limit) (a .seated) (a .q) (c .before .enum-told7 .given .1) refl refl))
+    rw (c .held8 .ensures) (two (a .window) (a .limit) (a .member) (a .q) (c .before .before .phase6 .given .1) refl _ _ refl))
+    (λ c. let a = c .before .before .before .args in rw (c .held9 .ensures) (one (a .window) (a .limit) (a .member) (a .q) (c .before .enum-told4 .given .1) refl refl))
+    (λ c. let a = c .before .before .before .args in rw (c .held10 .ensures) (one (a .window) (a .limit) (a .member) (a .q) (c .before .enum-told5 .given .1) refl refl))
+    (λ c. let a = c .before .before .before .args in c .held11 .ensures ∙ free (a .window) (a .limit) (a .member) (a .q) (c .before .enum-told6 .given .1) refl refl)
+    (λ c. let a = c .before .before .before .args in c .held12 .ensures ∙ free (a .window) (a .limit) (a .member) (a .q) (c .before .enum-told7 .given .1) refl refl))
