@@ -1,4 +1,4 @@
-// The C entry (01, "Turn sheets", last paragraph): a schedule, a budget and a buffer of exactly 256 bytes. include/janus.h
+// The C entry (01, "Turn sheets", last paragraph): a sheet, a budget and a buffer of exactly 256 bytes. include/janus.h
 // declares it.
 ghost use mathlib.Core.Path.{_≡_};
 ghost use Prim.Native.Nat.{_+_, _≤_};
@@ -38,17 +38,17 @@ fn put_decided(s: Session, buffer: &mut [u8])
     }
 }
 
-// Runs a schedule. 15 is tested first; then 0 for finished, 100 for budget ended, or the refusal's number. Where no session was made the buffer is
+// Runs a sheet. 15 is tested first; then 0 for finished, 100 for budget ended, or the refusal's number. Where no session was made the buffer is
 // as it was.
 #[no_mangle]
-pub extern "C" fn janus_run(schedule: &[u8], budget: usize, buffer: &mut [u8]) -> u32
-    ensures code { λ r. ⌜ r ≡ exportCode (now (schedule .entry)) budget (now (buffer .entry)) ⌝ }
-    ensures writes { λ _. ⌜ now (buffer .exit) ≡ exportBuffer (now (schedule .entry)) budget (now (buffer .entry)) ⌝ }
+pub extern "C" fn janus_run(sheet: &[u8], budget: usize, buffer: &mut [u8]) -> u32
+    ensures code { λ r. ⌜ r ≡ exportCode (now (sheet .entry)) budget (now (buffer .entry)) ⌝ }
+    ensures writes { λ _. ⌜ now (buffer .exit) ≡ exportBuffer (now (sheet .entry)) budget (now (buffer .entry)) ⌝ }
 {
     if buffer.len() != 256 {
         return 15;
     }
-    let ran = runner::run(schedule, budget);
+    let ran = sheet_run::run(sheet, budget);
     let ending = ran.ending;
     let code = match ending {
         Ending::Finished => 0,

@@ -1,10 +1,14 @@
 -- Document 01, "The board and the seats": the registers, the processes, and a session just opened.
-use Prim.Native.Nat.{ℕ, _-_}
-use mathlib.Core.Bool.{Bool, true, false}
+use Prim.Native.Nat.{ℕ, suc, _-_}
+use mathlib.Core.Bool.{Bool, true, false, cond}
+use mathlib.Core.List.{List, [], _∷_}
 use lib.ListN.{getD, set, replicate}
+use lib.Dec.{eqb}
 use Rattle.model.specs.declared.Phase.the-variants.{Idle}
 use Rattle.model.specs.declared.Process.{Process}
 use Rattle.model.specs.declared.Session.{Session}
+use Rattle.model.specs.declared.Counts.{Counts}
+use Rattle.model.specs.declared.Limits.{Limits}
 
 -- "Seats n: 1 to 64." The most processes that a session holds.
 abbrev pub maxProcesses : ℕ
@@ -13,6 +17,12 @@ maxProcesses = 64
 -- "Round limit L: W to 256." The most rounds that a session holds.
 abbrev pub maxRounds : ℕ
 maxRounds = 256
+
+-- Those are the limits of the server's callers.
+abbrev pub serverLimits : Limits
+serverLimits = record { processes = maxProcesses; rounds = maxRounds }
+
+-- ---- what a session holds
 
 -- "A value register T[r]", r from 1; 0 is blank.
 abbrev pub valueAt : Session → ℕ → ℕ
@@ -30,17 +40,15 @@ idle = record { phase = Idle; round = 0; estimate = 0 }
 abbrev pub processAt : Session → ℕ → Process
 processAt s p = getD (s .processes) p idle
 
--- The session with another record for process p, all else as it was.
-abbrev pub withProcess : Session → ℕ → Process → Session
-withProcess s p q =
-    record {
-      n = s .n;
-      limit = s .limit;
-      values = s .values;
-      marks = s .marks;
-      decision = s .decision;
-      processes = set (s .processes) p q;
-    }
+-- The highest filled round, 0 for none: of the registers from round r + 1 on, where the highest so far is `top`.
+abbrev pub highestFrom : (top r : ℕ) → List ℕ → ℕ
+highestFrom top r [] = top
+highestFrom top r (x ∷ xs) = highestFrom (cond (eqb x 0) top (suc r)) (suc r) xs
+
+abbrev pub highestFilled : Session → ℕ
+highestFilled s = highestFrom 0 0 (s .values)
+
+-- ---- sessions
 
 -- A session just opened: all registers blank, all rounds unmarked, no process has proposed.
 unfoldable pub opened : ℕ → ℕ → Session
@@ -53,3 +61,35 @@ opened n limit =
       decision = 0;
       processes = replicate maxProcesses idle;
     }
+
+-- The session with other registers and records, all else as it was.
+abbrev pub with : Session → (values : List ℕ) (marks : List Bool) (decision : ℕ) (processes : List Process) → Session
+with s values marks decision processes =
+    record {
+      n = s .n;
+      limit = s .limit;
+      values = values;
+      marks = marks;
+      decision = decision;
+      processes = processes;
+    }
+
+-- With one of them alone.
+abbrev pub withValues : Session → List ℕ → Session
+withValues s values = with s values (s .marks) (s .decision) (s .processes)
+
+abbrev pub withMarks : Session → List Bool → Session
+withMarks s marks = with s (s .values) marks (s .decision) (s .processes)
+
+abbrev pub withDecision : Session → ℕ → Session
+withDecision s decision = with s (s .values) (s .marks) decision (s .processes)
+
+-- With another record for process p.
+abbrev pub withProcess : Session → ℕ → Process → Session
+withProcess s p q = with s (s .values) (s .marks) (s .decision) (set (s .processes) p q)
+
+-- ---- the counts
+
+-- An empty tally.
+abbrev pub noCounts : Counts
+noCounts = record { reads = 0; writes = 0; contested = 0 }

@@ -1,5 +1,5 @@
--- Document 01, "Turn sheets", last paragraph: what the clinic server, written in C, gets for a schedule, a budget and a buffer.
-use Prim.Native.Nat.{ℕ, suc, zero, _/_, _%_}
+-- Document 01, "Turn sheets", last paragraph: what the clinic server, written in C, gets for a sheet, a budget and a buffer.
+use Prim.Native.Nat.{ℕ}
 use mathlib.Core.Bool.{Bool, true, false, cond}
 use mathlib.Core.List.{List, [], _∷_, _++_}
 use lib.ListN.{length}
@@ -11,6 +11,7 @@ use Rattle.model.specs.declared.Process.{Process}
 use Rattle.model.specs.declared.Ending.{Ending}
 use Rattle.model.specs.declared.Ending.the-variants.{Finished, Refused, BudgetEnded, Rejected}
 use Rattle.model.specs.declared.Ran.{Ran}
+use Rattle.model.specs.Bytes.{bytes32}
 use Rattle.model.specs.Runner.{run}
 
 -- A process' decided value, "or 0 where there is none".
@@ -28,10 +29,6 @@ decidedValue Commit e = 0
 decidedValue Exhausted e = 0
 decidedValue Crashed e = 0
 decidedValue Decided e = e
-
--- A 32-bit number, little-endian.
-abbrev pub bytes32 : ℕ → List ℕ
-bytes32 v = v % 256 ∷ v / 256 % 256 ∷ v / 65536 % 256 ∷ v / 16777216 % 256 ∷ []
 
 -- "For s from 0 to 63, bytes 4s to 4s + 3 hold seat s's decided value."
 abbrev pub decidedBytes : List Process → List ℕ
@@ -53,8 +50,8 @@ endingBuffer BudgetEnded qs b = decidedBytes qs
 endingBuffer (Rejected k) qs b = b
 
 -- "A buffer of exactly 256 bytes .. 15 is tested first."
-unfoldable pub exportCode : (schedule : List ℕ) (budget : ℕ) (buffer : List ℕ) → ℕ
+unfoldable pub exportCode : (sheet : List ℕ) (budget : ℕ) (buffer : List ℕ) → ℕ
 exportCode s budget b = cond (eqb (length b) 256) (endingCode (run s budget .ending)) 15
 
-unfoldable pub exportBuffer : (schedule : List ℕ) (budget : ℕ) (buffer : List ℕ) → List ℕ
+unfoldable pub exportBuffer : (sheet : List ℕ) (budget : ℕ) (buffer : List ℕ) → List ℕ
 exportBuffer s budget b = cond (eqb (length b) 256) (endingBuffer (run s budget .ending) (run s budget .session .processes) b) b

@@ -7,7 +7,7 @@ pub mod Machine
 pub mod Sound
 pub mod Public
 pub mod ReadOut
-pub mod Schedule
+pub mod Bytes
+pub mod Sheet
 pub mod Runner
 pub mod Export
-pub mod Report

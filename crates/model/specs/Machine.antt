@@ -1,53 +1,68 @@
 -- The Janus machine (document 01, "One turn at a time" and "The agreement rule"): it is fed operations and never a
 -- session. A call that the table refuses leaves it as it is. Its states are sessions; it tests none for soundness.
 use Prim.Native.Nat.{ℕ}
-use mathlib.Core.Bool.{Bool}
+use mathlib.Core.List.{List}
 use Rattle.model.specs.declared.Phase.the-variants.{Waiting, Crashed}
-use Rattle.model.specs.declared.Access.the-variants.{ReadDecision}
+use Rattle.model.specs.declared.Access.{Access}
+use Rattle.model.specs.declared.Access.the-variants.{Nothing, ReadDecision}
 use Rattle.model.specs.declared.Process.{Process}
 use Rattle.model.specs.declared.Session.{Session}
 use Rattle.model.specs.declared.Counts.{Counts}
+use Rattle.model.specs.declared.Limits.{Limits}
+use Rattle.model.specs.declared.Operation.{Operation}
+use Rattle.model.specs.declared.Operation.the-variants.{Propose, Step, Learn, Crash, Malformed}
 use Rattle.model.specs.declared.Changed.{Changed}
 use Rattle.model.specs.declared.Stepped.{Stepped}
-use Rattle.model.specs.Window.{window}
-use Rattle.model.specs.Board.{processAt, withProcess, opened, maxProcesses, maxRounds}
+use Rattle.model.specs.Board.{processAt, opened, serverLimits}
 use Rattle.model.specs.Step.{access, next, learnt, turn, counted, process}
-use Rattle.model.specs.Refusal.{refusal, openTests, proposeTests, stepTests, learnTests, crashTests, changed, stepped}
+use Rattle.model.specs.Refusal.{Test, refusal, openTests, processOf, tests, changed, stepped}
 
--- Opening within the given limits. Refused, no session is made: the answer holds the session of no process and no round,
+-- ---- opening
+
+-- Opening within a caller's limits. Refused, no session is made: the answer holds the session of no process and no round,
 -- which is not sound.
-unfoldable pub openWithin : (mostN mostL n L : ℕ) → Changed
-openWithin mostN mostL n L = changed (refusal (openTests mostN mostL n L)) (opened 0 0) (opened n L)
+unfoldable pub openWithin : Limits → (n L : ℕ) → Changed
+openWithin most n L = changed (refusal (openTests most n L)) (opened 0 0) (opened n L)
 
 unfoldable pub opening : (n L : ℕ) → Changed
-opening n L = openWithin maxProcesses maxRounds n L
+opening n L = openWithin serverLimits n L
 
--- "A proposal moves a seat from out to gate with own value v."
-unfoldable pub proposed : Session → (p v : ℕ) → Session
-proposed s p v = withProcess s p (process Waiting (processAt s p .round) v)
+-- ---- one operation: what it accesses, and what its process becomes
 
-unfoldable pub propose : Session → (p v : ℕ) → Changed
-propose s p v = changed (refusal (proposeTests s p v)) s (proposed s p v)
+-- The one register operation, by the record q of the process: a proposal and a crash have none; a work turn as its phase says; "a look
+-- reads D".
+unfoldable pub accessOf : (limit : ℕ) → Process → Operation → Access
+accessOf L q (Propose p v) = Nothing
+accessOf L q (Step p leader) = access L q leader
+accessOf L q (Learn p) = ReadDecision
+accessOf L q (Crash p) = Nothing
+accessOf L q Malformed = Nothing
 
--- A work turn, at window W.
-unfoldable pub worked : (W : ℕ) → Session → (p : ℕ) → (leader : Bool) → Session
-worked W s p leader = turn s p (access (s .limit) (processAt s p) leader) (next W (s .limit) (processAt s p) leader)
+-- What the process becomes by the value x that was read, at window W: "a proposal moves a seat from out to gate with own value v"; a work
+-- turn and a look as `Step` has them; "a crash moves a working or spent seat to crashed; round and own value remain".
+unfoldable pub becomes : (W L : ℕ) → Process → Operation → (x : ℕ) → Process
+becomes W L q (Propose p v) x = process Waiting (q .round) v
+becomes W L q (Step p leader) x = next W L q leader x
+becomes W L q (Learn p) x = learnt q x
+becomes W L q (Crash p) x = process Crashed (q .round) (q .estimate)
+becomes W L q Malformed x = q
 
-unfoldable pub step : Session → (p : ℕ) → (leader : Bool) → Counts → Stepped
-step s p leader c =
-    stepped (refusal (stepTests s p c)) s (worked (window (s .n)) s p leader) c
-    (counted (access (s .limit) (processAt s p) leader) c)
+-- ---- the machine
 
--- A look.
-unfoldable pub looked : Session → (p : ℕ) → Session
-looked s p = turn s p ReadDecision (learnt (processAt s p))
+-- The session after an accepted operation.
+unfoldable pub after : (W : ℕ) → Session → Operation → Session
+after W s o =
+    let q = processAt s (processOf o) in
+    turn s (processOf o) (accessOf (s .limit) q o) (becomes W (s .limit) q o)
 
-unfoldable pub learn : Session → (p : ℕ) → Counts → Stepped
-learn s p c = stepped (refusal (learnTests s p c)) s (looked s p) c (counted ReadDecision c)
+-- The counts after it.
+unfoldable pub countsAfter : Session → Counts → Operation → Counts
+countsAfter s c o = counted (accessOf (s .limit) (processAt s (processOf o)) o) c
 
--- "A crash moves a working or spent seat to crashed; round and own value remain."
-unfoldable pub crashed : Session → (p : ℕ) → Session
-crashed s p = withProcess s p (process Crashed (processAt s p .round) (processAt s p .estimate))
+-- An operation that brings the counts c, after the given tests: the number, the session and the counts.
+unfoldable pub answered : List Test → (W : ℕ) → Session → Counts → Operation → Stepped
+answered ts W s c o = stepped (refusal ts) s (after W s o) c (countsAfter s c o)
 
-unfoldable pub crash : Session → (p : ℕ) → Changed
-crash s p = changed (refusal (crashTests s p)) s (crashed s p)
+-- What the machine at window W answers.
+unfoldable pub perform : (W : ℕ) → Session → Counts → Operation → Stepped
+perform W s c o = answered (tests s c o) W s c o

@@ -1,38 +1,45 @@
--- The public operations on any session at all, damaged ones included: 3 where the session is not sound, and otherwise what
--- the machine gives. (Opening takes no session: `Machine.opening`.)
+-- The public operations on any session at all, damaged ones included: the machine at the session's window, with one test more.
+-- (Opening takes no session: `Machine.opening`.)
 use Prim.Native.Nat.{ℕ}
-use mathlib.Core.Bool.{Bool, cond}
+use mathlib.Core.Bool.{Bool, not}
+use mathlib.Core.List.{_∷_}
 use Rattle.model.specs.declared.Session.{Session}
 use Rattle.model.specs.declared.Counts.{Counts}
+use Rattle.model.specs.declared.Operation.{Operation}
+use Rattle.model.specs.declared.Operation.the-variants.{Propose, Step, Learn, Crash, Malformed}
 use Rattle.model.specs.declared.Changed.{Changed}
 use Rattle.model.specs.declared.Stepped.{Stepped}
+use Rattle.model.specs.Window.{window}
+use Rattle.model.specs.Board.{noCounts}
+use Rattle.model.specs.Refusal.{tests}
+use Rattle.model.specs.Machine.{answered}
 use Rattle.model.specs.Sound.{sound}
-use Rattle.model.specs.Machine
 
--- "3: session not sound. Session, tally, buffer unchanged."
-unfoldable pub ifSound : Session → Changed → Changed
-ifSound s answer = cond (sound s) answer (record { code = 3; session = s })
-
-unfoldable pub ifSoundCounted : Session → Counts → Stepped → Stepped
-ifSoundCounted s c answer = cond (sound s) answer (record { code = 3; session = s; counts = c })
+-- "3: session not sound", tested first; "session, tally, buffer unchanged".
+unfoldable pub operate : Session → Counts → Operation → Stepped
+operate s c o = answered ((not (sound s), 3) ∷ tests s c o) (window (s .n)) s c o
 
 -- An answer with the counts that the caller lent, as they stand at the end: "the caller lends its tally, which a turn updates where
 -- it stands".
 abbrev pub withCounts : Changed → Counts → Stepped
 withCounts a c = record { code = a .code; session = a .session; counts = c }
 
+-- And without them: proposals and crashes count nothing, and are lent none.
+abbrev pub withoutCounts : Stepped → Changed
+withoutCounts a = record { code = a .code; session = a .session }
+
 -- "Proposal 3, 4, 5, 6."
 unfoldable pub propose : Session → (p v : ℕ) → Changed
-propose s p v = ifSound s (Machine.propose s p v)
+propose s p v = withoutCounts (operate s noCounts (Propose p v))
 
 -- "Work 3, 4, 7, 8, 9, 16."
 unfoldable pub step : Session → (p : ℕ) → (leader : Bool) → Counts → Stepped
-step s p leader c = ifSoundCounted s c (Machine.step s p leader c)
+step s p leader c = operate s c (Step p leader)
 
 -- "Look 3, 4, 7, 8, 16."
 unfoldable pub learn : Session → (p : ℕ) → Counts → Stepped
-learn s p c = ifSoundCounted s c (Machine.learn s p c)
+learn s p c = operate s c (Learn p)
 
 -- "Crash 3, 4, 7, 8."
 unfoldable pub crash : Session → (p : ℕ) → Changed
-crash s p = ifSound s (Machine.crash s p)
+crash s p = withoutCounts (operate s noCounts (Crash p))

@@ -6,10 +6,13 @@ use lib.Dec.{leb, ltb, eqb}
 use Rattle.model.specs.declared.Phase.{Phase}
 use Rattle.model.specs.declared.Phase.the-variants.{Idle, Waiting, Write, Scan, Adopt, Compare, Flag, CheckMark}
 use Rattle.model.specs.declared.Phase.the-variants.{CheckValue, Commit, Exhausted, Crashed, Decided}
-use Rattle.model.specs.declared.Standing.{Standing}
-use Rattle.model.specs.declared.Standing.the-variants.{Outside, Active, Spent, Gone}
+use Rattle.model.specs.declared.Status.{Status}
+use Rattle.model.specs.declared.Status.the-variants.{Outside, Active, Spent, Gone}
 use Rattle.model.specs.declared.Session.{Session}
 use Rattle.model.specs.declared.Counts.{Counts}
+use Rattle.model.specs.declared.Limits.{Limits}
+use Rattle.model.specs.declared.Operation.{Operation}
+use Rattle.model.specs.declared.Operation.the-variants.{Propose, Step, Learn, Crash, Malformed}
 use Rattle.model.specs.declared.Changed.{Changed}
 use Rattle.model.specs.declared.Stepped.{Stepped}
 use Rattle.model.specs.Window.{window}
@@ -27,41 +30,38 @@ refusal (t ∷ ts) = cond (t .0) (t .1) (refusal ts)
 -- ---- the situations of a process
 
 -- "Seat out"; working, "gate to commit"; "seat spent"; "seat crashed or decided".
-abbrev pub standing : Phase → Standing
-standing Idle = Outside
-standing Waiting = Active
-standing Write = Active
-standing (Scan k) = Active
-standing (Adopt k) = Active
-standing (Compare i) = Active
-standing (Flag i) = Active
-standing (CheckMark i) = Active
-standing (CheckValue i) = Active
-standing Commit = Active
-standing Exhausted = Spent
-standing Crashed = Gone
-standing Decided = Gone
+abbrev pub status : Phase → Status
+status Idle = Outside
+status Waiting = Active
+status Write = Active
+status (Scan k) = Active
+status (Adopt k) = Active
+status (Compare i) = Active
+status (Flag i) = Active
+status (CheckMark i) = Active
+status (CheckValue i) = Active
+status Commit = Active
+status Exhausted = Spent
+status Crashed = Gone
+status Decided = Gone
 
-abbrev pub isOutside : Standing → Bool
+abbrev pub isOutside : Status → Bool
 isOutside Outside = true
 isOutside Active = false
 isOutside Spent = false
 isOutside Gone = false
 
-abbrev pub isSpent : Standing → Bool
+abbrev pub isSpent : Status → Bool
 isSpent Outside = false
 isSpent Active = false
 isSpent Spent = true
 isSpent Gone = false
 
-abbrev pub isGone : Standing → Bool
+abbrev pub isGone : Status → Bool
 isGone Outside = false
 isGone Active = false
 isGone Spent = false
 isGone Gone = true
-
-abbrev pub standingAt : Session → (p : ℕ) → Standing
-standingAt s p = standing (processAt s p .phase)
 
 -- The largest count, 2 ^ 32 - 1.
 abbrev pub maxCount : ℕ
@@ -73,33 +73,53 @@ full c = leb maxCount (c .reads) || leb maxCount (c .writes) || leb maxCount (c 
 
 -- ---- the tests of each operation, in their order
 
--- Opening with n processes and round limit L, at most mostN and mostL of them: 1, 2.
-abbrev pub openTests : (mostN mostL n L : ℕ) → List Test
-openTests mostN mostL n L =
-    (not (leb 1 n && leb n mostN), 1) ∷ (not (leb (window n) L && leb L mostL), 2) ∷ []
+-- Opening with n processes and round limit L, within a caller's limits: 1, 2.
+abbrev pub openTests : Limits → (n L : ℕ) → List Test
+openTests most n L =
+    (not (leb 1 n && leb n (most .processes)), 1) ∷ (not (leb (window n) L && leb L (most .rounds)), 2) ∷ []
 
--- Proposal: 4, 5, 6. (Each operation's 3, session not sound, comes first: `Public`.)
-abbrev pub proposeTests : Session → (p v : ℕ) → List Test
-proposeTests s p v = (leb (s .n) p, 4) ∷ (eqb v 0, 5) ∷ (not (isOutside (standingAt s p)), 6) ∷ []
+-- The operations' tests after 3 (session not sound: `Public`) and 4, by the phase of the process. Proposal: 5, 6.
+abbrev pub proposeTests : Phase → (v : ℕ) → List Test
+proposeTests φ v = (eqb v 0, 5) ∷ (not (isOutside (status φ)), 6) ∷ []
 
--- Crash: 4, 7, 8.
-abbrev pub crashTests : Session → (p : ℕ) → List Test
-crashTests s p = (leb (s .n) p, 4) ∷ (isOutside (standingAt s p), 7) ∷ (isGone (standingAt s p), 8) ∷ []
+-- Work: 7, 8, 9, 16.
+abbrev pub stepTests : Phase → Counts → List Test
+stepTests φ c = (isOutside (status φ), 7) ∷ (isGone (status φ), 8) ∷ (isSpent (status φ), 9) ∷ (full c, 16) ∷ []
 
--- Look: 4, 7, 8, 16.
-abbrev pub learnTests : Session → (p : ℕ) → Counts → List Test
-learnTests s p c =
-    (leb (s .n) p, 4) ∷ (isOutside (standingAt s p), 7) ∷ (isGone (standingAt s p), 8) ∷ (full c, 16) ∷ []
+-- Look: 7, 8, 16.
+abbrev pub learnTests : Phase → Counts → List Test
+learnTests φ c = (isOutside (status φ), 7) ∷ (isGone (status φ), 8) ∷ (full c, 16) ∷ []
 
--- Work: 4, 7, 8, 9, 16.
-abbrev pub stepTests : Session → (p : ℕ) → Counts → List Test
-stepTests s p c =
-    (leb (s .n) p, 4)
-    ∷ (isOutside (standingAt s p), 7)
-    ∷ (isGone (standingAt s p), 8)
-    ∷ (isSpent (standingAt s p), 9)
-    ∷ (full c, 16)
-    ∷ []
+-- Crash: 7, 8.
+abbrev pub crashTests : Phase → List Test
+crashTests φ = (isOutside (status φ), 7) ∷ (isGone (status φ), 8) ∷ []
+
+abbrev pub ownTests : Phase → Counts → Operation → List Test
+ownTests φ c (Propose p v) = proposeTests φ v
+ownTests φ c (Step p leader) = stepTests φ c
+ownTests φ c (Learn p) = learnTests φ c
+ownTests φ c (Crash p) = crashTests φ
+ownTests φ c Malformed = []
+
+-- The process that an operation names; 0 where it names none.
+abbrev pub processOf : Operation → ℕ
+processOf (Propose p v) = p
+processOf (Step p leader) = p
+processOf (Learn p) = p
+processOf (Crash p) = p
+processOf Malformed = 0
+
+abbrev pub isMalformed : Operation → Bool
+isMalformed (Propose p v) = false
+isMalformed (Step p leader) = false
+isMalformed (Learn p) = false
+isMalformed (Crash p) = false
+isMalformed Malformed = true
+
+-- "Each entry 13 first, then its operation's own order": 13, 4, then its own.
+abbrev pub tests : Session → Counts → Operation → List Test
+tests s c o =
+    (isMalformed o, 13) ∷ (leb (s .n) (processOf o), 4) ∷ ownTests (processAt s (processOf o) .phase) c o
 
 -- ---- the answers
 

@@ -11,7 +11,7 @@ use Rattle.model.specs.declared.Process.{Process}
 use Rattle.model.specs.declared.Session.{Session}
 use Rattle.model.specs.Window.{window}
 use Rattle.model.specs.Board.{maxProcesses, maxRounds}
-use Rattle.model.specs.Refusal.{standing, isOutside}
+use Rattle.model.specs.Refusal.{status, isOutside}
 
 -- Whether a test holds of every element.
 abbrev pub every : {A : Type 0} → (A → Bool) → List A → Bool
@@ -38,7 +38,7 @@ soundPhase W L r Decided = true
 -- "Out has .. value 0, every other stance a value above 0 and a round of at most L", and the phase's own clause.
 unfoldable pub soundProcess : (W L : ℕ) → Process → Bool
 soundProcess W L q =
-    cond (isOutside (standing (q .phase))) (eqb (q .estimate) 0) (ltb 0 (q .estimate))
+    cond (isOutside (status (q .phase))) (eqb (q .estimate) 0) (ltb 0 (q .estimate))
     && leb (q .round) L
     && soundPhase W L (q .round) (q .phase)
 
@@ -50,7 +50,7 @@ soundAt W s =
     && (leb W (s .limit) && leb (s .limit) maxRounds)
     && every (λ x. eqb x 0) (drop (s .limit) (s .values))
     && every not (drop (s .limit) (s .marks))
-    && every (λ q. isOutside (standing (q .phase))) (drop (s .n) (s .processes))
+    && every (λ q. isOutside (status (q .phase))) (drop (s .n) (s .processes))
     && every (soundProcess W (s .limit)) (s .processes)
 
 unfoldable pub sound : Session → Bool

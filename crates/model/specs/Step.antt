@@ -14,7 +14,7 @@ use Rattle.model.specs.declared.Access.the-variants.{ReadDecision, Write
 use Rattle.model.specs.declared.Process.{Process}
 use Rattle.model.specs.declared.Session.{Session}
 use Rattle.model.specs.declared.Counts.{Counts}
-use Rattle.model.specs.Board.{valueAt, markAt, processAt, withProcess}
+use Rattle.model.specs.Board.{valueAt, markAt, processAt, withValues, withMarks, withDecision, withProcess}
 
 -- ---- which register
 
@@ -107,35 +107,11 @@ learnt q x = cond (eqb x 0) q (process Decided (q .round) x)
 unfoldable pub written : Session → Access → (estimate : ℕ) → Session
 written s Nothing e = s
 written s (ReadValue r) e = s
-written s (WriteValue r) e =
-    record {
-      n = s .n;
-      limit = s .limit;
-      values = set (s .values) (r - 1) e;
-      marks = s .marks;
-      decision = s .decision;
-      processes = s .processes;
-    }
+written s (WriteValue r) e = withValues s (set (s .values) (r - 1) e)
 written s (ReadMark r) e = s
-written s (SetMark r) e =
-    record {
-      n = s .n;
-      limit = s .limit;
-      values = s .values;
-      marks = set (s .marks) (r - 1) true;
-      decision = s .decision;
-      processes = s .processes;
-    }
+written s (SetMark r) e = withMarks s (set (s .marks) (r - 1) true)
 written s ReadDecision e = s
-written s WriteDecision e =
-    record {
-      n = s .n;
-      limit = s .limit;
-      values = s .values;
-      marks = s .marks;
-      decision = e;
-      processes = s .processes;
-    }
+written s WriteDecision e = withDecision s e
 
 -- ---- the turn
 

@@ -19,7 +19,7 @@ pub enum Phase {
 }
 
 // What the refusals know of a phase: not yet proposed (01: out), working (01: gate to commit), spent, crashed or decided.
-pub enum Standing {
+pub enum Status {
     Outside,
     Active,
     Spent,
@@ -62,6 +62,22 @@ pub enum Access {
     WriteDecision,
 }
 
+// One operation with its process, number or hint (01: a proposal, a work turn, a look, a crash). An entry of a sheet that is none of
+// them is malformed; no function carries it out.
+pub enum Operation {
+    Propose(usize, u32),
+    Step(usize, bool),
+    Learn(usize),
+    Crash(usize),
+    Malformed,
+}
+
+// The most processes and rounds that a caller's sessions may have.
+pub struct Limits {
+    pub processes: u8,
+    pub rounds: u16,
+}
+
 // The answer of an operation that changes a session: 0 and the session after it, or the refusal's number (01, "Numbers
 // returned") and the session as it was.
 pub struct Changed {
@@ -98,17 +114,8 @@ pub struct CountAnswer {
     pub count: usize,
 }
 
-// An entry of a schedule (01: of a turn sheet), taken apart: the operation with its process, number or hint.
-pub enum Entry {
-    Propose(usize, u32),
-    Step(usize, bool),
-    Learn(usize),
-    Crash(usize),
-    Malformed,
-}
-
-// How a run of a schedule ended (01: finished; the refusal and the entry's index; budget ended), or the refusal of the
-// schedule itself, in which case no session was made.
+// How a run of a sheet ended (01: finished; the refusal and the entry's index; budget ended), or the refusal of the
+// sheet itself, in which case no session was made.
 pub enum Ending {
     Finished,
     Refused(u32, usize),
@@ -116,7 +123,7 @@ pub enum Ending {
     Rejected(u32),
 }
 
-// What a run of a schedule gives: how many entries were carried out, the session and the counts after them, and the ending.
+// What a run of a sheet gives: how many entries were carried out, the session and the counts after them, and the ending.
 pub struct Ran {
     pub carried: usize,
     pub session: Session,

@@ -1,0 +1,27 @@
+-- Tests joined by `&&`, and choices by a test.
+use mathlib.Core.Path.{_≡_, refl, ap₂}
+use mathlib.Core.Bool.{Bool, true, false, cond, _&&_}
+
+-- The first of two tests that hold together.
+pub and-left : (a b : Bool) → (a && b) ≡ true → a ≡ true
+and-left true b h = refl
+and-left false b h = h
+
+-- The second of them.
+pub and-right : (a b : Bool) → (a && b) ≡ true → b ≡ true
+and-right true b h = h
+and-right false b h = let z : true ≡ false = cc in cc
+
+-- Two tests that hold hold together.
+pub and-both : {a b : Bool} → a ≡ true → b ≡ true → (a && b) ≡ true
+and-both p q = ap₂ _&&_ p q
+
+-- What holds of both of two choices, where it is known which, holds of the choice.
+pub cond-cases : {A : Type 0} (P : A → Type 0) (t : Bool) {a b : A} → (t ≡ true → P a) → (t ≡ false → P b) → P (cond t a b)
+cond-cases P true p q = p refl
+cond-cases P false p q = q refl
+
+-- A choice between two that are the same.
+pub cond-same : {A : Type 0} (t : Bool) (x : A) → cond t x x ≡ x
+cond-same true x = refl
+cond-same false x = refl

@@ -1,2 +1,0 @@
--- Entries past the end of a schedule.
-pub mod Past

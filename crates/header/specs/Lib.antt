@@ -1,2 +1,0 @@
--- The refusal of a schedule, part by part.
-pub mod Parts

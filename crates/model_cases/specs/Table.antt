@@ -1,0 +1,86 @@
+-- Document 01, "Paper cases": the starred rows, in their order, and that all of them hold of the machine.
+use Prim.Native.Nat.{ℕ}
+use mathlib.Core.Path.{_≡_, refl}
+use mathlib.Core.Bool.{Bool, true, false}
+use mathlib.Core.List.{List, [], _∷_, _++_}
+use Rattle.model.specs.declared.Phase.the-variants.{Waiting, Compare, Commit, Exhausted, Decided}
+use Rattle.model.specs.Window.{window, rootUp, rootFrom}
+use Rattle.model.specs.Board.{opened}
+use Rattle.model.specs.Step.{accessAt, access, found, goOn, nextAt, next, learnt, written, turn, counted}
+use Rattle.model.specs.Refusal.{full}
+use Rattle.model.specs.Machine.{openWithin, opening, proposed, propose as proposeOf, worked, step, looked, learn, crashed, crash as crashOf}
+use Rattle.model.specs.Sound.{every}
+use Rattle.model_cases.specs.Play.{Operation, Case, holds, repeat}
+use Rattle.model_cases.specs.Play.Operation.{propose, work, look, crash}
+use Rattle.model_cases.specs.Play.Shows.{answers, hasWindow, register, marked, decision, stands, counts}
+
+-- n = 1, L = 3, proposal 7, hints yes.
+solo : ℕ → List Operation
+solo turns = propose 0 7 ∷ repeat turns (work 0 true)
+
+-- n = 2, L = 5: seat 0 proposes 3, seat 1 proposes 8; hints yes; work 0, 1, 0, 1, 0, 0, 1.
+contended : List Operation
+contended =
+    propose 0 3
+    ∷ propose 1 8
+    ∷ work 0 true
+    ∷ work 1 true
+    ∷ work 0 true
+    ∷ work 1 true
+    ∷ work 0 true
+    ∷ work 0 true
+    ∷ work 1 true
+    ∷ []
+
+-- "From there work 0, 0, 1, 1, 1."
+continued : List Operation
+unfolding contended
+continued = contended ++ (work 0 true ∷ work 0 true ∷ work 1 true ∷ work 1 true ∷ work 1 true ∷ [])
+
+pub table : List Case
+unfolding solo contended continued
+table =
+    -- opening
+    record { n = 0; limit = 17; operations = []; shows = answers 1 ∷ [] }
+    ∷ record { n = 65; limit = 256; operations = []; shows = answers 1 ∷ [] }
+    ∷ record { n = 64; limit = 16; operations = []; shows = answers 2 ∷ [] }
+    ∷ record { n = 64; limit = 17; operations = []; shows = answers 0 ∷ hasWindow 17 ∷ [] }
+    -- the windows for n = 2, 16 and 17
+    ∷ record { n = 2; limit = 5; operations = []; shows = answers 0 ∷ hasWindow 5 ∷ [] }
+    ∷ record { n = 16; limit = 9; operations = []; shows = answers 0 ∷ hasWindow 9 ∷ [] }
+    ∷ record { n = 17; limit = 11; operations = []; shows = answers 0 ∷ hasWindow 11 ∷ [] }
+    -- one process: round 1 is over after 3 turns; commit and a blank D after 18; D is 7 after 19
+    ∷ record { n = 1; limit = 3; operations = solo 3; shows = answers 0 ∷ stands 0 Waiting 1 7 ∷ [] }
+    ∷ record { n = 1; limit = 3; operations = solo 18; shows = stands 0 Commit 3 7 ∷ decision 0 ∷ [] }
+    ∷ record { n = 1; limit = 3; operations = solo 19; shows = decision 7 ∷ counts 15 4 0 ∷ [] }
+    -- the same with 19 hints of no
+    ∷ record {
+      n = 1;
+      limit = 3;
+      operations = propose 0 7 ∷ repeat 19 (work 0 false);
+      shows = answers 0 ∷ stands 0 Waiting 0 7 ∷ counts 0 0 0 ∷ [];
+    }
+    -- two processes
+    ∷ record { n = 2; limit = 5; operations = contended; shows = register 1 8 ∷ marked 1 ∷ counts 4 3 1 ∷ [] }
+    ∷ record {
+      n = 2;
+      limit = 5;
+      operations = continued;
+      shows = register 2 3 ∷ stands 1 (Compare 0) 2 3 ∷ counts 8 4 1 ∷ [];
+    }
+    -- at gate with round L: hint no; hint yes; a further work turn; a look
+    ∷ record { n = 1; limit = 3; operations = solo 19 ++ (work 0 false ∷ []); shows = answers 0 ∷ stands 0 Waiting 3 7 ∷ [] }
+    ∷ record { n = 1; limit = 3; operations = solo 20; shows = answers 0 ∷ stands 0 Exhausted 3 7 ∷ [] }
+    ∷ record { n = 1; limit = 3; operations = solo 21; shows = answers 9 ∷ stands 0 Exhausted 3 7 ∷ [] }
+    ∷ record { n = 1; limit = 3; operations = solo 21 ++ (look 0 ∷ []); shows = answers 0 ∷ stands 0 Decided 3 7 ∷ [] }
+    -- a second proposal
+    ∷ record { n = 1; limit = 3; operations = propose 0 5 ∷ propose 0 5 ∷ []; shows = answers 6 ∷ [] }
+    ∷ record { n = 1; limit = 3; operations = propose 0 5 ∷ propose 0 0 ∷ []; shows = answers 5 ∷ [] }
+    ∷ []
+
+-- Every row holds of the machine.
+pub starred-cases : every holds table ≡ true
+unfolding
+    table holds window rootUp rootFrom opened accessAt access found goOn nextAt next learnt written turn counted full openWithin opening
+    proposed proposeOf worked step looked learn crashed crashOf
+starred-cases = refl

@@ -1,0 +1,137 @@
+-- Each accepted operation of the machine leaves a sound session, and so does each operation, accepted or refused.
+use Prim.Native.Nat.{ℕ, suc, zero, _≤_, _<_}
+use native.Mathlib.Omega.{arith}
+use mathlib.Core.Path.{_≡_, refl, sym, _∙_, subst}
+use mathlib.Core.Bool.{Bool, true, false, not, _&&_}
+use mathlib.Core.List.{List, [], _∷_}
+use lib.ListN.{replicate}
+use lib.Dec.{leb, eqb}
+use borrow.Author.Tests.{not-false, leb-true, eqb-false}
+use Rattle.model.specs.declared.Access.{Access}
+use Rattle.model.specs.declared.Access.the-variants.{Nothing, ReadValue, WriteValue, ReadMark, SetMark, ReadDecision, WriteDecision}
+use Rattle.model.specs.declared.Process.{Process}
+use Rattle.model.specs.declared.Session.{Session}
+use Rattle.model.specs.declared.Counts.{Counts}
+use Rattle.model.specs.declared.Limits.{Limits}
+use Rattle.model.specs.declared.Operation.{Operation}
+use Rattle.model.specs.declared.Operation.the-variants.{Propose, Step, Learn, Crash, Malformed}
+use Rattle.model.specs.Window.{window}
+use Rattle.model.specs.Board.{processAt, opened, idle, maxProcesses, maxRounds}
+use Rattle.model.specs.Step.{access, written, turn, found}
+use Rattle.model.specs.Refusal.{refusal, status, isOutside, stepped, openTests, ownTests, processOf, tests}
+use Rattle.model.specs.Machine.{accessOf, becomes, after, countsAfter, answered, perform}
+use Rattle.model.specs.Sound.{sound, soundAt, soundProcess}
+use Rattle.base.specs.Bools.{and-left, and-right}
+use Rattle.model_laws.specs.Every.{every-replicate, every-drop}
+use Rattle.model_laws.specs.Accepted.{NoneHolds, none-holds, Accepted, accepted}
+use Rattle.model_laws.specs.Windows.{window-least}
+use Rattle.model_laws.specs.Phases.{process-facts, inside-some}
+use Rattle.model_laws.specs.Ranges.{InRange, access-range}
+use Rattle.model_laws.specs.Keeps.{next-sound, learnt-sound, placed-sound}
+use Rattle.model_laws.specs.Sounds.{Sound, sound-facts, facts-sound, idle-sound, sound-process, set-sound, written-sound}
+
+-- What a write leaves: n, the limit and the processes.
+pub record Same (s t : Session) : Type 0 where
+  pub n : t .n ≡ s .n
+  pub limit : t .limit ≡ s .limit
+  pub processes : t .processes ≡ s .processes
+
+pub written-same : (s : Session) (a : Access) (e : ℕ) → Same s (written s a e)
+unfolding written
+written-same s Nothing e = record { n = refl; limit = refl; processes = refl }
+written-same s (ReadValue j) e = record { n = refl; limit = refl; processes = refl }
+written-same s (WriteValue j) e = record { n = refl; limit = refl; processes = refl }
+written-same s (ReadMark j) e = record { n = refl; limit = refl; processes = refl }
+written-same s (SetMark j) e = record { n = refl; limit = refl; processes = refl }
+written-same s ReadDecision e = record { n = refl; limit = refl; processes = refl }
+written-same s WriteDecision e = record { n = refl; limit = refl; processes = refl }
+
+-- A turn that accesses a register 1 to L and makes a sound process of one of the n.
+pub turn-sound : (W : ℕ) (s : Session) (p : ℕ) (a : Access) (becomes : ℕ → Process) → soundAt W s ≡ true → p < s .n →
+    InRange (s .limit) a → soundProcess W (s .limit) (becomes (found s a)) ≡ true → soundAt W (turn s p a becomes) ≡ true
+unfolding turn
+turn-sound W s p a becomes t low ok one =
+    let e = processAt s p .estimate in
+    facts-sound W _
+    (set-sound W (written s a e) p (becomes (found s a)) (written-sound W s a e ok (sound-facts W s t))
+    (rw (written-same s a e .n) low)
+    (rw (written-same s a e .limit) one))
+
+-- The register operation of a sound process is on registers 1 to L.
+pub operation-range : (W L : ℕ) (q : Process) (o : Operation) → soundProcess W L q ≡ true → InRange L (accessOf L q o)
+unfolding accessOf access
+operation-range W L q (Propose p v) t = tt
+operation-range W L q (Step p leader) t =
+    let f = process-facts W L q t in access-range W L (q .round) (q .phase) leader (f .round) (f .phase)
+operation-range W L q (Learn p) t = tt
+operation-range W L q (Crash p) t = tt
+operation-range W L q Malformed t = tt
+
+-- What an accepted operation makes of a sound process is sound.
+pub becomes-sound : (W L : ℕ) (q : Process) (c : Counts) (o : Operation) (x : ℕ) → 1 ≤ W → soundProcess W L q ≡ true →
+    NoneHolds (ownTests (q .phase) c o) → soundProcess W L (becomes W L q o x) ≡ true
+unfolding becomes
+becomes-sound W L q c (Propose p v) x wide t own =
+    let some = eqb-false v 0 (own .0) in
+    placed-sound W L wide (q .round) v (omega arith) (process-facts W L q t .round) .0
+becomes-sound W L q c (Step p leader) x wide t own = next-sound W L wide q leader x (own .0) t
+becomes-sound W L q c (Learn p) x wide t own = learnt-sound W L wide q x t
+becomes-sound W L q c (Crash p) x wide t own =
+    let f = process-facts W L q t in
+    placed-sound W L wide (q .round) (q .estimate) (inside-some f (own .0)) (f .round) .1
+becomes-sound W L q c Malformed x wide t own = t
+
+module _ (W : ℕ) (wide : 1 ≤ W) (s : Session) (c : Counts) (o : Operation) (t : soundAt W s ≡ true) where
+  -- The register operation of any operation.
+  pub access-in-range : InRange (s .limit) (accessOf (s .limit) (processAt s (processOf o)) o)
+  access-in-range = operation-range W (s .limit) _ o (sound-process W s (processOf o) t)
+
+  -- An accepted operation leaves a sound session.
+  pub after-sound : Accepted s c o → soundAt W (after W s o) ≡ true
+  unfolding after
+  after-sound a =
+      turn-sound W s (processOf o) _ _ t (a .below) access-in-range
+      (becomes-sound W (s .limit) _ c o _ wide (sound-process W s (processOf o) t) (a .own))
+
+  -- And so does each operation, accepted or refused.
+  pub perform-sound : soundAt W (perform W s c o .session) ≡ true
+  unfolding perform answered
+  perform-sound = go (refusal (tests s c o)) refl
+    where
+      go : (k : ℕ) → refusal (tests s c o) ≡ k → soundAt W (stepped k s (after W s o) c (countsAfter s c o) .session) ≡ true
+      go zero e = after-sound (accepted s c o e)
+      go (suc k) e = t
+
+  -- No operation changes n or the limit.
+  pub after-same : (after W s o .n ≡ s .n) × (after W s o .limit ≡ s .limit)
+  unfolding after turn
+  after-same = (written-same s _ _ .n, written-same s _ _ .limit)
+
+-- A session just opened, with n and L as an opening accepts them.
+pub opened-sound : (W n L : ℕ) → 1 ≤ n → n ≤ maxProcesses → W ≤ L → L ≤ maxRounds → soundAt W (opened n L) ≡ true
+unfolding opened
+opened-sound W n L some few wide low =
+    facts-sound W _
+    (record {
+      some = some;
+      few = few;
+      wide = wide;
+      low = low;
+      blank = every-drop (λ (x : ℕ). eqb x 0) L _ (every-replicate (λ (x : ℕ). eqb x 0) maxRounds 0 refl);
+      unmarked = every-drop not L _ (every-replicate not maxRounds false refl);
+      outside = let o : Process → Bool = λ q. isOutside (status (q .phase)) in every-drop o n _ (every-replicate o maxProcesses idle refl);
+      each = every-replicate (soundProcess W L) maxProcesses idle (idle-sound W L);
+    })
+
+-- What an accepted opening within limits knows.
+pub open-accepted : (most : Limits) (n L : ℕ) → refusal (openTests most n L) ≡ 0 →
+    (1 ≤ n) × (n ≤ most .processes) × (window n ≤ L) × (L ≤ most .rounds)
+open-accepted most n L e =
+    let a = none-holds (openTests most n L) (omega arith) e in
+    let b = not-false (leb 1 n && leb n (most .processes)) (a .0) in
+    let c = not-false (leb (window n) L && leb L (most .rounds)) (a .1 .0) in (
+      leb-true 1 n (and-left (leb 1 n) _ b),
+      leb-true n (most .processes) (and-right (leb 1 n) _ b),
+      leb-true (window n) L (and-left (leb (window n) L) _ c),
+      leb-true L (most .rounds) (and-right (leb (window n) L) _ c),
+    )

@@ -1,0 +1,2 @@
+-- The definition of the board report.
+pub mod Report

@@ -1,0 +1,1 @@
+// The board report as a definition: specs/. No code.

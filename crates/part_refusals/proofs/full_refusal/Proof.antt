@@ -1,0 +1,13 @@
+-- `part_refusals::full_refusal` meets its contract: the test is `full`. Assumes nothing.
+use mathlib.Core.Path.{sym, _∙_}
+use borrow.Author.Needs.{needs}
+use Rattle.part_refusals.proofs.full_refusal.Statement.{statement}
+use Rattle.part_refusals.proofs.full_refusal.Tie as tie
+
+pub full-refusal-spec : {M : Type 1} → statement M
+full-refusal-spec =
+    tie.close
+    (tie.spec
+    (λ c κs. search needs)
+    (λ c. simp (sym (c .before .full .ensures) ∙ c .if1 .taken))
+    (λ c. simp (sym (c .before .full .ensures) ∙ c .if1 .left)))

@@ -1,0 +1,99 @@
+// The refusals: by a process' phase and the counts, functions of one record, and the tests that come before them. They change nothing.
+ghost use mathlib.Core.Path.{_≡_};
+ghost use mathlib.Core.Bool.{cond, not};
+ghost use mathlib.Core.List.{[], _∷_};
+ghost use lib.Dec.{eqb, leb};
+ghost use Rattle.model.specs.Refusal.{status as statusOf, isOutside, isGone, isSpent, full as fullOf, refusal};
+use model::Counts;
+use model::Phase;
+use model::Status;
+
+// 01, "Numbers returned": whether the process is out, works, is spent, or crashed or decided.
+fn status(phase: Phase) -> Status
+    ensures { λ r. ⌜ r ≡ statusOf phase ⌝ }
+{
+    match phase {
+        Phase::Idle => Status::Outside,
+        Phase::Waiting => Status::Active,
+        Phase::Write => Status::Active,
+        Phase::Scan(_) => Status::Active,
+        Phase::Adopt(_) => Status::Active,
+        Phase::Compare(_) => Status::Active,
+        Phase::Flag(_) => Status::Active,
+        Phase::CheckMark(_) => Status::Active,
+        Phase::CheckValue(_) => Status::Active,
+        Phase::Commit => Status::Active,
+        Phase::Exhausted => Status::Spent,
+        Phase::Crashed => Status::Gone,
+        Phase::Decided => Status::Gone,
+    }
+}
+
+// 01, "Numbers returned", 16; 0 for no refusal, here and below.
+fn full_refusal(c: Counts) -> u32
+    ensures { λ r. ⌜ r ≡ refusal ((fullOf c, 16) ∷ []) ⌝ }
+{
+    if part_counts::full(c) { 16 } else { 0 }
+}
+
+// 01, "Numbers returned", proposal: 5, 6, the tests of `proposeTests` after the process' number.
+pub fn propose_refusal(v: u32, phase: Phase) -> u32
+    ensures { λ r. ⌜ r ≡ refusal ((eqb v 0, 5) ∷ (not (isOutside (statusOf phase)), 6) ∷ []) ⌝ }
+{
+    if v == 0 {
+        return 5;
+    }
+    match status(phase) {
+        Status::Outside => 0,
+        Status::Active => 6,
+        Status::Spent => 6,
+        Status::Gone => 6,
+    }
+}
+
+// 01, "Numbers returned", crash: 7, 8, the tests of `crashTests` after the seat's number.
+pub fn turn_refusal(phase: Phase) -> u32
+    ensures { λ r. ⌜ r ≡ refusal ((isOutside (statusOf phase), 7) ∷ (isGone (statusOf phase), 8) ∷ []) ⌝ }
+{
+    match status(phase) {
+        Status::Outside => 7, // a crash before the proposal
+        Status::Gone => 8, // a crash after the end
+        Status::Active => 0,
+        Status::Spent => 0,
+    }
+}
+
+// 01, "Numbers returned", look: 7, 8, 16, the tests of `learnTests` after the seat's number.
+pub fn learn_refusal(phase: Phase, c: Counts) -> u32
+    ensures { λ r. ⌜ r ≡ refusal ((isOutside (statusOf phase), 7) ∷ (isGone (statusOf phase), 8) ∷ (fullOf c, 16) ∷ []) ⌝ }
+{
+    match status(phase) {
+        Status::Outside => 7, // a look before the proposal
+        Status::Gone => 8, // a look after the end
+        Status::Active => full_refusal(c),
+        Status::Spent => full_refusal(c),
+    }
+}
+
+// 01, "Numbers returned", work: 7, 8, 9, 16, the tests of `stepTests` after the seat's number.
+pub fn step_refusal(phase: Phase, c: Counts) -> u32
+    ensures { λ r. ⌜ r ≡ refusal ((isOutside (statusOf phase), 7) ∷ (isGone (statusOf phase), 8) ∷ (isSpent (statusOf phase), 9) ∷ (fullOf c, 16) ∷ []) ⌝ }
+{
+    match status(phase) {
+        Status::Outside => 7, // a step before the proposal
+        Status::Gone => 8, // a step after the end
+        Status::Spent => 9,
+        Status::Active => full_refusal(c),
+    }
+}
+
+// 01, "Numbers returned": 3 for a session that is not sound, 4 for a process number n or above, then the number that the
+// operation's own tests give.
+pub fn first_refusal(sound: bool, n: usize, p: usize, own: u32) -> u32
+    ensures { λ r. ⌜ r ≡ cond sound (cond (leb n p) 4 own) 3 ⌝ }
+{
+    if !sound {
+        return 3;
+    }
+    if n <= p { 4 } else { own }
+}

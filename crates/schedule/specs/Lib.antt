@@ -1,5 +1,0 @@
--- Places in a schedule, and laws about them.
-pub mod Places
-pub mod Past
-pub mod PlaceLaws
-pub mod Most

@@ -1,0 +1,27 @@
+-- `session_read::decision` meets its contract. Assumes nothing.
+use mathlib.Core.Path.{_≡_, sym}
+use mathlib.Core.Bool.{Bool, true, false}
+use borrow.Author.Needs.{needs}
+use Rattle.model.specs.declared.Session.{Session}
+use Rattle.model.specs.declared.DecisionAnswer.{DecisionAnswer}
+use Rattle.model.specs.Sound.{sound}
+use Rattle.model.specs.ReadOut.{decision}
+use Rattle.session_read.proofs.decision.Statement.{statement}
+use Rattle.session_read.proofs.decision.Tie as tie
+
+-- The answers, by the session's test b.
+module _ (s : Session) {b : Bool} (told : b ≡ sound s) where
+  found : b ≡ true → _≡_ {A = DecisionAnswer} (record { code = 0; value = s .decision }) (decision s)
+  unfolding decision
+  found p = rw (sym told, p)
+
+  unsound : b ≡ false → _≡_ {A = DecisionAnswer} (record { code = 3; value = 0 }) (decision s)
+  unfolding decision
+  unsound p = rw (sym told, p)
+
+pub decision-spec : {M : Type 1} → statement M
+decision-spec =
+    tie.close
+    (tie.spec (λ c κs. search needs)
+    (λ c. found (c .before .before .args .s) (c .before .sound .ensures) (c .if1 .taken))
+    (λ c. unsound (c .before .before .args .s) (c .before .sound .ensures) (c .if1 .left)))

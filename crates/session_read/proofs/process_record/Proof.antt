@@ -1,0 +1,59 @@
+-- `session_read::process_record` meets its contract. The tests that led to an answer say which it is. Assumes nothing.
+use Prim.Native.Nat.{ℕ, _≤_, _<_}
+use mathlib.Core.Path.{_≡_, sym, _∙_}
+use mathlib.Core.Bool.{Bool, true, false, not}
+use native.Mathlib.Omega.{arith}
+use borrow.Author.Needs.{needs}
+use borrow.Author.Tests.{not-false, le-leb, lt-leb}
+use Rattle.model.specs.declared.Session.{Session}
+use Rattle.model.specs.declared.ProcessAnswer.{ProcessAnswer}
+use Rattle.model.specs.Board.{idle, processAt}
+use Rattle.model.specs.Sound.{sound}
+use Rattle.model.specs.ReadOut.{processRecord}
+use Rattle.model_laws.specs.Sounds.{sound-few}
+use Rattle.session_read.proofs.process_record.Statement.{statement}
+use Rattle.session_read.proofs.process_record.Tie as tie
+
+-- The answers, by the session's test b and the process' number.
+module _ (s : Session) (p : ℕ) {b : Bool} (told : b ≡ sound s) where
+  unsound : not b ≡ true → _≡_ {A = ProcessAnswer} (record { code = 3; process = idle }) (processRecord s p)
+  unfolding processRecord
+  unsound u = rw (sym told, u)
+
+  module _ (u : not b ≡ false) where
+    is-sound : sound s ≡ true
+    is-sound = sym told ∙ not-false b u
+
+    no-process : s .n ≤ p → _≡_ {A = ProcessAnswer} (record { code = 4; process = idle }) (processRecord s p)
+    unfolding processRecord
+    no-process h = rw (is-sound, le-leb (s .n) p h)
+
+    low : p < s .n → p < 64
+    low h = omega (arith, sound-few s is-sound)
+
+    found : p < s .n → _≡_ {A = ProcessAnswer} (record { code = 0; process = processAt s p }) (processRecord s p)
+    unfolding processRecord
+    found h = rw (is-sound, lt-leb (s .n) p h)
+
+-- Past both tests the process is one of the 64.
+index : (c : tie.Else2) → c .before .before .before .args .p < 64
+index c =
+    let a = c .before .before .before .args in
+    low (a .t1) (a .p) (c .before .before .sound .ensures) (c .before .if1 .left) (omega (arith, c .if2 .left))
+
+-- In the order of the code: the two tests with their answers, then the record's address and index.
+pub process-record-spec : {M : Type 1} → statement M
+process-record-spec =
+    tie.close
+    (tie.spec (λ c κs. search needs) (λ c κs. search needs)
+    (λ c. let d = c .before .before in
+    c .no-record .ensures ∙ unsound (d .before .args .t1) (d .before .args .p) (d .sound .ensures) (c .before .if1 .taken))
+    (λ c κs. search needs)
+    (λ c. let d = c .before .before .before in
+    c .no-record2 .ensures
+    ∙ no-process (d .before .args .t1) (d .before .args .p) (d .sound .ensures) (c .before .before .if1 .left)
+    (omega (arith, c .before .if2 .taken)))
+    (λ c. omega (arith, index c)) (λ c. omega (arith, index c))
+    (λ c. let d = c .before .before .before in
+    found (d .before .args .t1) (d .before .args .p) (d .sound .ensures) (c .before .before .if1 .left)
+    (omega (arith, c .before .if2 .left))))

@@ -1,0 +1,57 @@
+-- The clauses of a session's test: where one fails the test does, and where the first ones hold the records are left. Assumes nothing.
+use Prim.Native.Nat.{ℕ, _≤_}
+use mathlib.Core.Path.{_≡_, refl, sym, _∙_}
+use mathlib.Core.Bool.{Bool, true, false, not, _&&_, and-false}
+use borrow.Author.Tests.{leb-true, not-true, not-false}
+use lib.Dec.{leb, eqb}
+use lib.ListN.{drop}
+use Rattle.base.specs.Bools.{and-right}
+use Rattle.model.specs.declared.Process.{Process}
+use Rattle.model.specs.declared.Session.{Session}
+use Rattle.model.specs.Window.{window}
+use Rattle.model.specs.Refusal.{status, isOutside}
+use Rattle.model.specs.Sound.{every, soundProcess, soundAt, sound}
+use Rattle.session_sound.proofs.Pass.{rest, begins}
+
+abbrev pub outside : Process → Bool
+outside q = isOutside (status (q .phase))
+
+-- Six tests, of which the second, third and fourth are one.
+joined : (a b c d e f : Bool) → (a && b && c && d && e && f) ≡ (a && (b && (c && d)) && (e && f))
+joined true true true true e f = refl
+joined true true true false e f = refl
+joined true true false d e f = refl
+joined true false c d e f = refl
+joined false b c d e f = refl
+
+module _ (s : Session) where
+  abbrev processes : Bool
+  processes = leb 1 (s .n) && leb (s .n) 64
+
+  -- The rounds' number at a window, and the registers and marks past it.
+  abbrev rounds : ℕ → Bool
+  rounds W = leb W (s .limit) && leb (s .limit) 256
+
+  abbrev blank : Bool
+  blank = every (λ x. eqb x 0) (drop (s .limit) (s .values)) && every not (drop (s .limit) (s .marks))
+
+  pub few : processes ≡ true → s .n ≤ 64
+  few p = leb-true (s .n) 64 (and-right (leb 1 (s .n)) _ p)
+
+  module _ {W : ℕ} (w : W ≡ window (s .n)) where
+    clauses : sound s ≡ (processes && (rounds W && blank) && rest outside (soundProcess W (s .limit)) (s .n) (s .processes) 0)
+    unfolding sound soundAt
+    clauses = rw (← w, begins outside (soundProcess W (s .limit)) (s .n) (s .processes)) (joined processes (rounds W) _ _ _ _)
+
+    -- The answer b of the test of the registers and marks.
+    module _ {b : Bool} (told : b ≡ blank) where
+      pub rounds-fail : not (rounds W && b) ≡ true → false ≡ sound s
+      rounds-fail p = sym (clauses ∙ rw (sym told, not-true (rounds W && b) p, and-false processes))
+
+      pub records-left : not processes ≡ false → not (rounds W && b) ≡ false
+          → sound s ≡ rest outside (soundProcess W (s .limit)) (s .n) (s .processes) 0
+      records-left p q = clauses ∙ rw (sym told, not-false processes p, not-false (rounds W && b) q)
+
+  pub processes-fail : not processes ≡ true → false ≡ sound s
+  unfolding sound soundAt
+  processes-fail p = rw (not-true processes p)

@@ -1,0 +1,16 @@
+-- `sheet_bytes::byte` meets its contract: a byte past the end reads as 0. Assumes nothing.
+use mathlib.Core.Path.{refl, sym}
+use denote.Ref.{now}
+use borrow.Author.Needs.{needs}
+use Rattle.sheet_bytes.specs.Past.{byte-past}
+use Rattle.sheet_bytes.proofs.byte.Statement.{statement}
+use Rattle.sheet_bytes.proofs.byte.Tie as tie
+
+returns : tie.Need-returns
+returns c = refl
+
+returns-2 : tie.Need-returns-2
+returns-2 c = sym (byte-past (now (c .before .args .s)) (c .before .args .i) (c .if1 .left))
+
+pub byte-spec : {M : Type 1} → statement M
+byte-spec = tie.close (tie.spec (λ c. search needs) returns returns-2)

@@ -1,0 +1,70 @@
+// One entry of a sheet. 01, "Turn sheets": "An entry has 6 bytes: kind, seat, 32-bit value."
+ghost use mathlib.Core.Path.{_≡_};
+ghost use Prim.Native.Nat.{_+_, _*_};
+ghost use Rattle.model.specs.Sheet.{entryOf, entryAt};
+use model::Operation;
+
+// "Numbers are little-endian": a 32-bit number, the lowest byte first.
+fn word32(a: u8, b: u8, c: u8, d: u8) -> u32
+    ensures { λ r. ⌜ r ≡ a + 256 * b + 65536 * (c + 256 * d) ⌝ }
+{
+    a as u32 + 256 * (b as u32) + 65536 * (c as u32 + 256 * (d as u32))
+}
+
+// "Kinds: 0 propose (any value), 1 work (value 0 is hint no, 1 is yes), 2 look (0), 3 crash (0)."
+fn entry_of(kind: u8, p: u8, value: u32) -> Operation
+    ensures { λ r. ⌜ r ≡ entryOf kind p value ⌝ }
+{
+    let process = p as usize;
+    if kind == 0 {
+        return Operation::Propose(process, value);
+    }
+    if kind == 1 {
+        if value == 0 {
+            return Operation::Step(process, false);
+        }
+        if value == 1 {
+            return Operation::Step(process, true);
+        }
+        return Operation::Malformed;
+    }
+    if value != 0 {
+        return Operation::Malformed;
+    }
+    if kind == 2 {
+        return Operation::Learn(process);
+    }
+    if kind == 3 {
+        return Operation::Crash(process);
+    }
+    Operation::Malformed
+}
+
+// The entry at an offset, whatever the offset: past the end every byte reads as 0. Mostly all six bytes are there.
+pub fn entry_at(s: &[u8], at: usize) -> Operation
+    ensures { λ r. ⌜ r ≡ entryAt (now (s .entry)) at ⌝ }
+{
+    if 6 <= s.len() {
+        if at <= s.len() - 6 {
+            let low = at + 2;
+            let high = low + 2;
+            return entry_of(
+                s[at],
+                s[at + 1],
+                word32(s[low], s[low + 1], s[high], s[high + 1]),
+            );
+        }
+    }
+    if at < s.len() {
+        let low = at + 2;
+        let high = low + 2;
+        let value = word32(
+            sheet_bytes::byte(s, low),
+            sheet_bytes::byte(s, low + 1),
+            sheet_bytes::byte(s, high),
+            sheet_bytes::byte(s, high + 1),
+        );
+        return entry_of(s[at], sheet_bytes::byte(s, at + 1), value);
+    }
+    entry_of(0, 0, 0)
+}

@@ -1,0 +1,5 @@
+-- Places in a sheet, and laws about them.
+pub mod Places
+pub mod Past
+pub mod PlaceLaws
+pub mod Most

@@ -1,0 +1,2 @@
+-- The refusal of a sheet, part by part.
+pub mod Parts

@@ -1,0 +1,220 @@
+-- `sheet_run::carry` meets its contract. The loop's invariant is `Carrying`: the run from here on gives the answer, and the session is
+-- sound. The measure is the number of entries left. Assumes nothing.
+use Prim.Native.Nat.{ℕ, _<_}
+use native.Mathlib.Nat.{sub-zero}
+use native.Mathlib.Omega.{arith}
+use mathlib.Core.Path.{_≡_, refl, sym, _∙_}
+use mathlib.Core.Bool.{false}
+use mathlib.Core.List.{[], _∷_}
+use mathlib.Core.Logic.{⊎-elim}
+use borrow.Author.Needs.{needs}
+use lib.ListN.{length}
+use types.Run.{OneOf}
+use denote.Enum.Declared as Declared
+use Rattle.model.proofs.Operation as Entries
+use Rattle.model.specs.declared.Operation.{Operation}
+use Rattle.model.specs.declared.Operation.the-variants.{Propose, Step, Learn, Crash, Malformed}
+use Rattle.model.specs.Board.{processAt}
+use Rattle.model.specs.Runner.{runFrom}
+use Rattle.model.specs.Sheet.{entries}
+use Rattle.sheet_place_laws.specs.declared.Handed.the-variants.{Next}
+use Rattle.sheet_place_laws.specs.Places.{handed, rest}
+use Rattle.sheet_place_laws.specs.PlaceLaws.{begin-rest, begin-proper}
+use Rattle.part_registers.specs.Registers.{access-all}
+use Rattle.model_laws.specs.Ranges.{InRange}
+use Rattle.sheet_run.specs.Operation.{in-range}
+use Rattle.sheet_run.specs.Uniform.{isStep, step-own, step-access, step-leaves, other-changes, other-stays, other-access}
+use Rattle.sheet_run.specs.Carried.{Carrying, Entered, accepted, tallied}
+use Rattle.sheet_run.specs.Carried.{ends, row-low, shorter, halted, due, refused, goes-on}
+use Rattle.sheet_run.proofs.carry.Statement.{statement}
+use Rattle.sheet_run.proofs.carry.Tie as tie
+
+abbrev Inv-loop : tie.InvT-loop
+Inv-loop sheet budget window c₀ s₀ k₀ place₀ c s k place =
+    Carrying (runFrom budget 0 s₀ c₀ (entries sheet)) sheet budget window s c k place
+
+abbrev μ-loop : tie.MeasureT-loop
+μ-loop sheet budget window c₀ s₀ k₀ place₀ c s k place = length (rest sheet place)
+
+-- ---- what is known where the entry is to be tried
+
+abbrev Here : Type 0
+Here = tie.Else1 Inv-loop μ-loop
+
+abbrev loop-of : Here → tie.At-loop Inv-loop μ-loop
+loop-of c = c .before .before .before .before .before .before .before
+
+abbrev start-of : Here → tie.Start Inv-loop μ-loop
+start-of c = loop-of c .before .before .before
+
+abbrev process-of : Here → ℕ
+process-of c = c .before .before .process-of .result
+
+-- The entry that was handed out, and what it is.
+abbrev Handed-out : Type 0
+Handed-out = tie.After-process-of Inv-loop μ-loop
+
+abbrev entry-of : Handed-out → Operation
+entry-of c = c .before .before .e .given .0 .0
+
+next-of : (c : Handed-out) →
+    let l = c .before .before .before .before .before in
+    handed (l .before .before .before .args .sheet .now) (l .loop .place) ≡ Next (entry-of c)
+next-of c = sym (c .before .before .before .before .entry-at .ensures) ∙ c .before .before .e .given .1
+
+-- There is budget left, and its process is one of the n.
+due-of : (c : Here) → (loop-of c .loop .k < start-of c .args .budget) × (process-of c < loop-of c .loop .s .n)
+due-of c = due (loop-of c .loop .inv) (next-of (c .before .before)) (sym (c .before .halts .ensures) ∙ c .if1 .left)
+
+low : (c : Here) → process-of c < 64
+low c = row-low (loop-of c .loop .inv) (due-of c .1)
+
+-- A work turn.
+step-entered : (c : tie.After-step-refusal Inv-loop μ-loop) →
+    let h = c .before .before .before .before .before in
+    Entered (loop-of h .loop .s) (loop-of h .loop .c) (entry-of (h .before .before)) (process-of h) (c .step-refusal .result)
+step-entered c =
+    let h = c .before .before .before .before .before in
+    record {
+      named = h .before .before .process-of .ensures;
+      below = due-of h .1;
+      code = c .step-refusal .ensures ∙ step-own _ _ (c .before .before .e2 .given .1);
+    }
+
+-- Its register is one of the arrays'.
+in-arrays : (c : tie.After-access Inv-loop μ-loop) → InRange 256 (c .access .result)
+in-arrays c =
+    let f = c .before .before in
+    let l = loop-of (f .before .before .before .before .before) .loop in
+    in-range 256 (sym (c .access .ensures)) (access-all _ (l .s) _ _ (l .inv .opened .sound))
+
+abbrev stored-at : tie.After-next Inv-loop μ-loop → Here
+stored-at c = c .before .before .before .before .before .before .before .before .before .before .before .before .before
+
+-- Any other entry.
+other-tag : (e : Operation) → OneOf (0 ∷ 2 ∷ 3 ∷ 4 ∷ []) (Declared.tagOf Entries.the-type e) → isStep e ≡ false
+other-tag (Propose p v) h = refl
+other-tag (Step p leader) h = absurd (⊎-elim (λ z. omega arith) (⊎-elim (λ z. omega arith) (⊎-elim (λ z. omega arith) (λ z. omega arith))) h)
+other-tag (Learn p) h = refl
+other-tag (Crash p) h = refl
+other-tag Malformed h = refl
+
+other-entered : (c : tie.After-refusal-of Inv-loop μ-loop) →
+    let h = c .before .before .before in
+    Entered (loop-of h .loop .s) (loop-of h .loop .c) (entry-of (h .before .before)) (process-of h) (c .refusal-of .result)
+other-entered c =
+    let h = c .before .before .before in
+    record {
+      named = h .before .before .process-of .ensures;
+      below = due-of h .1;
+      code = c .refusal-of .ensures;
+    }
+
+-- ---- the needs
+
+loop-holds : tie.Need-loop-holds Inv-loop μ-loop
+loop-holds c =
+    record {
+      same = rw (c .first-place .ensures, sub-zero, begin-rest);
+      proper = rw (c .first-place .ensures) (begin-proper _);
+      within = omega arith;
+      opened = c .before .before .pre;
+    }
+
+-- Finished.
+returns : tie.Need-returns Inv-loop μ-loop
+returns c =
+    let h = c .before .before .before in
+    c .ran .ensures ∙ sym (ends (h .before .loop .inv) (sym (h .entry-at .ensures) ∙ c .before .enum-told .given .1))
+
+-- Budget ended, or no such process.
+returns-2 : tie.Need-returns-2 Inv-loop μ-loop
+returns-2 c =
+    let t = c .before .before in
+    let h = t .before .before in
+    let l = h .before .before .before .before .before in
+    c .ran2 .ensures
+    ∙ rw (c .before .halt .ensures)
+    (sym (halted (l .loop .inv) (next-of h) (h .process-of .ensures) (sym (t .before .halts .ensures) ∙ t .if1 .taken)))
+
+-- Refused.
+returns-3 : tie.Need-returns-3 Inv-loop μ-loop
+returns-3 c =
+    let f = c .before .before in
+    let h = f .before .before .before .before .before in
+    c .ran3 .ensures
+    ∙ sym (refused (loop-of h .loop .inv) (next-of (h .before .before)) (due-of h .0) (step-entered f) (c .before .if2 .taken))
+
+returns-4 : tie.Need-returns-4 Inv-loop μ-loop
+returns-4 c =
+    let f = c .before .before in
+    let h = f .before .before .before in
+    c .ran4 .ensures
+    ∙ sym (refused (loop-of h .loop .inv) (next-of (h .before .before)) (due-of h .0) (other-entered f) (c .before .if3 .taken))
+
+add-k : tie.Need-add-k Inv-loop μ-loop
+add-k c = let h = c .before .before in omega (arith, due-of h .0, start-of h .fits .budget)
+
+loop-less : tie.Need-loop-less Inv-loop μ-loop
+loop-less c =
+    let h = c .before .before .before in
+    shorter (loop-of h .loop .inv) (next-of (h .before .before)) (c .place-after .ensures)
+
+-- Carried out: a work turn, or any other entry, whose record changes or does not.
+loop-again : tie.Need-loop-again Inv-loop μ-loop
+loop-again c =
+    let j = c .before in
+    let h = j .before .before in
+    let l = loop-of h .loop in
+    let W = start-of h .args .window in
+    let on = goes-on (l .inv) (next-of (h .before .before)) (due-of h .0) in
+    ⊎-elim
+    (λ w.
+    let told = w .1 .given .1 in
+    let f = accepted
+    (step-entered
+    (record {
+      before = record {
+        before = record { before = record { before = j .before; match2 = w .0 }; e2 = w .1 };
+        known-told2 = w .2;
+      };
+      step-refusal = w .3;
+    }))
+    (w .4 .left) in
+    on f
+    (w .14
+    ∙ step-leaves W (l .s) (process-of h) _ (l .inv .opened .sound) told (f .named) (w .5 .ensures) (w .7 .ensures .0) (w .9 .ensures .0)
+    (w .7 .ensures .1) (w .9 .ensures .1) (w .10 .ensures) (w .11 .ensures))
+    (w .13 ∙ tallied f (w .5 .ensures ∙ step-access _ _ told) (w .12 .ensures))
+    (c .place-after .ensures))
+    (λ w.
+    let e = entry-of (h .before .before) in
+    let other = other-tag e (w .0 .keys2) in
+    let f = accepted (other-entered (record { before = record { before = j .before; match2 = w .0 }; refusal-of = w .1 })) (w .2 .left) in
+    on f
+    (w .8
+    ∙ ⊎-elim
+    (λ v. v .2 ∙ other-changes W (l .s) (process-of h) e other (f .named) (sym (w .3 .ensures) ∙ v .0 .taken) (v .1 .ensures))
+    (λ v. v .1 ∙ other-stays W (l .s) (l .c) (process-of h) e other (sym (w .3 .ensures) ∙ v .0 .left) (sym (f .code)))
+    (w .4 .came))
+    (w .7 ∙ tallied f (w .5 .ensures ∙ other-access (l .s .limit) (processAt (l .s) (process-of h)) e other) (w .6 .ensures))
+    (c .place-after .ensures))
+    (j .match2 .came)
+
+-- In the order of the code.
+pub carry-spec : {M : Type 1} → statement M
+carry-spec =
+    tie.close
+    (tie.spec Inv-loop μ-loop (λ c κs. search needs) loop-holds
+    (λ c κs. search needs) (λ c. search needs) (λ c. search needs) (λ c κs. search needs) returns
+    (λ c κs. search needs) (λ c κs. search needs) (λ c κs. search needs) (λ c κs. search needs) returns-2
+    (λ c. omega (arith, low c)) low
+    (λ c. search needs) (λ c κs. search needs) (λ c κs. search needs) returns-3
+    (λ c κs. search needs) (λ c κs. in-arrays (c .before)) (λ c κs. in-arrays (c .before .before .before)) (λ c κs. search needs) (λ c κs. search needs)
+    (λ c. omega (arith, low (stored-at c))) (λ c. low (stored-at c)) (λ c κs. search needs)
+    (λ c κs. search needs) (λ c κs. search needs) returns-4
+    (λ c κs. search needs) (λ c κs. search needs)
+    (λ c. omega (arith, low (c .before .before .before .before .before .before .before)))
+    (λ c. low (c .before .before .before .before .before .before .before))
+    (λ c κs. search needs) (λ c κs. search needs)
+    add-k (λ c κs. search needs) loop-less loop-again)

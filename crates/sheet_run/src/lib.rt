@@ -1,0 +1,114 @@
+// Running a sheet (01, "Turn sheets": the runner). The session is changed where it stands, entry after entry, and is never
+// tested for soundness: that every session of the run is sound is part of the loop's proof.
+ghost use mathlib.Core.Path.{_≡_};
+ghost use Prim.Native.Nat.{_<_};
+ghost use Rattle.model.specs.Runner.{ran as ranOf, noCounts, runFrom, run as runOf};
+ghost use Rattle.model.specs.Sheet.{entries};
+ghost use Rattle.sheet_run.specs.Carried.{Opened};
+use model::Counts;
+use model::Ending;
+use model::Operation;
+use model::Ran;
+use model::Session;
+use sheet_place_laws::Handed;
+
+mod operation;
+mod turns;
+
+use operation::mark;
+use operation::value;
+
+// A byte as a number.
+fn wide(x: u8) -> usize
+    ensures { λ r. ⌜ (r ≡ x) × (r < 256) ⌝ }
+{
+    x as usize
+}
+
+// What a run gives: the number of entries carried out, the session, the tally and the ending.
+fn ran(carried: usize, session: Session, counts: Counts, ending: Ending) -> Ran
+    ensures { λ r. ⌜ r ≡ ranOf carried session counts ending ⌝ }
+{
+    Ran {
+        carried,
+        session,
+        counts,
+        ending,
+    }
+}
+
+// An empty tally.
+fn no_counts() -> Counts
+    ensures { λ r. ⌜ r ≡ noCounts ⌝ }
+{
+    Counts {
+        reads: 0,
+        writes: 0,
+        contested: 0,
+    }
+}
+
+// 01, "Turn sheets": the entries one after another, on a session just opened, up to the budget or the first refused entry.
+fn carry(sheet: &[u8], budget: usize, window: usize, mut s: Session, mut c: Counts) -> Ran
+    requires { ⌜ Opened window s ⌝ }
+    ensures { λ r. ⌜ r ≡ runFrom budget 0 s c (entries (now (sheet .entry))) ⌝ }
+{
+    let mut k: usize = 0;
+    let mut place = sheet_reader::first_place(sheet);
+    loop {
+        let Handed::Next(e) = sheet_reader::entry_at(sheet, place) else {
+            return ran(k, s, c, Ending::Finished);
+        };
+        let p = turns::process_of(e);
+        if turns::halts(budget, k, s.n, p) {
+            return ran(k, s, c, turns::halt(budget, k));
+        }
+        let q = s.processes[p];
+        if let Operation::Step(_, leader) = e {
+            let code = turns::step_refusal(q, c);
+            if code != 0 {
+                return ran(k, s, c, Ending::Refused(code, k));
+            }
+            let a = part_access::access(s.limit, q, leader);
+            let x = mark(value(&mut s.values, a, q.estimate), &mut s.marks, a);
+            s.decision = operation::decision(s.decision, a, q.estimate);
+            s.processes[p] = part_next::next(window, s.limit, q, leader, x);
+            c = part_counts::counted(a, c);
+        } else {
+            let code = turns::refusal_of(q, c, e);
+            if code != 0 {
+                return ran(k, s, c, Ending::Refused(code, k));
+            }
+            if turns::changes(s.decision, e) {
+                s.processes[p] = turns::becomes(q, s.decision, e);
+            }
+            c = part_counts::counted(turns::access_of(e), c);
+        }
+        k += 1;
+        place = sheet_reader::place_after(sheet, place);
+    }
+}
+
+// 01, "Turn sheets": the runner. A refused sheet makes no session.
+pub fn run(sheet: &[u8], budget: usize) -> Ran
+    ensures { λ r. ⌜ r ≡ runOf (now (sheet .entry)) budget ⌝ }
+{
+    let code = sheet_place_laws::refusal(sheet);
+    if code != 0 {
+        return ran(
+            0,
+            session_open::opened(0, 0),
+            no_counts(),
+            Ending::Rejected(code),
+        );
+    }
+    let n = sheet[0];
+    let limit = wide(sheet[2]) + 256 * wide(sheet[3]);
+    carry(
+        sheet,
+        budget,
+        part_window::window(n),
+        session_open::opened(wide(n), limit),
+        no_counts(),
+    )
+}

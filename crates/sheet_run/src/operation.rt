@@ -1,0 +1,69 @@
+// The register operation of a turn of a sound session, register by register: each that it names is one of the arrays'.
+ghost use mathlib.Core.Path.{_≡_};
+ghost use Rattle.model_laws.specs.Ranges.{InRange};
+ghost use Rattle.model.specs.Step.{bit as bitOf};
+ghost use Rattle.part_registers.specs.Registers.{valuesAfter, marksAfter, decisionAfter};
+ghost use Rattle.sheet_run.specs.Operation.{valueIn, markIn};
+use model::Access;
+
+// 01, "One turn at a time": the value register T[r], read or written with e. 0 where the operation reads no value.
+pub(crate) fn value(values: &mut [u32; 256], a: Access, e: u32) -> u32
+    requires { ⌜ InRange 256 a ⌝ }
+    ensures reads { λ x. ⌜ x ≡ valueIn (now (values .entry)) a ⌝ }
+    ensures writes { λ _. ⌜ now (values .exit) ≡ valuesAfter (now (values .entry)) a e ⌝ }
+{
+    match a {
+        Access::Nothing => 0,
+        Access::ReadValue(r) => values[r - 1],
+        Access::WriteValue(r) => {
+            values[r - 1] = e;
+            0
+        }
+        Access::ReadMark(_) => 0,
+        Access::SetMark(_) => 0,
+        Access::ReadDecision => 0,
+        Access::WriteDecision => 0,
+    }
+}
+
+// A mark that is read, as a number.
+fn bit(marked: bool) -> u32
+    ensures { λ r. ⌜ r ≡ bitOf marked ⌝ }
+{
+    if marked { 1 } else { 0 }
+}
+
+// The same of the mark C[r], read or set; v where the operation reads no mark.
+pub(crate) fn mark(v: u32, marks: &mut [bool; 256], a: Access) -> u32
+    requires { ⌜ InRange 256 a ⌝ }
+    ensures reads { λ x. ⌜ x ≡ markIn v (now (marks .entry)) a ⌝ }
+    ensures writes { λ _. ⌜ now (marks .exit) ≡ marksAfter (now (marks .entry)) a ⌝ }
+{
+    match a {
+        Access::Nothing => v,
+        Access::ReadValue(_) => v,
+        Access::WriteValue(_) => v,
+        Access::ReadMark(r) => bit(marks[r - 1]),
+        Access::SetMark(r) => {
+            marks[r - 1] = true;
+            v
+        }
+        Access::ReadDecision => v,
+        Access::WriteDecision => v,
+    }
+}
+
+// The decision register D after the operation.
+pub(crate) fn decision(d: u32, a: Access, e: u32) -> u32
+    ensures { λ x. ⌜ x ≡ decisionAfter d a e ⌝ }
+{
+    match a {
+        Access::Nothing => d,
+        Access::ReadValue(_) => d,
+        Access::WriteValue(_) => d,
+        Access::ReadMark(_) => d,
+        Access::SetMark(_) => d,
+        Access::ReadDecision => d,
+        Access::WriteDecision => e,
+    }
+}

@@ -1,0 +1,46 @@
+-- The agreement rule of the past: one value is committed, and no other is written from the round of the commit on.
+use Prim.Native.Nat.{ℕ, _*_, _≤_}
+use native.Mathlib.Omega.{arith}
+use native.Mathlib.Decide.{ℕ-discrete, decLe}
+use mathlib.Core.Path.{_≡_, sym}
+use mathlib.Core.List.{List}
+use Rattle.theory_past.specs.Event.{Event, Wrote, Written, Committed, Lawful}
+use Rattle.theory_count.specs.Rivals.{Rivals, walked}
+use Rattle.theory_count.specs.Grid.{no-rivals}
+
+module _ (W n : ℕ) (h : List Event) (wide : 2 ≤ W) (few : 4 * n ≤ W * W) (lawful : Lawful W n h) where
+  -- What is written to the register of a commit is the value committed.
+  same-register : {R v u e : ℕ} → Committed R v h → Written R u e h → u ≡ v
+  same-register {R} {v} {u} {e} committed written =
+      let lawfully = lawful .commits (committed .past) in
+      let rivals : (u ≡ v → ⊥) → Rivals W n R u v h =
+      λ differ. record {
+        lawful = lawful;
+        window = lawfully .window;
+        unflagged = lawfully .unflagged;
+        epoch = e;
+        first = written;
+        epoch′ = lawfully .epoch;
+        second = lawfully .written;
+        differ = differ;
+      } in
+      elim (ℕ-discrete u v) [ yes same ↦ same | no differ ↦ absurd (no-rivals wide few (rivals differ)) ]
+
+  -- What is written to the register of a commit or to a higher one is the value committed.
+  pub agreed : {R v p r u e : ℕ} → Committed R v h → Wrote p r u e h → R ≤ r → u ≡ v
+  agreed {R} {p} {r} committed wrote above =
+      let window = lawful .commits (committed .past) .window in
+      let written : Written r _ _ h = record { process = p; wrote = wrote } in
+      elim (ℕ-discrete R r) [
+        | yes same ↦ same-register committed (rw (← same) at written)
+        | no other ↦ same-register committed (walked lawful written (omega arith) (omega arith) .written)
+      ]
+
+  -- A commit in the round of another or in a higher one has its value.
+  agreed-above : {R v R′ v′ : ℕ} → Committed R v h → Committed R′ v′ h → R ≤ R′ → v′ ≡ v
+  agreed-above c c′ = agreed c (lawful .commits (c′ .past) .written .wrote)
+
+  -- Two commits have one value.
+  pub agreed-commits : {R v R′ v′ : ℕ} → Committed R v h → Committed R′ v′ h → v ≡ v′
+  agreed-commits {R} {R′} c c′ =
+      elim (decLe R R′) [ yes low ↦ sym (agreed-above c c′ low) | no high ↦ agreed-above c′ c (omega arith) ]

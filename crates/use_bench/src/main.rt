@@ -1,0 +1,90 @@
+// One public operation called many times over, for bench/run.sh. Standard input: a byte, the operation, and the number of calls, 32 bits,
+// low byte first. Standard output: a number that comes of the answers, so that no call can be left out.
+use model::Counts;
+use model::Session;
+use session_open::open;
+use session_read::decision;
+use session_read::process_record;
+use session_read::register;
+use session_change::crash;
+use session_change::propose;
+use session_values::standing_values;
+use std::num::wrapping_add_u32;
+use session_step::learn;
+use session_step::step;
+
+// A session of 8 processes and 256 rounds, in which all but process 7 have proposed.
+fn proposed() -> Session {
+    let mut s = open(8, 256).session;
+    for p in 0..7 {
+        s = propose(s, p, 1 + p as u32).session;
+    }
+    s
+}
+
+// Operations 0 to 5, whose answers hold a session: each is kept, as a caller keeps it. The calls are made on the same session, so that each is
+// accepted; here and below one register is filled before each call, so that no call is the same as the one before.
+fn changed(operation: u8, count: u32, start: Session) -> u32 {
+    let mut s = start;
+    let mut after = start;
+    let c = Counts {
+        reads: 0,
+        writes: 0,
+        contested: 0,
+    };
+    for i in 0..count {
+        s.values[(i % 256) as usize] = 1 + i % 8;
+        after = match operation {
+            0 => open(8, 256).session,
+            1 => propose(s, 7, 8).session,
+            2 => step(s, 0, false, c).session,
+            3 => step(s, 0, true, c).session,
+            4 => learn(s, 0, c).session,
+            _ => crash(s, 0).session,
+        };
+    }
+    after.values[(count % 256) as usize]
+}
+
+// The buffer has its length in its type, which the loop's proof then need not carry.
+fn listed(s: Session, buffer: &mut [u32; 256]) -> u32 {
+    standing_values(s, buffer).code
+}
+
+// Operations 6 to 9, the read-outs: the sum of what they tell.
+fn told(operation: u8, count: u32, start: Session) -> u32 {
+    let mut s = start;
+    let mut buffer = [0u32; 256];
+    let mut sum: u32 = 0;
+    for i in 0..count {
+        let r = (i % 256) as usize;
+        s.values[r] = 1 + i % 8;
+        let part = match operation {
+            6 => register(s, 1 + r).value,
+            7 => process_record(s, r % 8).process.estimate,
+            8 => decision(s).code,
+            _ => listed(s, &mut buffer),
+        };
+        sum = wrapping_add_u32(sum, part);
+    }
+    wrapping_add_u32(sum, buffer[7])
+}
+
+// A 32-bit number, low byte first.
+fn joined(a: u8, b: u8, c: u8, d: u8) -> u32 {
+    a as u32 + b as u32 * 256 + c as u32 * 65536 + d as u32 * 16777216
+}
+
+fn main() {
+    let mut asked = [0u8; 5];
+    io::read_full(0, &mut asked);
+    let operation = asked[0];
+    let count = joined(asked[1], asked[2], asked[3], asked[4]);
+    let start = proposed();
+    let number = if operation < 6 {
+        changed(operation, count, start)
+    } else {
+        told(operation, count, start)
+    };
+    io::print_decimal(1, number as u64);
+}

@@ -1,0 +1,27 @@
+-- `use_report::main` meets its contract: the report's length lies within its bytes. Assumes nothing.
+use Prim.Native.Nat.{_≤_}
+use native.Mathlib.Omega.{arith}
+use mathlib.Core.Path.{sym, ap}
+use borrow.Author.Needs.{needs}
+use lib.ListN.{length, length-append}
+use lib.Seq.{length-take-le}
+use Rattle.use_report.proofs.main.Statement.{statement}
+use Rattle.use_report.proofs.main.Tie as tie
+
+within : (c : tie.After-bytes) → c .before .report .result .len ≤ length (c .before .report .result .bytes)
+within c = omega (arith, simp length-append at (ap length (c .before .report .ensures .1)))
+
+pub main-spec : {M : Type 1} → statement M
+main-spec =
+    tie.close
+    (tie.spec
+    (λ c κs. search needs)
+    (λ c. search needs)
+    (λ c κs. search needs)
+    (λ c. search needs)
+    (λ c. search needs)
+    (λ c κs. search needs)
+    within
+    (λ c. sym (length-take-le _ _ (within (c .before))))
+    (λ c κs. search needs)
+    (λ c. search needs))
