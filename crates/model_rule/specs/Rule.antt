@@ -1,0 +1,56 @@
+-- The agreement rule (document 01, "The agreement rule"; demand 3 of the order).
+use Prim.Native.Nat.{ℕ, _≤_}
+use mathlib.Core.Path.{_≡_}
+use mathlib.Core.List.{List, [], _∷_}
+use Rattle.model.specs.declared.Phase.the-variants.{Decided}
+use Rattle.model.specs.declared.Session.{Session}
+use Rattle.model.specs.Window.{window}
+use Rattle.model.specs.Board.{processAt}
+use Rattle.model.specs.Machine.{perform, opening}
+use Rattle.model.specs.Public.{withCounts}
+use Rattle.model_rule.specs.Event.{Event, Past, Proposed, Written, Committed, DecidedOn}
+use Rattle.model_rule.specs.Event.Event.{commit}
+use Rattle.model_rule.specs.Calls.{Input, machine, past, Call, Run, inputs}
+
+-- "After each call, refused or not, its answer, the tally and the session equal the machine's", and 3 is never returned.
+abbrev pub EachAsTheMachine : (W : ℕ) → Session → List Call → Type 0
+EachAsTheMachine W start [] = Unit {0}
+EachAsTheMachine W start (c ∷ cs) =
+    (withCounts (c .answer) (c .after) ≡ perform W (machine W start (inputs cs)) (c .input .counts) (c .input .operation))
+    × (c .answer .code ≡ 3 → ⊥)
+    × EachAsTheMachine W start cs
+
+-- v was proposed before it first stood in D: before the first commit of v.
+pub record ProposedFirst (v : ℕ) (h : List Event) : Type 0 where
+  pub round : ℕ
+  pub before : List Event
+  pub commits : Past (commit round v ∷ before) h
+  pub first : (r : ℕ) → Committed r v before → ⊥
+  pub proposed : Proposed v before
+
+-- The seat's record says that it is decided and holds v.
+abbrev pub Holds : Session → (p v : ℕ) → Type 0
+Holds s p v = (processAt s p .phase ≡ Decided) × (processAt s p .estimate ≡ v)
+
+-- What holds of a session s and the past h of the machine that came to it.
+pub record Rule (s : Session) (h : List Event) : Type 0 where
+  -- a seat whose accepted look found v in D is decided and holds v, and the other way round
+  pub holds : (p v : ℕ) → DecidedOn p v h → Holds s p v
+  pub looked : (p v : ℕ) → Holds s p v → DecidedOn p v h
+  -- any two decided seats hold the same number
+  pub agreement : (p q u v : ℕ) → DecidedOn p u h → DecidedOn q v h → u ≡ v
+  -- a decided seat's number was proposed before it first stood in the decision register
+  pub validity : (p v : ℕ) → DecidedOn p v h → ProposedFirst v h
+  -- a value committed in round R is the only one written to the register of round R or a later one, before or after
+  pub commitment : (R r u v : ℕ) → Committed R v h → Written r u h → R ≤ r → u ≡ v
+
+-- The claim: of every list of calls from every accepted opening.
+abbrev pub AgreementRule : Type 0
+AgreementRule =
+    (n L : ℕ)
+    → opening n L .code ≡ 0
+    → (cs : List Call) (s : Session)
+    → Run (opening n L .session) cs s
+    → EachAsTheMachine (window n) (opening n L .session) cs
+    × (s ≡ machine (window n) (opening n L .session) (inputs cs))
+    × Rule s (past (window n) (opening n L .session) (inputs cs))
