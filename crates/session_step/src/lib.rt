@@ -25,7 +25,13 @@ pub fn step(s: Session, p: usize, leader: bool, c: Counts) -> Stepped
         let a = part_access::access(limit, q, leader);
         let mut marks = after.marks;
         let mut decision = after.decision;
-        let x = part_registers::perform(&mut after.values, &mut marks, &mut decision, a, q.estimate);
+        let x = part_registers::perform(
+            &mut after.values,
+            &mut marks,
+            &mut decision,
+            a,
+            q.estimate,
+        );
         after.marks = marks;
         after.decision = decision;
         let window = part_window::window(n as u8);

@@ -58,7 +58,7 @@ pub(crate) fn refusal_of(q: Process, c: Counts, e: Operation) -> u32
         Operation::Propose(_, v) => part_refusals::propose_refusal(v, phase),
         Operation::Step(_, _) => part_refusals::step_refusal(phase, c),
         Operation::Learn(_) => part_refusals::learn_refusal(phase, c),
-        Operation::Crash(_) => part_refusals::turn_refusal(phase),
+        Operation::Crash(_) => part_refusals::crash_refusal(phase),
         Operation::Malformed => 13,
     }
 }

@@ -13,7 +13,7 @@ use Rattle.session_change.proofs.crash.Tie as tie
 code : (c : tie.After-first-refusal) →
     let a = c .before .before .before .before .args in
     c .first-refusal .result ≡ tested (sound (a .t1)) (a .t1 .n) (a .p) (refusal (crashOwn (processAt (a .t1) (a .p))))
-code c = number _ _ (λ q. refusal (crashOwn q)) (c .before .before .sound .ensures) (c .before .turn-refusal .ensures) (c .first-refusal .ensures)
+code c = number _ _ (λ q. refusal (crashOwn q)) (c .before .before .sound .ensures) (c .before .crash-refusal .ensures) (c .first-refusal .ensures)
 
 returns : tie.Need-returns
 returns c =

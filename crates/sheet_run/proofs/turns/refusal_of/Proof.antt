@@ -12,5 +12,5 @@ refusal-of-spec =
     (λ c. rw (c .before .before .e .given .1) (c .propose-refusal .ensures))
     (λ c. rw (c .before .enum-told .given .1) (c .step-refusal .ensures))
     (λ c. rw (c .before .enum-told2 .given .1) (c .learn-refusal .ensures))
-    (λ c. rw (c .before .enum-told3 .given .1) (c .turn-refusal .ensures))
+    (λ c. rw (c .before .enum-told3 .given .1) (c .crash-refusal .ensures))
     (λ c. search needs))

@@ -1,11 +1,11 @@
--- `part_refusals::turn_refusal` meets its contract: the status of the phase says which test holds. Assumes nothing.
+-- `part_refusals::crash_refusal` meets its contract: the status of the phase says which test holds. Assumes nothing.
 use mathlib.Core.Path.{refl, sym, _∙_}
 use borrow.Author.Needs.{needs}
-use Rattle.part_refusals.proofs.turn_refusal.Statement.{statement}
-use Rattle.part_refusals.proofs.turn_refusal.Tie as tie
+use Rattle.part_refusals.proofs.crash_refusal.Statement.{statement}
+use Rattle.part_refusals.proofs.crash_refusal.Tie as tie
 
-pub turn-refusal-spec : {M : Type 1} → statement M
-turn-refusal-spec =
+pub crash-refusal-spec : {M : Type 1} → statement M
+crash-refusal-spec =
     tie.close
     (tie.spec
     (λ c κs. search needs) (λ c. search needs) (λ c. search needs) (λ c. search needs) (λ c. search needs)
