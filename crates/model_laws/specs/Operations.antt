@@ -26,7 +26,7 @@ use Rattle.model_laws.specs.Every.{every-replicate, every-drop}
 use Rattle.model_laws.specs.Accepted.{NoneHolds, none-holds, Accepted, accepted}
 use Rattle.model_laws.specs.Windows.{window-least}
 use Rattle.model_laws.specs.Phases.{process-facts, inside-some}
-use Rattle.model_laws.specs.Ranges.{InRange, access-range}
+use Rattle.model_laws.specs.Ranges.{InRange, access-range, range-more}
 use Rattle.model_laws.specs.Keeps.{next-sound, learnt-sound, placed-sound}
 use Rattle.model_laws.specs.Sounds.{Sound, sound-facts, facts-sound, idle-sound, sound-process, set-sound, written-sound}
 
@@ -85,6 +85,10 @@ module _ (W : ℕ) (wide : 1 ≤ W) (s : Session) (c : Counts) (o : Operation) (
   -- The register operation of any operation.
   pub access-in-range : InRange (s .limit) (accessOf (s .limit) (processAt s (processOf o)) o)
   access-in-range = operation-range W (s .limit) _ o (sound-process W s (processOf o) t)
+
+  -- It is one of the arrays' registers.
+  pub access-in-arrays : InRange maxRounds (accessOf (s .limit) (processAt s (processOf o)) o)
+  access-in-arrays = range-more (s .limit) maxRounds (accessOf (s .limit) (processAt s (processOf o)) o) (sound-facts W s t .low) access-in-range
 
   -- An accepted operation leaves a sound session.
   pub after-sound : Accepted s c o → soundAt W (after W s o) ≡ true

@@ -1,16 +1,23 @@
 -- The registers one by one: what an access reads and leaves in each, and the turn made of them.
 use Prim.Native.Nat.{ℕ, _+_, _-_, _%_, _≤_}
 use native.Mathlib.Omega.{arith}
-use mathlib.Core.Path.{_≡_, refl}
+use mathlib.Core.Path.{_≡_, refl, sym}
 use mathlib.Core.Bool.{Bool, true, false}
 use mathlib.Core.List.{List}
 use lib.ListN.{getD, set}
+use lib.Dec.{ltb}
+use Rattle.model.specs.declared.Phase.{Phase}
+use Rattle.model.specs.declared.Phase.the-variants.{Idle, Waiting, Write, Scan, Adopt, Compare, Flag, CheckMark}
+use Rattle.model.specs.declared.Phase.the-variants.{CheckValue, Commit, Exhausted, Crashed, Decided}
 use Rattle.model.specs.declared.Access.{Access}
 use Rattle.model.specs.declared.Access.the-variants.{Nothing, ReadValue, WriteValue, ReadMark, SetMark, ReadDecision, WriteDecision}
 use Rattle.model.specs.declared.Process.{Process}
 use Rattle.model.specs.declared.Session.{Session}
+use Rattle.model.specs.declared.Operation.the-variants.{Step}
 use Rattle.model.specs.Board.{processAt, with, maxRounds}
-use Rattle.model.specs.Step.{bit, found, written, turn}
+use Rattle.model.specs.Step.{accessAt, access, next, bit, found, written, turn}
+use Rattle.model.specs.Machine.{accessOf, becomes, after}
+use Rattle.base.specs.Bools.{cond-cases}
 use Rattle.model_laws.specs.Ranges.{InRange}
 
 -- The index of the register of round r, r - 1 for the rounds 1 to 256; for any other number, which no turn of a sound process has, some index.
@@ -105,3 +112,41 @@ turn-is s p (ReadMark r) becomes ok = refl
 turn-is s p (SetMark r) becomes ok = rw (slot-is r (ok .0) (ok .1))
 turn-is s p ReadDecision becomes ok = refl
 turn-is s p WriteDecision becomes ok = refl
+
+-- A work turn makes no look.
+step-no-look : (L r : ℕ) (φ : Phase) (leader : Bool) → NoLook (accessAt L r φ leader)
+unfolding accessAt
+step-no-look L r Idle leader = tt
+step-no-look L r Waiting false = tt
+step-no-look L r Waiting true = cond-cases NoLook (ltb r L) (λ t. tt) (λ t. tt)
+step-no-look L r Write leader = tt
+step-no-look L r (Scan k) leader = tt
+step-no-look L r (Adopt k) leader = tt
+step-no-look L r (Compare i) leader = tt
+step-no-look L r (Flag i) leader = tt
+step-no-look L r (CheckMark i) leader = tt
+step-no-look L r (CheckValue i) leader = tt
+step-no-look L r Commit leader = tt
+step-no-look L r Exhausted leader = tt
+step-no-look L r Crashed leader = tt
+step-no-look L r Decided leader = tt
+
+-- What the code leaves in each register, and the record that it makes by the value read, are what the machine leaves after a work turn of a
+-- sound session; i is the index of process p.
+pub worked-is : (W : ℕ) (s : Session) (p : ℕ) (leader : Bool) {i v x y : ℕ} {a : Access} {values : List ℕ} {marks : List Bool} {q : Process} →
+    InRange maxRounds (accessOf (s .limit) (processAt s p) (Step p leader)) →
+    i ≡ p →
+    a ≡ access (s .limit) (processAt s i) leader →
+    v ≡ valueIn (s .values) a →
+    x ≡ markIn v (s .marks) a →
+    values ≡ valuesAfter (s .values) a (processAt s i .estimate) →
+    marks ≡ marksAfter (s .marks) a →
+    y ≡ decisionAfter (s .decision) a (processAt s i .estimate) →
+    q ≡ next W (s .limit) (processAt s i) leader x →
+    with s values marks y (set (s .processes) i q) ≡ after W s (Step p leader)
+unfolding after accessOf becomes access
+worked-is W s p leader ok ei ea er ex ev em ey eq =
+    let r = processAt s p in
+    let a = access (s .limit) r leader in
+    let read = read-is s a (step-no-look (s .limit) (r .round) (r .phase) leader) ok in
+    rw (eq, ev, em, ey, ex, er, ea, ei, read) (sym (turn-is s p a (next W (s .limit) r leader) ok))
