@@ -2,12 +2,12 @@
 // reader that stays attached to the sheet's bytes and its place hands the entries out."
 ghost use mathlib.Core.Path.{_≡_};
 ghost use Rattle.sheet_place_laws.specs.Places.{begin, handed, advanced};
+use sheet_place_laws::Handed;
+use sheet_place_laws::Place;
 pub use sheet_reader_held::Reader;
 pub use sheet_reader_held::attach;
 pub use sheet_reader_held::entry;
 pub use sheet_reader_held::moved;
-use sheet_place_laws::Handed;
-use sheet_place_laws::Place;
 
 // The place of a reader that was just attached.
 pub fn first_place(sheet: &[u8]) -> Place
