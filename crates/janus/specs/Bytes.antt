@@ -15,7 +15,8 @@ use Rattle.model.specs.declared.Phase.{Phase}
 use Rattle.model.specs.declared.Phase.the-variants.{Idle, Waiting, Write, Scan, Adopt, Compare, Flag, CheckMark}
 use Rattle.model.specs.declared.Phase.the-variants.{CheckValue, Commit, Exhausted, Crashed, Decided}
 use Rattle.model.specs.declared.Process.{Process}
-use Rattle.model.specs.Export.{decidedValue, bytes32, decidedBytes}
+use Rattle.model.specs.Bytes.{bytes32}
+use Rattle.model.specs.Export.{decidedValue, decidedBytes}
 
 -- A process in a phase with any other tag than the last has decided nothing.
 abbrev others : List ℕ

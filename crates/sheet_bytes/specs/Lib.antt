@@ -1,3 +1,3 @@
 -- What reading a run gives, and which runs are left.
-pub mod Past
+pub mod Beyond
 pub mod Runs

@@ -1,6 +1,6 @@
 // The bytes and the runs of a sheet. 01, "Turn sheets": "Numbers are little-endian." Past the end every byte reads as 0.
 ghost use mathlib.Core.Path.{_≡_};
-ghost use Rattle.model.specs.Sheet.{byteAt};
+ghost use Rattle.model.specs.Bytes.{byteAt};
 ghost use Rattle.sheet_bytes.specs.Runs.{IsRun};
 
 // A run (01: a pair): where it starts, and its length in bytes.

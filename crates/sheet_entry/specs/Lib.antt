@@ -1,2 +1,2 @@
 -- Entries past the end of a sheet.
-pub mod Past
+pub mod Beyond

@@ -10,7 +10,7 @@ use borrow.Author.Tests.{le-leb, lt-leb, eq-eqb, ne-eqb}
 use Rattle.model.specs.Refusal.{Test}
 use Rattle.model.specs.Sheet.{Run, runs, runsFrom, headerEnd, inOrder, wholeEntries}
 use Rattle.model.specs.Sound.{every}
-use Rattle.sheet_bytes.specs.Past.{cond-same}
+use Rattle.base.specs.Bools.{cond-same}
 use Rattle.sheet_bytes.specs.Runs.{IsRun, left-next}
 
 -- The last two of the sheet's tests.

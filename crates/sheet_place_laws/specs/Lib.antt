@@ -1,5 +1,4 @@
 -- Places in a sheet, and laws about them.
 pub mod Places
-pub mod Past
 pub mod PlaceLaws
 pub mod Most

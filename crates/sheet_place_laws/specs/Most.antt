@@ -7,6 +7,7 @@ use mathlib.Core.List.{List, [], _∷_}
 use lib.ListN.{length, length-append}
 use lib.Dec.{leb}
 use borrow.Author.Tests.{leb-true}
+use Rattle.model.specs.declared.Limits.{Limits}
 use Rattle.model.specs.Sound.{every}
 use Rattle.model.specs.Window.{window}
 use Rattle.model.specs.Sheet.{Run, runCount, roundLimit, processCount, runsFrom, runs, headerEnd, hasHeader, inOrder, wholeEntries, entriesAt, entriesOf, entries, sheetRefusal}
@@ -50,14 +51,14 @@ most-after s zero l m = omega arith
 most-after s (suc k) l m = omega arith
 
 -- "A budget of 10,921" is enough for every sheet that is accepted.
-pub most-entries : (s : List ℕ) → sheetRefusal s ≡ 0 → length (entries s) ≤ 10921
+pub most-entries : (most : Limits) (s : List ℕ) → sheetRefusal most s ≡ 0 → length (entries s) ≤ 10921
 unfolding sheetRefusal entries
-most-entries s h =
+most-entries most s h =
     let W = window (processCount s) in
     let small = leb 4 (length s) && leb (length s) 65535 in
     let a =
-    accepted (hasHeader s) (leb 1 (processCount s) && leb (processCount s) 64)
-    (leb W (roundLimit s) && leb (roundLimit s) 256)
+    accepted (hasHeader s) (leb 1 (processCount s) && leb (processCount s) (most .processes))
+    (leb W (roundLimit s) && leb (roundLimit s) (most .rounds))
     (inOrder (headerEnd s) (length s) (runs s)) (every wholeEntries (runs s))
     refl h in
     let b = both (small && leb (runCount s) 16) (leb (headerEnd s) (length s)) (a .0) in

@@ -1,5 +1,5 @@
 // Reading a sheet (01: a turn sheet): its refusal, and the places at which a reader of its entries stands. The functions
-// stand in crates of their own: `runs`, `entries`, `layout`, `header` beneath this one, and `places` above it.
+// stand in crates of their own beneath this one and, in `sheet_place`, above it.
 use model::Operation;
 
 // A place in a sheet (01, "Turn sheets": "a reader .. its place"): run is the next run to be opened; of the current run

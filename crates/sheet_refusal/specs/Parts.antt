@@ -4,14 +4,15 @@ use mathlib.Core.Path.{_≡_, refl, ap}
 use mathlib.Core.Bool.{Bool, true, false, cond, not, _&&_}
 use mathlib.Core.List.{List}
 use lib.Dec.{leb, eqb}
+use Rattle.model.specs.declared.Limits.{Limits}
 use Rattle.model.specs.Refusal.{refusal, openTests}
 use Rattle.model.specs.Window.{window}
 use Rattle.model.specs.Sheet.{processCount, roundLimit, hasHeader, sheetRefusal}
 use Rattle.sheet_layout.specs.RunTests.{runTests}
 
 -- The refusal of opening what the header asks for: 1, 2 or none.
-abbrev pub openingOf : List ℕ → ℕ
-openingOf s = refusal (openTests 64 256 (processCount s) (roundLimit s))
+abbrev pub openingOf : Limits → List ℕ → ℕ
+openingOf most s = refusal (openTests most (processCount s) (roundLimit s))
 
 -- Two tests in front of others: the first refusal among the two, else that of the others.
 in-front : (a b : Bool) (x : ℕ)
@@ -22,11 +23,11 @@ in-front true false x = refl
 in-front false b x = refl
 
 -- The refusal of a sheet by its parts.
-pub by-parts : (s : List ℕ)
-    → sheetRefusal s
-    ≡ cond (not (hasHeader s)) 10 (cond (eqb (openingOf s) 0) (refusal (runTests s)) (openingOf s))
+pub by-parts : (most : Limits) (s : List ℕ)
+    → sheetRefusal most s
+    ≡ cond (not (hasHeader s)) 10 (cond (eqb (openingOf most s) 0) (refusal (runTests s)) (openingOf most s))
 unfolding sheetRefusal
-by-parts s =
+by-parts most s =
     let n = processCount s in
     let L = roundLimit s in
-    ap (cond (not (hasHeader s)) 10) (in-front (leb 1 n && leb n 64) (leb (window n) L && leb L 256) (refusal (runTests s)))
+    ap (cond (not (hasHeader s)) 10) (in-front (leb 1 n && leb n (most .processes)) (leb (window n) L && leb L (most .rounds)) (refusal (runTests s)))

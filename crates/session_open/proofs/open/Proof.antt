@@ -1,10 +1,11 @@
 -- `session_open::open` meets its contract: by the number of the refusal. Assumes nothing.
-use mathlib.Core.Path.{_≡_, refl, sym, _∙_, ap}
+use mathlib.Core.Path.{_≡_, refl, _∙_, ap}
 use Prim.Native.Nat.{ℕ, zero, suc}
 use borrow.Author.Needs.{needs}
 use Rattle.model.specs.declared.Session.{Session}
 use Rattle.model.specs.declared.Changed.{Changed}
-use Rattle.model.specs.Board.{opened}
+use Rattle.model.specs.declared.Limits.{Limits}
+use Rattle.model.specs.Board.{opened, serverLimits}
 use Rattle.model.specs.Refusal.{refusal, openTests, changed}
 use Rattle.model.specs.Machine.{opening, openWithin}
 use Rattle.session_open.proofs.open.Statement.{statement}
@@ -17,25 +18,42 @@ answered zero t before after refused accepted = ap (λ (s : Session). record { c
 answered (suc k) t before after refused accepted =
     ap (λ (s : Session). record { code = suc k; session = s }) (refused (λ e. search needs))
 
--- The same, of another name for the number.
-answered-by : (k m : ℕ) (t before after : Session) → k ≡ m → ((k ≡ 0 → ⊥) → t ≡ before) → (k ≡ 0 → t ≡ after) →
-    _≡_ {A = Changed} (record { code = k; session = t }) (changed m before after)
-answered-by k m t before after e refused accepted = rw (← e) (answered k t before after refused accepted)
+-- The number k is that of the server's limits.
+by-server : {most : Limits} {k : ℕ} (t : Session) (n L : ℕ) → most ≡ serverLimits → k ≡ refusal (openTests most n L)
+    → ((k ≡ 0 → ⊥) → t ≡ opened 0 0) → (k ≡ 0 → t ≡ opened n L)
+    → _≡_ {A = Changed} (record { code = k; session = t }) (opening n L)
+unfolding opening openWithin
+by-server {most} {k} t n L m e refused accepted =
+    let f : k ≡ refusal (openTests serverLimits n L) = e ∙ ap (λ (l : Limits). refusal (openTests l n L)) m in
+    rw (← f) (answered k t (opened 0 0) (opened n L) refused accepted)
+
+server-requires : tie.Need-server-requires
+server-requires c κs = search needs
+
+open-refusal-requires : tie.Need-open-refusal-requires
+open-refusal-requires c κs = search needs
+
+opened-requires : tie.Need-opened-requires
+opened-requires c κs = search needs
 
 returns : tie.Need-returns
-unfolding opening openWithin
 returns c =
-    let a = c .before .before .before .args in
-    answered-by _ _ _ (opened 0 0) (opened (a .n) (a .limit)) (c .before .before .open-refusal .ensures)
+    let code = c .before .before in
+    let a = code .before .before .args in
+    by-server _ (a .n) (a .limit) (code .before .server .ensures) (code .open-refusal .ensures)
     (λ k. c .opened .ensures) (λ e. absurd (c .before .if1 .taken e))
 
+opened-requires-2 : tie.Need-opened-requires-2
+opened-requires-2 c κs = search needs
+
 returns-2 : tie.Need-returns-2
-unfolding opening openWithin
 returns-2 c =
-    let a = c .before .before .before .args in
-    answered-by _ _ _ (opened 0 0) (opened (a .n) (a .limit)) (c .before .before .open-refusal .ensures)
+    let code = c .before .before in
+    let a = code .before .before .args in
+    by-server _ (a .n) (a .limit) (code .before .server .ensures) (code .open-refusal .ensures)
     (λ k. absurd (k (c .before .if1 .left))) (λ e. c .opened2 .ensures)
 
 pub open-spec : {M : Type 1} → statement M
 open-spec =
-    tie.close (tie.spec (λ c κs. search needs) (λ c κs. search needs) returns (λ c κs. search needs) returns-2)
+    tie.close
+    (tie.spec server-requires open-refusal-requires opened-requires returns opened-requires-2 returns-2)

@@ -7,36 +7,61 @@ use borrow.Author.Needs.{needs}
 use borrow.Author.Tests.{leb-true, not-false}
 use lib.Dec.{leb}
 use Rattle.base.specs.Bools.{and-right}
+use Rattle.model.specs.declared.Limits.{Limits}
 use Rattle.model.specs.Window.{window}
 use Rattle.model.specs.Refusal.{refusal, openTests}
 use Rattle.session_open.proofs.open_refusal.Statement.{statement}
 use Rattle.session_open.proofs.open_refusal.Tie as tie
 
-module _ (n L : ℕ) where
-  abbrev code : ℕ
-  code = refusal (openTests 64 256 n L)
-
+module _ (most : Limits) (n L : ℕ) where
   abbrev processes : Bool
-  processes = leb 1 n && leb n 64
+  processes = leb 1 n && leb n (most .processes)
 
-  few : not processes ≡ false → n ≤ 64
-  few p = leb-true n 64 (and-right (leb 1 n) (leb n 64) (not-false processes p))
+  few : not processes ≡ false → n ≤ most .processes
+  few p = leb-true n (most .processes) (and-right (leb 1 n) _ (not-false processes p))
 
-  one : not processes ≡ true → 1 ≡ code
+  one : not processes ≡ true → 1 ≡ refusal (openTests most n L)
   one p = rw p
 
+  -- Within the processes: by whether the round limit is.
   module _ {W : ℕ} (w : W ≡ window n) (p : not processes ≡ false) where
-    two : not (leb W L && leb L 256) ≡ true → 2 ≡ code
+    two : not (leb W L && leb L (most .rounds)) ≡ true → 2 ≡ refusal (openTests most n L)
     two q = rw (p, ← w, q)
 
-    none : not (leb W L && leb L 256) ≡ false → 0 ≡ code
+    none : not (leb W L && leb L (most .rounds)) ≡ false → 0 ≡ refusal (openTests most n L)
     none q = rw (p, ← w, q)
+
+cast-processes : tie.Need-cast-processes
+cast-processes c = search needs
+
+cast-rounds : tie.Need-cast-rounds
+cast-rounds c = search needs
+
+returns : tie.Need-returns
+returns c =
+    let a = c .before .before .before .args in
+    one (a .most) (a .n) (a .limit) (c .if1 .taken)
+
+cast-window : tie.Need-cast-window
+cast-window c =
+    let a = c .before .before .before .args in
+    omega (arith, few (a .most) (a .n) (a .limit) (c .if1 .left))
+
+window-requires : tie.Need-window-requires
+window-requires c κs = search needs
+
+returns-2 : tie.Need-returns-2
+returns-2 c =
+    let w = c .before in
+    let a = w .before .before .before .before .args in
+    two (a .most) (a .n) (a .limit) (w .window .ensures) (w .before .if1 .left) (c .if2 .taken)
+
+returns-3 : tie.Need-returns-3
+returns-3 c =
+    let w = c .before in
+    let a = w .before .before .before .before .args in
+    none (a .most) (a .n) (a .limit) (w .window .ensures) (w .before .if1 .left) (c .if2 .left)
 
 pub open-refusal-spec : {M : Type 1} → statement M
 open-refusal-spec =
-    tie.close
-    (tie.spec (λ c. one (c .before .args .n) (c .before .args .limit) (c .if1 .taken))
-    (λ c. omega (arith, few (c .before .args .n) (c .before .args .limit) (c .if1 .left)))
-    (λ c κs. search needs)
-    (λ c. two (c .before .before .before .args .n) (c .before .before .before .args .limit) (c .before .window .ensures) (c .before .before .if1 .left) (c .if2 .taken))
-    (λ c. none (c .before .before .before .args .n) (c .before .before .before .args .limit) (c .before .window .ensures) (c .before .before .if1 .left) (c .if2 .left)))
+    tie.close (tie.spec cast-processes cast-rounds returns cast-window window-requires returns-2 returns-3)

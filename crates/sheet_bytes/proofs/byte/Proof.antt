@@ -2,7 +2,7 @@
 use mathlib.Core.Path.{refl, sym}
 use denote.Ref.{now}
 use borrow.Author.Needs.{needs}
-use Rattle.sheet_bytes.specs.Past.{byte-past}
+use Rattle.sheet_bytes.specs.Beyond.{byte-past}
 use Rattle.sheet_bytes.proofs.byte.Statement.{statement}
 use Rattle.sheet_bytes.proofs.byte.Tie as tie
 

@@ -4,7 +4,7 @@ use mathlib.Core.Path.{sym}
 use lib.Dec.{lit<}
 use denote.Ref.{now}
 use borrow.Author.Needs.{needs}
-use Rattle.sheet_bytes.specs.Past.{word16-past}
+use Rattle.sheet_bytes.specs.Beyond.{word16-past}
 use Rattle.sheet_bytes.proofs.run_at.Statement.{statement}
 use Rattle.sheet_bytes.proofs.run_at.Tie as tie
 

@@ -3,7 +3,7 @@
 use mathlib.Core.Path.{sym, _∙_}
 use denote.Ref.{now}
 use borrow.Author.Needs.{needs}
-use Rattle.sheet_entry.specs.Past.{entry-past}
+use Rattle.sheet_entry.specs.Beyond.{entry-past}
 use Rattle.sheet_entry.proofs.entry_at.Statement.{statement}
 use Rattle.sheet_entry.proofs.entry_at.Tie as tie
 

@@ -1,7 +1,7 @@
 -- `sheet_entry::entry_of` meets its contract: at each `return` the tests that led there say which case of
 -- `entryOf` holds. Assumes nothing.
 use borrow.Author.Tests.{eq-eqb, ne-eqb}
-use Rattle.sheet_bytes.specs.Past.{cond-same}
+use Rattle.base.specs.Bools.{cond-same}
 use Rattle.sheet_entry.proofs.entry_of.Statement.{statement}
 use Rattle.sheet_entry.proofs.entry_of.Tie as tie
 

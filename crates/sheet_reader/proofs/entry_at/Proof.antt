@@ -36,5 +36,5 @@ walk 𝓤 H A W says so C Λ fm known κs qs a ty =
 pub entry-at-spec : {M : Type 1} → stated.statement M
 unfolding code.routine
 entry-at-spec 𝓤 H 𝓜 𝓖 𝓡 =
-    proved 𝓤 H 𝓜 𝓖 𝓡 code.env Key.name code.function (code.unfolded 𝓤 H 𝓜 𝓡) (saying hands _) callee.name callee.routine code.calls-sheet_reader_held·entry reads (callee-thm.met 𝓤 H 𝓜 𝓖 𝓡)
+    proved 𝓤 H 𝓜 𝓖 𝓡 code.env Key.name code.function (code.unfolded 𝓤 H 𝓜 𝓡) (saying hands _) callee.name callee.routine code.calls-sheet-reader-held·entry reads (callee-thm.met 𝓤 H 𝓜 𝓖 𝓡)
     (walk 𝓤 H (𝓖 .A) (givenOf 𝓤 H 𝓜 𝓖) _ (λ κs a. refl))

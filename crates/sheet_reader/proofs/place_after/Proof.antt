@@ -40,5 +40,5 @@ walk 𝓤 H A W says so C Λ fm known κs qs a ty =
 pub place-after-spec : {M : Type 1} → stated.statement M
 unfolding code.routine
 place-after-spec 𝓤 H 𝓜 𝓖 𝓡 =
-    proved 𝓤 H 𝓜 𝓖 𝓡 code.env Key.name code.function (code.unfolded 𝓤 H 𝓜 𝓡) (saying advances _) callee.name callee.routine code.calls-sheet_reader_held·moved moves (callee-thm.met 𝓤 H 𝓜 𝓖 𝓡)
+    proved 𝓤 H 𝓜 𝓖 𝓡 code.env Key.name code.function (code.unfolded 𝓤 H 𝓜 𝓡) (saying advances _) callee.name callee.routine code.calls-sheet-reader-held·moved moves (callee-thm.met 𝓤 H 𝓜 𝓖 𝓡)
     (walk 𝓤 H (𝓖 .A) (givenOf 𝓤 H 𝓜 𝓖) _ (λ κs a. refl))

@@ -38,5 +38,5 @@ walk 𝓤 H A W says so C Λ fm known κs qs a ty =
 pub entry-spec : {M : Type 1} → stated.statement M
 unfolding code.routine
 entry-spec 𝓤 H 𝓜 𝓖 𝓡 =
-    proved 𝓤 H 𝓜 𝓖 𝓡 code.env Key.name code.function (code.unfolded 𝓤 H 𝓜 𝓡) (saying reads _) callee.name callee.routine code.calls-sheet_place·handed hands (callee-thm.met 𝓤 H 𝓜 𝓖 𝓡)
+    proved 𝓤 H 𝓜 𝓖 𝓡 code.env Key.name code.function (code.unfolded 𝓤 H 𝓜 𝓡) (saying reads _) callee.name callee.routine code.calls-sheet-place·handed hands (callee-thm.met 𝓤 H 𝓜 𝓖 𝓡)
     (walk 𝓤 H (𝓖 .A) (givenOf 𝓤 H 𝓜 𝓖) _ (λ κs a. refl))

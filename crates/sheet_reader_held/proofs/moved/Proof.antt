@@ -42,5 +42,5 @@ walk 𝓤 H A W says so C Λ fm known κs qs a ty =
 pub moved-spec : {M : Type 1} → stated.statement M
 unfolding code.routine
 moved-spec 𝓤 H 𝓜 𝓖 𝓡 =
-    proved 𝓤 H 𝓜 𝓖 𝓡 code.env Key.name code.function (code.unfolded 𝓤 H 𝓜 𝓡) (saying moves _) callee.name callee.routine code.calls-sheet_place·advance advances (callee-thm.met 𝓤 H 𝓜 𝓖 𝓡)
+    proved 𝓤 H 𝓜 𝓖 𝓡 code.env Key.name code.function (code.unfolded 𝓤 H 𝓜 𝓡) (saying moves _) callee.name callee.routine code.calls-sheet-place·advance advances (callee-thm.met 𝓤 H 𝓜 𝓖 𝓡)
     (walk 𝓤 H (𝓖 .A) (givenOf 𝓤 H 𝓜 𝓖) _ (λ κs a. refl))

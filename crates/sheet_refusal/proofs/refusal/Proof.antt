@@ -43,7 +43,7 @@ returns-4 c =
 
 -- With a header the opening decides, and the runs where it is accepted.
 past-header : (c : tie.After-open-refusal)
-    → sheetRefusal (now (c .before .before .before .before .before .before .before .before .before .before .args .s))
+    → sheetRefusal (c .before .before .before .before .before .before .before .before .before .before .args .most) (now (c .before .before .before .before .before .before .before .before .before .before .args .s))
     ≡ cond (eqb (c .open-refusal .result) 0)
     (refusal (runTests (now (c .before .before .before .before .before .before .before .before .before .before .args .s))))
     (c .open-refusal .result)

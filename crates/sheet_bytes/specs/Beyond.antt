@@ -1,16 +1,10 @@
 -- Past the end of a sheet every byte reads as 0, and so does every number.
 use Prim.Native.Nat.{ℕ, _+_, _≤_}
 use native.Mathlib.Omega.{arith}
-use mathlib.Core.Path.{_≡_, refl}
-use mathlib.Core.Bool.{Bool, true, false, cond}
+use mathlib.Core.Path.{_≡_}
 use mathlib.Core.List.{List}
 use lib.ListN.{length, List·getD-eq-default}
-use Rattle.model.specs.Sheet.{byteAt, word16}
-
--- Where both answers are one, the test does not matter.
-pub cond-same : {A : Type 0} (t : Bool) (x : A) → cond t x x ≡ x
-cond-same true x = refl
-cond-same false x = refl
+use Rattle.model.specs.Bytes.{byteAt, word16}
 
 module _ (s : List ℕ) where
   pub byte-past : (i : ℕ) → length s ≤ i → byteAt s i ≡ 0

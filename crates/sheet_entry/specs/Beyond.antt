@@ -5,7 +5,7 @@ use mathlib.Core.Path.{_≡_}
 use mathlib.Core.List.{List}
 use lib.ListN.{length}
 use Rattle.model.specs.Sheet.{entryOf, entryAt}
-use Rattle.sheet_bytes.specs.Past.{byte-past, word16-past}
+use Rattle.sheet_bytes.specs.Beyond.{byte-past, word16-past}
 
 pub entry-past : (s : List ℕ) (i : ℕ) → length s ≤ i → entryAt s i ≡ entryOf 0 0 0
 entry-past s i h =
