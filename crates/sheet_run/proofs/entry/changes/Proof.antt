@@ -1,7 +1,7 @@
--- `sheet_run::turns::changes` meets its contract: each arm is told the entry. Assumes nothing.
+-- `sheet_run::entry::changes` meets its contract: each arm is told the entry. Assumes nothing.
 use borrow.Author.Needs.{needs}
-use Rattle.sheet_run.proofs.turns.changes.Statement.{statement}
-use Rattle.sheet_run.proofs.turns.changes.Tie as tie
+use Rattle.sheet_run.proofs.entry.changes.Statement.{statement}
+use Rattle.sheet_run.proofs.entry.changes.Tie as tie
 
 pub changes-spec : {M : Type 1} → statement M
 changes-spec =

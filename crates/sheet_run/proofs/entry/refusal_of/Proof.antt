@@ -1,7 +1,7 @@
--- `sheet_run::turns::refusal_of` meets its contract: each arm is told the entry. Assumes nothing.
+-- `sheet_run::entry::refusal_of` meets its contract: each arm is told the entry. Assumes nothing.
 use borrow.Author.Needs.{needs}
-use Rattle.sheet_run.proofs.turns.refusal_of.Statement.{statement}
-use Rattle.sheet_run.proofs.turns.refusal_of.Tie as tie
+use Rattle.sheet_run.proofs.entry.refusal_of.Statement.{statement}
+use Rattle.sheet_run.proofs.entry.refusal_of.Tie as tie
 
 pub refusal-of-spec : {M : Type 1} → statement M
 refusal-of-spec =

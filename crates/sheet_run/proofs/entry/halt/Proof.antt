@@ -1,7 +1,7 @@
--- `sheet_run::turns::halt` meets its contract. Assumes nothing.
+-- `sheet_run::entry::halt` meets its contract. Assumes nothing.
 use borrow.Author.Tests.{le-leb, lt-leb}
-use Rattle.sheet_run.proofs.turns.halt.Statement.{statement}
-use Rattle.sheet_run.proofs.turns.halt.Tie as tie
+use Rattle.sheet_run.proofs.entry.halt.Statement.{statement}
+use Rattle.sheet_run.proofs.entry.halt.Tie as tie
 
 pub halt-spec : {M : Type 1} → statement M
 halt-spec =

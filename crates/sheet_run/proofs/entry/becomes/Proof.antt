@@ -1,7 +1,7 @@
--- `sheet_run::turns::becomes` meets its contract: each arm is told the entry. Assumes nothing.
+-- `sheet_run::entry::becomes` meets its contract: each arm is told the entry. Assumes nothing.
 use borrow.Author.Needs.{needs}
-use Rattle.sheet_run.proofs.turns.becomes.Statement.{statement}
-use Rattle.sheet_run.proofs.turns.becomes.Tie as tie
+use Rattle.sheet_run.proofs.entry.becomes.Statement.{statement}
+use Rattle.sheet_run.proofs.entry.becomes.Tie as tie
 
 pub becomes-spec : {M : Type 1} → statement M
 becomes-spec =

@@ -2,12 +2,13 @@
 ghost use mathlib.Core.Path.{_≡_};
 ghost use mathlib.Core.Bool.{_||_};
 ghost use lib.Dec.{leb};
-ghost use Rattle.model.specs.Refusal.{refusal};
-ghost use Rattle.sheet_run.specs.Uniform.{processOf, haltOf, stepOwn, ownRefusal, changesOf, changed, otherAccess};
+ghost use Rattle.model.specs.Refusal.{processOf};
+ghost use Rattle.sheet_run_laws.specs.Entries.{haltOf, entryRefusal, changesOf, movedTo, otherAccess};
 use model::Access;
 use model::Counts;
 use model::Ending;
 use model::Operation;
+use model::Phase;
 use model::Process;
 
 // The process that the entry names.
@@ -41,19 +42,10 @@ pub(crate) fn halt(budget: usize, k: usize) -> Ending
     }
 }
 
-// 01, "Numbers returned", work, after the process's number.
-pub(crate) fn step_refusal(q: Process, c: Counts) -> u32
-    ensures { λ r. ⌜ r ≡ refusal (stepOwn q c) ⌝ }
-{
-    let phase = q.phase;
-    part_refusals::step_refusal(phase, c)
-}
-
 // Of an entry that is no work turn, its own refusal: "each entry 13 first, then its operation's own order"; 0 for none.
-pub(crate) fn refusal_of(q: Process, c: Counts, e: Operation) -> u32
-    ensures { λ r. ⌜ r ≡ ownRefusal q c e ⌝ }
+pub(crate) fn refusal_of(phase: Phase, c: Counts, e: Operation) -> u32
+    ensures { λ r. ⌜ r ≡ entryRefusal phase c e ⌝ }
 {
-    let phase = q.phase;
     match e {
         Operation::Propose(_, v) => part_refusals::propose_refusal(v, phase),
         Operation::Step(_, _) => part_refusals::step_refusal(phase, c),
@@ -79,7 +71,7 @@ pub(crate) fn changes(decision: u32, e: Operation) -> bool
 // 01, "One turn at a time", proposal, look and crash: what the process becomes where it changes. (The answer for the two entries that change
 // none here, a work turn and a malformed one, is not used.)
 pub(crate) fn becomes(q: Process, decision: u32, e: Operation) -> Process
-    ensures { λ r. ⌜ r ≡ changed q decision e ⌝ }
+    ensures { λ r. ⌜ r ≡ movedTo q decision e ⌝ }
 {
     match e {
         Operation::Propose(_, v) => part_moves::proposed(q, v),
