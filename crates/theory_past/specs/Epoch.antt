@@ -26,6 +26,15 @@ last (flag i ∷ h) j = last h j
 last (commit r v ∷ h) j = last h j
 last (decision p v ∷ h) j = last h j
 
+-- Whether round j is marked: it was flagged.
+abbrev pub isMarked : List Event → ℕ → Bool
+isMarked [] j = false
+isMarked (proposal v ∷ h) j = isMarked h j
+isMarked (write p r v ∷ h) j = isMarked h j
+isMarked (flag i ∷ h) j = cond (eqb i j) true (isMarked h j)
+isMarked (commit r v ∷ h) j = isMarked h j
+isMarked (decision p v ∷ h) j = isMarked h j
+
 -- Process p wrote v to register r, in epoch e.
 pub record Wrote (p r v e : ℕ) (h : List Event) : Type 0 where
   pub before : List Event
