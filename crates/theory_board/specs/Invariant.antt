@@ -1,6 +1,6 @@
 -- The invariant of a session and its past, and the one lemma by which every operation keeps it. Nothing here says that the session is sound:
 -- that stands beside it (`perform-sound`).
-use Prim.Native.Nat.{ℕ, _≤_, _<_}
+use Prim.Native.Nat.{ℕ, _<_}
 use native.Mathlib.Omega.{arith}
 use native.Mathlib.Decide.{ℕ-discrete}
 use mathlib.Core.Path.{_≡_, sym, subst}
@@ -11,7 +11,7 @@ use Rattle.model.specs.declared.Access.{Access}
 use Rattle.model.specs.declared.Process.{Process}
 use Rattle.model.specs.declared.Session.{Session}
 use Rattle.model.specs.Board.{processAt, idle}
-use Rattle.model.specs.Step.{found, written, turn}
+use Rattle.model.specs.Step.{found, turn}
 use Rattle.model_laws.specs.Ranges.{InRange}
 use Rattle.model_laws.specs.Operations.{written-same}
 use Rattle.model_rule.specs.Event.{Event}

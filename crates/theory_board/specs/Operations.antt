@@ -1,9 +1,9 @@
 -- Each accepted operation of the machine, at any window, keeps the invariant: the one lemma, applied.
-use Prim.Native.Nat.{ℕ, zero, suc, _<_}
+use Prim.Native.Nat.{ℕ, zero, suc}
 use native.Mathlib.Omega.{arith}
 use mathlib.Core.Path.{_≡_, refl, sym}
-use mathlib.Core.Bool.{Bool, true, false, not, true≢false}
-use mathlib.Core.List.{List, [], _∷_, _++_}
+use mathlib.Core.Bool.{Bool, true, false, true≢false}
+use mathlib.Core.List.{List, [], _++_}
 use lib.Dec.{ltb}
 use borrow.Author.Tests.{not-false}
 use Rattle.base.specs.Bools.{cond-cases}

@@ -1,6 +1,6 @@
 -- The highest written round, the registers, and what happened in which epoch of a past: the epoch of an event is the highest written
 -- round just after it.
-use Prim.Native.Nat.{ℕ, suc, _+_, _≤_, _<_, max}
+use Prim.Native.Nat.{ℕ, _+_, _≤_, _<_, max}
 use mathlib.Core.Path.{_≡_}
 use mathlib.Core.Bool.{Bool, true, false, cond}
 use mathlib.Core.List.{List, [], _∷_}

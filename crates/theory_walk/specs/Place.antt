@@ -1,8 +1,7 @@
 -- What the phase, round and estimate of a process tell of the past.
-use Prim.Native.Nat.{ℕ, suc, zero, _+_, _-_, _≤_, _<_}
+use Prim.Native.Nat.{ℕ, suc, _+_, _-_, _≤_, _<_}
 use mathlib.Core.Path.{_≡_}
-use mathlib.Core.Bool.{Bool, true, false}
-use mathlib.Core.List.{List, [], _∷_}
+use mathlib.Core.List.{List}
 use Rattle.model.specs.declared.Phase.{Phase}
 use Rattle.model.specs.declared.Phase.the-variants.{Idle, Waiting, Write, Scan, Adopt, Compare, Flag, CheckMark}
 use Rattle.model.specs.declared.Phase.the-variants.{CheckValue, Commit, Exhausted, Crashed, Decided}

@@ -2,7 +2,7 @@
 use Prim.Native.Nat.{ℕ, zero, suc}
 use mathlib.Core.Path.{_≡_, refl}
 use mathlib.Core.Bool.{false, true≢false}
-use mathlib.Core.List.{List, [], _∷_, _++_}
+use mathlib.Core.List.{List, _∷_, _++_}
 use mathlib.Core.Logic.{⊎-elim}
 use borrow.Author.Tests.{ne-eqb}
 use native.Mathlib.Omega.{arith}
@@ -12,7 +12,7 @@ use Rattle.model.specs.declared.Phase.the-variants.{CheckMark, CheckValue, Comm
 use Rattle.model.specs.declared.Process.{Process}
 use Rattle.model.specs.Step.{process, learnt}
 use Rattle.model.specs.Refusal.{status, isOutside}
-use Rattle.model_rule.specs.Event.{Event, proposal, decision, lookEvents, Proposed, DecidedOn}
+use Rattle.model_rule.specs.Event.{Event, proposal, lookEvents, Proposed, DecidedOn}
 use Rattle.model_rule.specs.Event.Past.{here}
 use Rattle.theory_past.specs.Past.{past-before, happened-past, happened-cases, happened-older}
 use Rattle.theory_past.specs.Lawful.{Lawful, IsCommitted, EventsLawful}

@@ -1,5 +1,5 @@
 -- A step of a process: what it adds to the past is lawful, and the process stands where its new phase tells.
-use Prim.Native.Nat.{ℕ, _-_, _≤_, _<_}
+use Prim.Native.Nat.{ℕ, _-_, _<_}
 use mathlib.Core.Path.{_≡_, refl}
 use mathlib.Core.Bool.{Bool, true, false}
 use mathlib.Core.List.{List, [], _∷_, _++_}
@@ -13,7 +13,7 @@ use Rattle.model.specs.Refusal.{status, isOutside}
 use Rattle.model_laws.specs.Phases.{PhaseSound}
 use Rattle.model_rule.specs.Event.{Event, write, flag, commit, stepEvents, DecidedOn}
 use Rattle.theory_past.specs.Past.{happened-older}
-use Rattle.theory_past.specs.Lawful.{WriteLawful, Lawful, EventsLawful}
+use Rattle.theory_past.specs.Lawful.{Lawful, EventsLawful}
 use Rattle.theory_walk.specs.Place.{Found, Placed, PlacedAt, Stands}
 use Rattle.theory_walk.specs.Stays.{SpareAll}
 use Rattle.theory_walk.specs.Climb.{waiting-placed, scan-placed, adopt-placed}
