@@ -46,7 +46,7 @@ module _ {W n L : ℕ} (wide : 1 ≤ W) where
           Reached W n L (a .session) (ifAccepted (a .code) (eventsOf (processAt s (processOf o)) (s .decision) o) ++ h)
       go zero e =
           let a = accepted s c o e in
-          let same = after-same W wide s c o (i .sound) in
+          let same = after-same W s o in
           record {
             sound = after-sound W wide s c o (i .sound) a;
             size = same .0 ∙ i .size;
