@@ -1,18 +1,35 @@
 #!/usr/bin/env bash
-# Calls the entry from C: the example of examples/, whose output is compared, and the checks of c_entry.c.
+# Calls the library from C: the header in each language that it is for, the example of examples/, whose output is compared, and
+# the checks of c_*.c.
 set -euo pipefail
 cd "$(dirname "$0")/.."
 
 rt staticlib janus
-mkdir -p target/tests
+out=target/tests
+archive=target/staticlib/libjanus.a
+mkdir -p "$out"
+strict=(-Wall -Wextra -Wpedantic -Werror -Iinclude)
 
-# SOURCE: compiled and linked with the archive, as target/tests/NAME.
+# What the archive has: its own functions and their constants, no data that can be written, and two names that it asks for.
+odd=$(nm "$archive" | grep -E '.' | grep -vE '^janus\.o:$| T janus_(run|report)$| U mem(cpy|set)$| [rt] ' || true)
+[[ -z $odd ]] || { echo "c entry: FAILED: the archive has: $odd" >&2; exit 1; }
+
+# The header alone, included twice, and the example, in each language.
+printf '#include "janus.h"\n#include "janus.h"\n' >"$out/header.c"
+for language in "gcc -std=c99" "gcc -std=c11" "gcc -std=c17" "g++ -std=c++11 -x c++" "g++ -std=c++17 -x c++"; do
+    read -ra compile <<<"$language"
+    "${compile[@]}" "${strict[@]}" -fsyntax-only "$out/header.c"
+    "${compile[@]}" "${strict[@]}" -c examples/run_sheet.c -o "$out/run_sheet.o"
+    "${compile[0]}" "$out/run_sheet.o" "$archive" -o "$out/run_sheet"
+    "$out/run_sheet" | diff tests/c_entry.expected -
+done
+
+# NAME WORDS: the checks of tests/NAME.c, compiled with the words and linked with the archive, as target/tests/NAME.
 build() {
-    gcc -std=c11 -Wall -Wextra -Werror -fsanitize=address,undefined -g -Iinclude \
-        "$1" target/staticlib/libjanus.a -o "target/tests/$(basename "$1" .c)"
+    gcc -std=c11 "${strict[@]}" -g "${@:2}" "tests/$1.c" "$archive" -o "$out/$1"
 }
+sanitized=(-fsanitize=address,undefined)
 
-build examples/run_sheet.c
-build tests/c_entry.c
-target/tests/run_sheet | diff tests/c_entry.expected -
-target/tests/c_entry
+build c_entry "${sanitized[@]}"
+"$out/c_entry"
+
