@@ -33,3 +33,9 @@ sanitized=(-fsanitize=address,undefined)
 build c_entry "${sanitized[@]}"
 "$out/c_entry"
 
+build c_decision -O1
+"$out/c_decision" >"$out/table.txt"
+while IFS= read -r row; do
+    grep -qxF -- "$row" include/janus.h || { echo "c decision: FAILED: include/janus.h has no line: $row" >&2; exit 1; }
+done <"$out/table.txt"
+
