@@ -39,3 +39,5 @@ while IFS= read -r row; do
     grep -qxF -- "$row" include/janus.h || { echo "c decision: FAILED: include/janus.h has no line: $row" >&2; exit 1; }
 done <"$out/table.txt"
 
+build c_stack -O1 -pthread -Wl,-z,lazy
+"$out/c_stack"
