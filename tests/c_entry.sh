@@ -39,5 +39,19 @@ while IFS= read -r row; do
     grep -qxF -- "$row" include/janus.h || { echo "c decision: FAILED: include/janus.h has no line: $row" >&2; exit 1; }
 done <"$out/table.txt"
 
-build c_stack -O1 -pthread -Wl,-z,lazy
+# janus_report is tested where the archive has it.
+report=()
+if nm "$archive" | grep -q ' T janus_report$'; then
+    report=(-DHAS_REPORT)
+    build c_report "${sanitized[@]}"
+    "$out/c_report"
+    rt check board_report >"$out/log"
+    for sheet in examples/*.sheet; do
+        "$out/c_report" text <"$sheet" | cmp - <(target/bin/board_report <"$sheet")
+    done
+else
+    echo "c report: the archive has no janus_report: not tested"
+fi
+
+build c_stack -O1 "${report[@]}" -pthread -Wl,-z,lazy
 "$out/c_stack"
