@@ -4,7 +4,7 @@
 #
 # usage: ./install.sh PREFIX
 set -euo pipefail
-if [[ $# -ne 1 || -z $1 ]]; then
+if [[ $# -ne 1 || -z $1 || $1 == -* ]]; then
     echo "install.sh: one folder to install to is needed: ./install.sh PREFIX" >&2
     exit 2
 fi
@@ -19,7 +19,7 @@ install -d "$prefix/include" "$prefix/lib/pkgconfig"
 install -m 644 include/janus.h "$prefix/include/janus.h"
 install -m 644 target/staticlib/libjanus.a "$prefix/lib/libjanus.a"
 cat >"$prefix/lib/pkgconfig/janus.pc" <<END
-prefix=$prefix
+prefix=${prefix// /\\ }
 includedir=\${prefix}/include
 libdir=\${prefix}/lib
 

@@ -11,9 +11,9 @@ enum { SEATS = 2, HEADER = 8 };
 static uint8_t sheet[JANUS_SHEET_MAX];
 static size_t length = HEADER;
 
-static void put_number(size_t at, uint32_t number, int bytes)
+static void put_number(size_t at, uint32_t number, size_t bytes)
 {
-    for (int i = 0; i < bytes; i++)
+    for (size_t i = 0; i < bytes; i++)
         sheet[at + i] = (uint8_t)(number >> (8 * i));
 }
 

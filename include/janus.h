@@ -131,10 +131,11 @@ size_t janus_report(const uint8_t *sheet, size_t sheet_length, uint8_t *buffer, 
  * keeps data of its own on a thread's stack: a thread of 16 KB crashed in its first call. Give a thread JANUS_THREAD_STACK and
  * what your own functions take. A call on a stack that is too short ends in the guard page, if there is one, never beyond it.
  *
- * LINKING. ./install.sh PREFIX builds and installs header, archive and janus.pc: cc server.c $(pkg-config --cflags --libs janus).
- * The code is position-independent and runs on every x86-64 processor. Where it becomes part of a shared library, the option
- * -Wl,--exclude-libs,libjanus.a keeps its names from being exported again. There are no unwind tables and no debug information: a
- * backtrace ends in these functions, and a C++ exception cannot pass through them. None needs to, as they call nothing back.
+ * LINKING. ./install.sh PREFIX builds the archive and installs it, this header and PREFIX/lib/pkgconfig/janus.pc. Then, with
+ * PKG_CONFIG_PATH=PREFIX/lib/pkgconfig: cc server.c $(pkg-config --cflags --libs janus). The code is position-independent and
+ * uses the instructions that every x86-64 processor has. Linked into a shared library, -Wl,--exclude-libs,libjanus.a keeps its
+ * names from being exported by that library. There are no unwind tables and no debug information: a backtrace ends in these
+ * functions, and a C++ exception cannot pass through them. None needs to, as they call nothing back.
  */
 #define JANUS_STACK 32768
 #define JANUS_THREAD_STACK 65536
@@ -147,9 +148,10 @@ static inline const char *janus_result_text(uint32_t number)
         return words;
     switch (number) {
         JANUS_RESULTS(JANUS_RESULT_WORDS)
+    default:
+        return "not a number that janus_run returns";
     }
 #undef JANUS_RESULT_WORDS
-    return "not a number that janus_run returns";
 }
 
 /*

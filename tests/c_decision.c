@@ -66,11 +66,11 @@ static void table(void)
 /* A board in use: at most one round is filled for two turns taken, a read and a write. */
 static void used_board(void)
 {
-    const unsigned before = any(200), filled = before / 2;
+    const unsigned before = any(200), most_filled = before / 2;
     const uint8_t n = (uint8_t)(1 + any(JANUS_SEATS_MAX)), seat = (uint8_t)any(n);
     const unsigned w = janus_window(n);
     contend(n, JANUS_ROUNDS_MAX, before);
-    work(seat, (w + 2) * (4 * w + 4) + filled);
+    work(seat, (w + 2) * (4 * w + 4) + most_filled);
     add(JANUS_LOOK, seat, 0);
     check(run() == JANUS_FINISHED && number_at(buffer, seat) != 0, "alone on a board in use", "decided");
 }

@@ -308,6 +308,13 @@ static void words(void)
     check(strcmp(janus_result_text(JANUS_BLANK_PROPOSAL), "proposal of 0") == 0, "the words of 5", "as in the table");
 }
 
+static void version(void)
+{
+    char text[16];
+    snprintf(text, sizeof text, "%d.%d", JANUS_VERSION_MAJOR, JANUS_VERSION_MINOR);
+    check(strcmp(text, JANUS_VERSION) == 0, "the version", "is its two numbers");
+}
+
 int main(void)
 {
     openings();
@@ -325,6 +332,7 @@ int main(void)
     agreement();
     last_seat();
     words();
+    version();
     printf("c entry: %u checks passed\n", passed);
     return 0;
 }

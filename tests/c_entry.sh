@@ -14,8 +14,14 @@ strict=(-Wall -Wextra -Wpedantic -Werror -Iinclude)
 odd=$(nm "$archive" | grep -E '.' | grep -vE '^janus\.o:$| T janus_(run|report)$| U mem(cpy|set)$| [rt] ' || true)
 [[ -z $odd ]] || { echo "c entry: FAILED: the archive has: $odd" >&2; exit 1; }
 
-# The header alone, included twice, and the example, in each language.
-printf '#include "janus.h"\n#include "janus.h"\n' >"$out/header.c"
+# The header alone, included twice, and the example, in each language. C++ knows that nothing is thrown.
+cat >"$out/header.c" <<'END'
+#include "janus.h"
+#include "janus.h"
+#ifdef __cplusplus
+static_assert(noexcept(janus_run(nullptr, 0, 0, nullptr, 0)) && noexcept(janus_report(nullptr, 0, nullptr, 0)), "noexcept");
+#endif
+END
 for language in "gcc -std=c99" "gcc -std=c11" "gcc -std=c17" "g++ -std=c++11 -x c++" "g++ -std=c++17 -x c++"; do
     read -ra compile <<<"$language"
     "${compile[@]}" "${strict[@]}" -fsyntax-only "$out/header.c"

@@ -68,7 +68,7 @@ static void *reports(void *unused)
 }
 #endif
 
-/* A sheet of random bytes behind an honest header, so that every kind of entry and refusal comes up. */
+/* Seats in each other's way, then a look and a crash; now and then a byte of the header is another. */
 static void any_sheet(void)
 {
     const uint8_t n = (uint8_t)(1 + any(JANUS_SEATS_MAX));

@@ -7,30 +7,30 @@ room=$(mktemp -d)
 trap 'rm -rf "$room"' EXIT
 fail() { echo "install: FAILED: $1" >&2; exit 1; }
 
-for words in "" "one two"; do
+for words in "" "one two" --help; do
     # shellcheck disable=SC2086  # the words are arguments
     if said=$(./install.sh $words 2>&1); then fail "arguments '$words' were taken"; fi
     [[ $said == *"./install.sh PREFIX"* ]] || fail "arguments '$words': $said"
 done
 
-./install.sh "$room/made"
-(cd "$room" && find made -type f | sort) | diff - <(printf 'made/%s\n' include/janus.h lib/libjanus.a lib/pkgconfig/janus.pc)
+./install.sh "$room/a prefix"
 cp examples/run_sheet.c "$room/example.c"
 cp tests/c_entry.expected "$room/expected"
 cd "$room"
+pc="a prefix/lib/pkgconfig/janus.pc"
+find "a prefix" -type f | sort | diff - <(printf 'a prefix/%s\n' include/janus.h lib/libjanus.a lib/pkgconfig/janus.pc)
 
-# A field of the pkg-config file with its variables replaced, as pkg-config gives it.
-pc=made/lib/pkgconfig/janus.pc
-variable() { sed -n "s/^$1=//p" "$pc"; }
+# The words of a field of the pkg-config file, one to a line. Its variables and words are written as the shell's are.
 field() {
-    sed -n "s/^$1: //p" "$pc" |
-        sed "s|\${includedir}|$(variable includedir)|; s|\${libdir}|$(variable libdir)|; s|\${prefix}|$(variable prefix)|"
+    local IFS=
+    eval "$(grep '^[a-z]*=' "$pc")"
+    eval "printf '%s\n' $(sed -n "s/^$1: //p" "$pc")"
 }
-read -ra cflags <<<"$(field Cflags)"
-read -ra libs <<<"$(field Libs)"
+mapfile -t cflags < <(field Cflags)
+mapfile -t libs < <(field Libs)
 if command -v pkg-config >/dev/null; then
-    export PKG_CONFIG_PATH=made/lib/pkgconfig
-    read -ra said <<<"$(pkg-config --cflags --libs janus)"
+    export PKG_CONFIG_PATH="a prefix/lib/pkgconfig"
+    eval "said=($(pkg-config --cflags --libs janus))"
     [[ ${said[*]} == "${cflags[*]} ${libs[*]}" ]] || fail "pkg-config says ${said[*]}"
     [[ $(pkg-config --modversion janus) == "$(field Version)" ]] || fail "pkg-config says another version"
 fi
