@@ -3,7 +3,7 @@
  * longer. Ends at the first failure.
  *
  * usage: c_report              the checks
- *        c_report text <SHEET  the report of the sheet on standard input, to compare with that of the program
+ *        c_report text <SHEET  the report of the sheet on standard input, to compare with another program's
  */
 #include "c_sheet.h"
 
