@@ -22,9 +22,9 @@ use std::sync::mpsc::{channel, Receiver, RecvTimeoutError};
 use std::time::{Duration, Instant, SystemTime, UNIX_EPOCH};
 
 use janus_reference::runner::BUFFER;
-use janus_reference::schedule::MAX_BYTES;
+use janus_reference::sheet::MAX_BYTES;
 use janus_reference::{
-    entry, window, Access, Counts, Operation, Phase, Process, Refusal, Schedule, Session,
+    entry, window, Access, Counts, Operation, Phase, Process, Refusal, Session, Sheet,
 };
 
 // ---------------------------------------------------------------- the library
@@ -595,8 +595,8 @@ struct Case {
     buffer: usize,
 }
 
-fn entries_of(sheet: &[u8]) -> u64 {
-    Schedule::read(sheet).map_or(0, |schedule| schedule.entries().count() as u64)
+fn entries_of(bytes: &[u8]) -> u64 {
+    Sheet::read(bytes).map_or(0, |sheet| sheet.entries().count() as u64)
 }
 
 impl Case {
@@ -819,20 +819,20 @@ impl Coverage {
     }
 
     /// Runs the sheet once more, entry by entry, noting what it reaches.
-    fn observe(&mut self, sheet: &[u8], budget: u64) {
-        let schedule = match Schedule::read(sheet) {
-            Ok(schedule) => schedule,
-            Err(refusal) => return self.sheet_refused(sheet, refusal),
+    fn observe(&mut self, bytes: &[u8], budget: u64) {
+        let sheet = match Sheet::read(bytes) {
+            Ok(sheet) => sheet,
+            Err(refusal) => return self.sheet_refused(bytes, refusal),
         };
         let mut observer = Observer {
-            session: schedule.open(),
+            session: sheet.open(),
             counts: Counts::default(),
             seen: [0; 64],
         };
         let least = observer.session.limit == window(observer.session.n);
         self.least[observer.session.n] += u64::from(least);
-        let (mut done, total) = (0, schedule.entries().count() as u64);
-        for entry in schedule.entries() {
+        let (mut done, total) = (0, sheet.entries().count() as u64);
+        for entry in sheet.entries() {
             if done == budget {
                 self.note(Event::BudgetEnded);
                 self.note_if(budget == 0, Event::BudgetZero);
@@ -898,7 +898,7 @@ impl Coverage {
         self.below[n] += u64::from(limit + 1 == window(n));
         let mut opened = sheet.to_vec();
         opened[2..4].copy_from_slice(&256u16.to_le_bytes());
-        let next = Schedule::read(&opened).err();
+        let next = Sheet::read(&opened).err();
         self.note_if(next == Some(Refusal::Pairs), Event::TwoFirst);
     }
 
@@ -954,7 +954,7 @@ impl Coverage {
             255 => Event::Buffer255,
             _ => Event::Buffer257,
         });
-        let refused = Schedule::read(&case.sheet).is_err();
+        let refused = Sheet::read(&case.sheet).is_err();
         self.note_if(refused, Event::FifteenFirst);
     }
 }
@@ -1203,7 +1203,10 @@ const REPORT: &str = "BOARD_REPORT";
 /// since it may write before it has read all.
 fn reported(program: &OsStr, sheet: &[u8]) -> io::Result<Vec<u8>> {
     let pipes = (Stdio::piped(), Stdio::piped());
-    let mut child = Command::new(program).stdin(pipes.0).stdout(pipes.1).spawn()?;
+    let mut child = Command::new(program)
+        .stdin(pipes.0)
+        .stdout(pipes.1)
+        .spawn()?;
     let mut input = child.stdin.take().expect("the input is a pipe");
     let sheet = sheet.to_vec();
     let writer = std::thread::spawn(move || input.write_all(&sheet));
