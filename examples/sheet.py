@@ -135,9 +135,12 @@ def read(name):
 
 def write(name, data):
     """Writes all bytes to a file, or to standard output."""
-    target = 1 if name == "-" else os.open(name, os.O_WRONLY | os.O_CREAT | os.O_TRUNC, 0o666)
-    while data:
-        data = data[os.write(target, data):]
+    try:
+        target = 1 if name == "-" else os.open(name, os.O_WRONLY | os.O_CREAT | os.O_TRUNC, 0o666)
+        while data:
+            data = data[os.write(target, data):]
+    except OSError as error:
+        raise Wrong(f"{shown(name, 'standard output')}: {error.strerror}") from None
 
 
 def convert(source, target):
@@ -152,10 +155,7 @@ def convert(source, target):
         raise Wrong(f"{shown(source)}: {error.strerror}") from None
     except Wrong as wrong:
         raise Wrong(f"{shown(source)}: {wrong}") from None
-    try:
-        write(target, data)
-    except OSError as error:
-        raise Wrong(f"{shown(target, 'standard output')}: {error.strerror}") from None
+    write(target, data)
 
 
 def shown(name, standard="standard input"):
@@ -165,15 +165,19 @@ def shown(name, standard="standard input"):
 
 def main(arguments):
     """The exit code: 0, 1 for a list, file or disk that will not do, 2 for wrong arguments."""
-    if arguments in (["--help"], ["-h"]):
-        print(__doc__.strip())
-        return 0
+    if len(arguments) == 1 and arguments[0] in ("--help", "-h"):
+        return told(lambda: write("-", f"{__doc__.strip()}\n".encode()))
     if len(arguments) > 2 or any(word.startswith("-") and word != "-" for word in arguments):
         print(f"sheet.py: {' '.join(arguments)}: a list and a sheet are named at most; try --help", file=sys.stderr)
         return 2
     source, target = (arguments + ["-", "-"])[:2]
+    return told(lambda: convert(source, target))
+
+
+def told(act):
+    """Does it, and tells what goes wrong in a line: the exit code."""
     try:
-        convert(source, target)
+        act()
     except Wrong as wrong:
         print(f"sheet.py: {wrong}", file=sys.stderr)
         return 1
