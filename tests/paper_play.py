@@ -47,6 +47,9 @@ class Turn:
 
 # ---------------------------------------------------------------- words that name a number
 
+NAMES = ["n", "L", "W", "r", "k", "i", "the seat's number", "the number proposed"]
+
+
 def value(words):
     """What gives the number of `A`, `A + B` or `A − B` in a turn."""
     first, sign, last = re.fullmatch(r"(.+?)(?: ([+−]) (\w+))?", words).groups()
@@ -62,6 +65,8 @@ def term(word):
     """What gives the number of a digit, or the one that the word names."""
     if word.isdigit():
         return lambda turn: int(word)
+    if word not in NAMES:
+        raise ValueError(f"paper_rules.py: nobody knows this number: {word}")
     return lambda turn: turn.names[word]
 
 
@@ -114,46 +119,36 @@ def shown(held):
     return str(held or "blank")
 
 
-def read(row, place):
-    """Reads T[place], C[place] or D."""
-    def act(turn):
-        at = place(turn)
-        turn.found = turn.play.board[row].get(at, BLANK[row])
-        turn.register = f"{name(row, at)} read {shown(turn.found)}"
-        turn.made.append("read")
-    return act
+def read(turn, row, at):
+    """Reads a register."""
+    turn.found = turn.play.board[row].get(at, BLANK[row])
+    return f"read {shown(turn.found)}", ["read"]
 
 
-def write(row, place):
-    """Writes the own value to T[place] or D."""
-    def act(turn):
-        at = place(turn)
-        turn.play.board[row][at] = turn.seat.own
-        turn.register = f"{name(row, at)} written {turn.seat.own}"
-        turn.made.append("write")
-    return act
+def write(turn, row, at):
+    """Writes the own value to a register."""
+    turn.play.board[row][at] = turn.seat.own
+    return f"written {turn.seat.own}", ["write"]
 
 
-def mark(row, place):
-    """Marks C[place]."""
-    def act(turn):
-        at = place(turn)
-        turn.made += ["mark"] if turn.play.board[row].get(at) else ["mark", "mark of an unmarked round"]
-        turn.play.board[row][at] = True
-        turn.register = f"{name(row, at)} marked"
-    return act
+def mark(turn, row, at):
+    """Marks a register."""
+    first = not turn.play.board[row].get(at)
+    turn.play.board[row][at] = True
+    return "marked", ["mark", "mark of an unmarked round"][:1 + first]
 
 
-def name(row, at):
-    """A register's name."""
-    return row if at is None else f"{row}[{at}]"
+def register(use):
+    """For words that end in a register, T[..], C[..] or D: what uses it, and tells so."""
+    def make(row, place):
+        place = value(place[1:-1]) if place else lambda turn: None
 
-
-def register(make):
-    """For words that end in a register: T[..], C[..] or D."""
-    def act(row, place):
-        return make(row, value(place[1:-1]) if place else lambda turn: None)
-    return act
+        def act(turn):
+            at = place(turn)
+            told, turn.made = use(turn, row, at)
+            turn.register = f"{row if at is None else f'{row}[{at}]'} {told}"
+        return act
+    return make
 
 
 def own(turn, number):

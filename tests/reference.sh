@@ -14,9 +14,8 @@ python3 tests/paper_lists.py
 out=target/tests/wrong
 mkdir -p "$out"
 echo 'unsigned janus_run(void) { return 0; }' | gcc -x c -c - -o "$out/janus.o"
-ar rcs "$out/libjanus.a" "$out/janus.o"
 rustc --edition 2021 --crate-name differential --extern janus_reference=target/reference/libjanus_reference.rlib \
-    -L native="$out" -l static=janus reference/differential.rs -o "$out/differential"
+    -C link-arg="$out/janus.o" reference/differential.rs -o "$out/differential"
 (cd "$out" && ! ./differential 50 1 >differential.log)
 grep -q '^difference: seed 1 index ' "$out/differential.log"
 echo "differential: a library that always answers 0 is found in 50 sheets"
