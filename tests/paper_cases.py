@@ -6,8 +6,8 @@
 
 A table stands between `<!-- NAME -->` and `<!-- end -->`. `rules`, `turns`, `refusals`, `counts` and `windows` are
 made of paper_rules.py; `case NAME` has the turns of examples/NAME.sheet, played by those rules, and each of its lines must be the
-trace's; `form` is the same table with nothing in it. In docs/walk.svg an arrow is an element with data-from and data-to; arrows
-and their words must be those of the rules.
+trace's; `form` is the same table with nothing in it. In docs/walk.svg a box is an element with data-stance, an arrow one with
+data-from and data-to; boxes, arrows and their words must be those of the rules.
 """
 import re
 import subprocess
@@ -172,21 +172,31 @@ def ruled_arrows():
             yield at, to, ": ".join(filter(None, [words, stance * (stance not in (to, "as before"))]))
 
 
-def drawn_arrows():
-    """From, to and words of each arrow of the picture."""
+def ruled_boxes():
+    """Stance and words of each box: its name, and what is done there."""
+    ats = dict.fromkeys([*STANCES, *(row[0] for row in RULES)])
+    for at in ats:
+        done = {turn: does for row_at, turn, _, does, _ in RULES if row_at == at and (does or turn != "work")}
+        words = "; ".join(f"{turn}: {does or 'nothing'}" for turn, does in done.items() if turn != "propose")
+        yield at, f"{at} {words.removeprefix('work: ')}".strip()
+
+
+def drawn(*names):
+    """The attributes of those names, and the words, of each element of the picture that has them."""
     for element in xml.etree.ElementTree.parse(PICTURE).iter():
-        if "data-from" in element.attrib:
+        if names[0] in element.attrib:
             words = " ".join(" ".join(element.itertext()).split())
-            yield element.attrib["data-from"], element.attrib["data-to"], words
+            yield *[element.attrib[name] for name in names], words
 
 
 def check_picture():
-    """Fails if the picture's arrows are not those of the rules."""
-    ruled, drawn = sorted(ruled_arrows()), sorted(drawn_arrows())
-    for arrow in ruled + drawn:
-        if ruled.count(arrow) != drawn.count(arrow):
-            sys.exit(f"paper cases: {drawn.count(arrow)} times on docs/walk.svg, {ruled.count(arrow)} times in the rules: {arrow}")
-    return len(drawn)
+    """Fails if the picture's boxes and arrows are not those of the rules; how many arrows there are."""
+    ruled = [*ruled_boxes(), *ruled_arrows()]
+    seen = [*drawn("data-stance"), *drawn("data-from", "data-to")]
+    for one in ruled + seen:
+        if ruled.count(one) != seen.count(one):
+            sys.exit(f"paper cases: {seen.count(one)} times on docs/walk.svg, {ruled.count(one)} times in the rules: {one}")
+    return sum(len(one) == 3 for one in seen)
 
 
 def main():
