@@ -61,20 +61,21 @@ impl Operation {
 
 /// A sheet whose header, pairs and runs are in order. (01: turn sheet.)
 #[derive(Clone, Copy)]
-pub struct Schedule<'a> {
-    sheet: &'a [u8],
+pub struct Sheet<'a> {
+    bytes: &'a [u8],
     pairs: &'a [u8],
     n: usize,
     limit: usize,
 }
 
-impl<'a> Schedule<'a> {
-    /// Reads a sheet. (01, order: 10, 1, 2, 11 over all pairs, 12 over all runs.)
-    pub fn read(sheet: &'a [u8]) -> Result<Schedule<'a>, Refusal> {
-        let &[n, p, limit_low, limit_high, ref rest @ ..] = sheet else {
+impl<'a> Sheet<'a> {
+    /// Reads a sheet's bytes. (01, order: 10, 1, 2, 11 over all pairs, 12 over all
+    /// runs.)
+    pub fn read(bytes: &'a [u8]) -> Result<Sheet<'a>, Refusal> {
+        let &[n, p, limit_low, limit_high, ref rest @ ..] = bytes else {
             return Err(Refusal::Sheet);
         };
-        if sheet.len() > MAX_BYTES || p > MAX_PAIRS {
+        if bytes.len() > MAX_BYTES || p > MAX_PAIRS {
             return Err(Refusal::Sheet);
         }
         let Some(pairs) = rest.get(..PAIR * usize::from(p)) else {
@@ -83,15 +84,15 @@ impl<'a> Schedule<'a> {
         let n = usize::from(n);
         let limit = usize::from(u16::from_le_bytes([limit_low, limit_high]));
         check_opening(n, limit)?;
-        let schedule = Schedule {
-            sheet,
+        let sheet = Sheet {
+            bytes,
             pairs,
             n,
             limit,
         };
-        schedule.check_pairs()?;
-        schedule.check_lengths()?;
-        Ok(schedule)
+        sheet.check_pairs()?;
+        sheet.check_lengths()?;
+        Ok(sheet)
     }
 
     /// Offset and length of each run.
@@ -109,7 +110,7 @@ impl<'a> Schedule<'a> {
     fn check_pairs(&self) -> Result<(), Refusal> {
         let mut free = HEADER + self.pairs.len();
         for (offset, length) in self.spans() {
-            if offset < free || offset + length > self.sheet.len() {
+            if offset < free || offset + length > self.bytes.len() {
                 return Err(Refusal::Pairs);
             }
             free = offset + length;
@@ -135,9 +136,9 @@ impl<'a> Schedule<'a> {
     /// The bytes of each run.
     #[inline]
     pub fn runs(&self) -> impl Iterator<Item = &'a [u8]> + 'a {
-        let sheet = self.sheet;
+        let bytes = self.bytes;
         self.spans()
-            .map(move |(offset, length)| &sheet[offset..offset + length])
+            .map(move |(offset, length)| &bytes[offset..offset + length])
     }
 
     /// The bytes of each entry, over all runs.
