@@ -15,7 +15,7 @@ refuse() {
 (($# <= 1)) || refuse "one sheet at a time; this is too much: ${*:2}"
 [[ -e $sheet ]] || refuse "$sheet: there is no such file"
 [[ -r $sheet && ! -d $sheet ]] || refuse "$sheet: this is no file that can be read"
-[[ $sheet != *.txt ]] || refuse "$sheet is a list in words; make a sheet of it: $root/examples/sheet.py $sheet ${sheet%.txt}.sheet"
+[[ $sheet != *.txt ]] || refuse "$sheet is a list in words; make a sheet of it: $(dirname "$0")/sheet.py $sheet ${sheet%.txt}.sheet"
 
 echo "report.sh: proving and building $program where it changed; the first time takes some two minutes" >&2
 log=$(mktemp)

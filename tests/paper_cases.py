@@ -15,6 +15,7 @@ import sys
 import xml.etree.ElementTree
 from pathlib import Path
 
+sys.dont_write_bytecode = True
 from paper_lists import LISTS
 from paper_play import HEADS, ROWS, Play, Turn, numbered, shown
 from paper_rules import COUNTS, MOST_SEATS, REFUSALS, RULES, STANCES, WINDOW, window

@@ -11,13 +11,13 @@ import sys
 from collections import Counter
 from pathlib import Path
 
-from paper_play import Play
-from paper_rules import MOST_SEATS, REFUSALS, RULES, window
-
 ROOT = Path(__file__).resolve().parent.parent
 PROGRAM = ROOT / "target" / "reference" / "reference"
-sys.path.insert(0, str(ROOT / "examples"))
-import sheet  # noqa: E402
+sys.dont_write_bytecode = True
+sys.path.append(str(ROOT / "examples"))
+import sheet
+from paper_play import Play
+from paper_rules import MOST_SEATS, REFUSALS, RULES, window
 
 LISTS, SEED = 3000, 1
 MOST_TURNS = 130
