@@ -37,16 +37,13 @@ promised-operate s c (Crash p) a c′ e =
     rw (e .0, e .1) (stepped-counts (codeOf s c (Crash p)) s (after (window (s .n)) s (Crash p)) noCounts c)
 promised-operate s c Malformed a c′ e = absurd e
 
--- A call that was given the machine's session answers as the machine does, and not 3.
+-- A session that the machine reached, at its own window: every operation answers as the machine does, and not 3.
 module _ {n L : ℕ} {m : Session} {h : List Event} (i : Reached (window n) n L m h) (f : Input) where
-  pub call-as-machine : (a : Changed) (c′ : Counts) → Promised m (f .counts) (f .operation) a c′ →
-      withCounts a c′ ≡ perform (window n) m (f .counts) (f .operation)
+  pub operate-reached : operate m (f .counts) (f .operation) ≡ perform (window n) m (f .counts) (f .operation)
   unfolding sound
-  call-as-machine a c′ e =
+  operate-reached =
       let w : window (m .n) ≡ window n = ap window (i .size) in
-      promised-operate m (f .counts) (f .operation) a c′ e
-      ∙ operate-sound m (f .counts) (f .operation) (rw w (i .sound))
-      ∙ rw w
+      operate-sound m (f .counts) (f .operation) (rw w (i .sound)) ∙ rw w
 
   pub never-unsound : perform (window n) m (f .counts) (f .operation) .code ≡ 3 → ⊥
   unfolding perform answered
@@ -60,8 +57,9 @@ followed {n} {L} {start} wide i (call {cs} {s} run c promised) =
     let f = followed wide i run in
     let m = machine-reached wide i (inputs cs) in
     let e =
-    call-as-machine m (c .input) (c .answer) (c .after)
-    (subst (λ (x : Session). Promised x (c .input .counts) (c .input .operation) (c .answer) (c .after)) (f .1) promised) in
+    promised-operate (machine (window n) start (inputs cs)) (c .input .counts) (c .input .operation) (c .answer) (c .after)
+    (subst (λ (x : Session). Promised x (c .input .counts) (c .input .operation) (c .answer) (c .after)) (f .1) promised)
+    ∙ operate-reached m (c .input) in
     ((e, λ three. never-unsound m (c .input) (sym (ap (λ (x : Stepped). x .code) e) ∙ three), f .0), ap (λ (x : Stepped). x .session) e)
 
 -- An accepted opening.

@@ -11,7 +11,7 @@ use Rattle.model.specs.declared.Process.{Process}
 use Rattle.model.specs.Step.{accessAt, access, nextAt, next}
 use Rattle.model.specs.Refusal.{status, isOutside}
 use Rattle.model_laws.specs.Phases.{PhaseSound}
-use Rattle.model_rule.specs.Event.{Event, write, flag, commit, stepEvents, DecidedOn}
+use Rattle.model_rule.specs.Event.{Event, proposal, write, flag, commit, decision, stepEvents, Happened}
 use Rattle.theory_past.specs.Past.{happened-older}
 use Rattle.theory_past.specs.Lawful.{Lawful, EventsLawful}
 use Rattle.theory_walk.specs.Place.{Found, Placed, PlacedAt, Stands}
@@ -41,7 +41,7 @@ step-placed L p r v Crashed leader x s l a f = a
 step-placed L p r v Decided leader x s l a f = a
 
 -- What holds of no event, and of the event of each phase that has one, holds of the events of a step.
-step-cases : (P : Phase → List Event → Type 0) (p r v : ℕ) → ((φ : Phase) → P φ []) → P Write (write p r v ∷ []) →
+pub step-cases : (P : Phase → List Event → Type 0) (p r v : ℕ) → ((φ : Phase) → P φ []) → P Write (write p r v ∷ []) →
     ((i : ℕ) → P (Flag i) (flag (r - i) ∷ [])) → P Commit (commit r v ∷ []) → (φ : Phase) → P φ (stepEvents p r v φ)
 step-cases P p r v none w f c Idle = none Idle
 step-cases P p r v none w f c Waiting = none Waiting
@@ -76,14 +76,23 @@ step-lawful W {n} L p r v φ h q =
 pub step-spares : (o p r v : ℕ) (φ : Phase) → (o ≡ p → ⊥) → SpareAll o (stepEvents p r v φ)
 step-spares o p r v φ other = step-cases (λ φ es. SpareAll o es) p r v (λ φ. tt) (other, tt) (λ i. (tt, tt)) (tt, tt) φ
 
--- And no decision.
-step-decides-none : (p r v u : ℕ) (φ : Phase) (h : List Event) → DecidedOn p u (stepEvents p r v φ ++ h) → DecidedOn p u h
-step-decides-none p r v u φ h =
-    step-cases (λ φ es. DecidedOn p u (es ++ h) → DecidedOn p u h) p r v
+-- An event of the kinds that a step has.
+abbrev pub OfStep : Event → Type 0
+OfStep (proposal v) = ⊥
+OfStep (write p r v) = Unit {0}
+OfStep (flag j) = Unit {0}
+OfStep (commit r v) = Unit {0}
+OfStep (decision p v) = ⊥
+
+-- Another one is older than the step.
+pub step-older : (x : Event) (p r v : ℕ) (φ : Phase) {h : List Event} → (OfStep x → ⊥) →
+    Happened x (stepEvents p r v φ ++ h) → Happened x h
+step-older x p r v φ {h} other =
+    step-cases (λ φ es. Happened x (es ++ h) → Happened x h) p r v
     (λ φ d. d)
-    (λ d. happened-older (λ e. let z : _≡_ {A = ℕ} 0 1 = cc in omega arith) d)
-    (λ i d. happened-older (λ e. let z : _≡_ {A = ℕ} 0 1 = cc in omega arith) d)
-    (λ d. happened-older (λ e. let z : _≡_ {A = ℕ} 0 1 = cc in omega arith) d)
+    (λ d. happened-older (λ e. other (rw (← e) tt)) d)
+    (λ i d. happened-older (λ e. other (rw (← e) tt)) d)
+    (λ d. happened-older (λ e. other (rw (← e) tt)) d)
     φ
 
 -- A process that is not decided stands, after its step, where it should.
@@ -94,5 +103,5 @@ unfolding access next
 step-stands L p q leader x {h} not s l a f =
     record {
       placed = step-placed L p (q .round) (q .estimate) (q .phase) leader x s l (a .placed) f;
-      decided = λ v d. absurd (not (a .decided v (step-decides-none p (q .round) (q .estimate) v (q .phase) h d) .0));
+      decided = λ v d. absurd (not (a .decided v (step-older (decision p v) p (q .round) (q .estimate) (q .phase) (λ z. z) d) .0));
     }
