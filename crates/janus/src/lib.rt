@@ -1,25 +1,11 @@
 // The C entry (01, "Turn sheets", last paragraph): a sheet, a budget and a buffer of exactly 256 bytes. include/janus.h
 // declares it.
 ghost use mathlib.Core.Path.{_≡_};
-ghost use Prim.Native.Nat.{_+_, _≤_};
 ghost use lib.ListN.{length};
-ghost use lib.Seq.{sets};
-ghost use Rattle.model.specs.Bytes.{bytes32};
 ghost use Rattle.model.specs.Export.{decidedBytes, exportCode, exportBuffer};
 use model::Ending;
 use model::Phase;
 use model::Session;
-
-// Four bytes from a place on hold a 32-bit number, little-endian.
-fn put32(buffer: &mut [u8], at: usize, v: u32)
-    requires { ⌜ at + 4 ≤ length (now buffer) ⌝ }
-    ensures { λ _. ⌜ now (buffer .exit) ≡ sets (now (buffer .entry)) at (bytes32 v) ⌝ }
-{
-    buffer[at] = (v % 256) as u8;
-    buffer[at + 1] = (v / 256 % 256) as u8;
-    buffer[at + 2] = (v / 65536 % 256) as u8;
-    buffer[at + 3] = (v / 16777216 % 256) as u8;
-}
 
 // The bytes of the decided values, four to a process, for all 64; 0 where there is none.
 fn put_decided(s: Session, buffer: &mut [u8])
@@ -34,7 +20,7 @@ fn put_decided(s: Session, buffer: &mut [u8])
             Phase::Decided => q.estimate,
             _ => 0,
         };
-        put32(buffer, 4 * p, value);
+        part_bytes::put32(buffer, 4 * p, value);
         p += 1;
     }
 }

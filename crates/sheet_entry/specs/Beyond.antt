@@ -5,13 +5,8 @@ use mathlib.Core.Path.{_≡_}
 use mathlib.Core.List.{List}
 use lib.ListN.{length}
 use Rattle.model.specs.Sheet.{entryOf, entryAt}
-use Rattle.sheet_bytes.specs.Beyond.{byte-past, word16-past}
+use Rattle.part_bytes.specs.Beyond.{byte-beyond, word32-beyond}
 
-pub entry-past : (s : List ℕ) (i : ℕ) → length s ≤ i → entryAt s i ≡ entryOf 0 0 0
-entry-past s i h =
-    rw (
-      byte-past s i h,
-      byte-past s (i + 1) (omega arith),
-      word16-past s (i + 2) (omega arith),
-      word16-past s (i + 2 + 2) (omega arith),
-    )
+pub entry-beyond : (s : List ℕ) (i : ℕ) → length s ≤ i → entryAt s i ≡ entryOf 0 0 0
+entry-beyond s i h =
+    rw (byte-beyond s i h, byte-beyond s (i + 1) (omega arith), word32-beyond s (i + 2) (omega arith))

@@ -1,15 +1,7 @@
 // One entry of a sheet. 01, "Turn sheets": "An entry has 6 bytes: kind, seat, 32-bit value."
 ghost use mathlib.Core.Path.{_≡_};
-ghost use Prim.Native.Nat.{_+_, _*_};
 ghost use Rattle.model.specs.Sheet.{entryOf, entryAt};
 use model::Operation;
-
-// "Numbers are little-endian": a 32-bit number, the lowest byte first.
-fn word32(a: u8, b: u8, c: u8, d: u8) -> u32
-    ensures { λ r. ⌜ r ≡ a + 256 * b + 65536 * (c + 256 * d) ⌝ }
-{
-    a as u32 + 256 * (b as u32) + 65536 * (c as u32 + 256 * (d as u32))
-}
 
 // "Kinds: 0 propose (any value), 1 work (value 0 is hint no, 1 is yes), 2 look (0), 3 crash (0)."
 fn entry_of(kind: u8, p: u8, value: u32) -> Operation
@@ -48,23 +40,16 @@ pub fn entry_at(s: &[u8], at: usize) -> Operation
         if at <= s.len() - 6 {
             let low = at + 2;
             let high = low + 2;
-            return entry_of(
-                s[at],
-                s[at + 1],
-                word32(s[low], s[low + 1], s[high], s[high + 1]),
-            );
+            let value = part_bytes::number32(s[low], s[low + 1], s[high], s[high + 1]);
+            return entry_of(s[at], s[at + 1], value);
         }
     }
-    if at < s.len() {
-        let low = at + 2;
-        let high = low + 2;
-        let value = word32(
-            sheet_bytes::byte(s, low),
-            sheet_bytes::byte(s, low + 1),
-            sheet_bytes::byte(s, high),
-            sheet_bytes::byte(s, high + 1),
-        );
-        return entry_of(s[at], sheet_bytes::byte(s, at + 1), value);
+    if s.len() <= at {
+        return entry_of(0, 0, 0);
     }
-    entry_of(0, 0, 0)
+    entry_of(
+        s[at],
+        part_bytes::byte(s, at + 1),
+        part_bytes::word32(s, at + 2),
+    )
 }

@@ -1,2 +1,2 @@
--- The tests of a sheet's runs, and what they say run by run.
-pub mod RunTests
+-- What reading a run gives, and which runs are left.
+pub mod Runs

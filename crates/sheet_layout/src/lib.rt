@@ -1,30 +1,25 @@
-// The tests of a sheet's runs. 01, "Turn sheets" and "Numbers returned", rows 11 and 12.
-ghost use mathlib.Core.Path.{_≡_};
-ghost use Rattle.model.specs.Refusal.{refusal};
-ghost use Rattle.sheet_layout.specs.RunTests.{runTests};
+// Where the runs of a sheet lie. 01, "Turn sheets": "Then p pairs, 16-bit offset and 16-bit length, offsets from the sheet's
+// start, sorted by offset."
+ghost use Rattle.sheet_layout.specs.Runs.{IsRun};
 
-// "11 over all pairs, 12 over all runs": from is where the run before ended, and code is 12 once a run is no whole entries.
-pub fn runs_refusal(s: &[u8]) -> u32
-    ensures { λ r. ⌜ r ≡ refusal (runTests (now (s .entry))) ⌝ }
+// A run (01: a pair): where it starts, and its length in bytes.
+pub struct Span {
+    pub offset: usize,
+    pub size: usize,
+}
+
+// The run numbered i, whatever i is: past the end of the bytes both numbers are 0.
+pub fn run_at(s: &[u8], i: usize) -> Span
+    ensures { λ r. ⌜ IsRun (now (s .entry)) i (r .offset) (r .size) ⌝ }
 {
-    let count = sheet_bytes::byte(s, 1) as usize;
-    let mut from = 4 + 4 * count;
-    let mut code = 0;
-    let mut i = 0;
-    while i < count {
-        let run = sheet_bytes::run_at(s, i);
-        if run.offset < from {
-            return 11;
-        }
-        let end = run.offset + run.size;
-        if s.len() < end {
-            return 11;
-        }
-        if run.size % 6 != 0 {
-            code = 12;
-        }
-        from = end;
-        i += 1;
+    if s.len() / 4 <= i {
+        return Span { offset: 0, size: 0 };
     }
-    code
+    let at = 4 + 4 * i;
+    let offset = part_bytes::word16(s, at) as usize;
+    let size = part_bytes::word16(s, at + 2) as usize;
+    Span {
+        offset: offset,
+        size: size,
+    }
 }

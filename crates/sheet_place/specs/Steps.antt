@@ -7,7 +7,7 @@ use mathlib.Core.List.{List}
 use lib.Dec.{leb}
 use borrow.Author.Tests.{le-leb, lt-leb}
 use Rattle.model.specs.Sheet.{runCount}
-use Rattle.sheet_bytes.specs.Runs.{IsRun, left-none, left-next}
+use Rattle.sheet_layout.specs.Runs.{IsRun, left-none, left-next}
 use Rattle.sheet_place_laws.specs.declared.Place.{Place}
 use Rattle.sheet_place_laws.specs.Places.{between, hasEntry, passed, openFrom, settled, advanced}
 

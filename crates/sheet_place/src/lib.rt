@@ -22,10 +22,10 @@ fn left(place: Place) -> usize
 fn open_from(s: &[u8], first: usize) -> Place
     ensures { λ r. ⌜ r ≡ openFrom (now (s .entry)) first (runCount (now (s .entry)) - first) ⌝ }
 {
-    let count = sheet_bytes::byte(s, 1) as usize;
+    let count = part_bytes::byte(s, 1) as usize;
     let mut i = first;
     while i < count {
-        let run = sheet_bytes::run_at(s, i);
+        let run = sheet_layout::run_at(s, i);
         if 6 <= run.size {
             return Place {
                 run: i + 1,

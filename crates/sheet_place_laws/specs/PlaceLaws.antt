@@ -11,7 +11,7 @@ use Rattle.model.specs.declared.Operation.{Operation}
 use Rattle.model.specs.Sheet.{runAt, runCount, runsFrom, runs, entryAt, entriesOf, entries}
 use Rattle.sheet_place_laws.specs.Places.{hasEntry, openedRun, between, openFrom, settled, begin, handed, passed}
 use Rattle.sheet_place_laws.specs.Places.{advanced, rest, before, Proper}
-use Rattle.sheet_bytes.specs.Runs.{runs-none}
+use Rattle.sheet_layout.specs.Runs.{runs-none}
 use Rattle.sheet_place_laws.specs.declared.Place.{Place}
 use Rattle.sheet_place_laws.specs.declared.Handed.{Handed}
 use Rattle.sheet_place_laws.specs.declared.Handed.the-variants.{Next, End}

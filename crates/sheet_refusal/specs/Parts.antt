@@ -8,7 +8,7 @@ use Rattle.model.specs.declared.Limits.{Limits}
 use Rattle.model.specs.Refusal.{refusal, openTests}
 use Rattle.model.specs.Window.{window}
 use Rattle.model.specs.Sheet.{processCount, roundLimit, hasHeader, sheetRefusal}
-use Rattle.sheet_layout.specs.RunTests.{runTests}
+use Rattle.sheet_refusal.specs.RunTests.{runTests}
 
 -- The refusal of opening what the header asks for: 1, 2 or none.
 abbrev pub openingOf : Limits → List ℕ → ℕ

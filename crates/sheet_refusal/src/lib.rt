@@ -1,10 +1,39 @@
 // The refusal of a sheet. 01, "Turn sheets" and "Numbers returned", rows 10, 1, 2, 11 and 12.
 ghost use mathlib.Core.Path.{_≡_};
+ghost use Rattle.model.specs.Refusal.{refusal as firstOf};
 ghost use Rattle.model.specs.Sheet.{sheetRefusal};
+ghost use Rattle.sheet_refusal.specs.RunTests.{runTests};
 use model::Limits;
 
-// 0 where it is accepted, within a caller's limits. "Order: Sheet 10, 1, 2, 11 over all pairs, 12 over all runs." "10: sheet under 4 or over 65,535
-// bytes, over 16 pairs, or too short for its pairs." "Byte 0: n. Byte 1: the count p of pairs. Bytes 2 and 3: L."
+// "11 over all pairs, 12 over all runs": from is where the run before ended, and code is 12 once a run is no whole entries.
+fn runs_refusal(s: &[u8]) -> u32
+    ensures { λ r. ⌜ r ≡ firstOf (runTests (now (s .entry))) ⌝ }
+{
+    let count = part_bytes::byte(s, 1) as usize;
+    let mut from = 4 + 4 * count;
+    let mut code = 0;
+    let mut i = 0;
+    while i < count {
+        let run = sheet_layout::run_at(s, i);
+        if run.offset < from {
+            return 11;
+        }
+        let end = run.offset + run.size;
+        if s.len() < end {
+            return 11;
+        }
+        if run.size % 6 != 0 {
+            code = 12;
+        }
+        from = end;
+        i += 1;
+    }
+    code
+}
+
+// 0 where it is accepted, within a caller's limits. "Order: Sheet 10, 1, 2, 11 over all pairs, 12 over all runs." "10: sheet
+// under 4 or over 65,535 bytes, over 16 pairs, or too short for its pairs." "Byte 0: n. Byte 1: the count p of pairs. Bytes 2
+// and 3: L."
 pub fn refusal(most: Limits, s: &[u8]) -> u32
     ensures { λ r. ⌜ r ≡ sheetRefusal most (now (s .entry)) ⌝ }
 {
@@ -14,18 +43,18 @@ pub fn refusal(most: Limits, s: &[u8]) -> u32
     if 65535 < s.len() {
         return 10;
     }
-    let count = sheet_bytes::byte(s, 1) as usize;
+    let count = part_bytes::byte(s, 1) as usize;
     if 16 < count {
         return 10;
     }
     if s.len() < 4 + 4 * count {
         return 10;
     }
-    let n = sheet_bytes::byte(s, 0) as usize;
-    let limit = sheet_bytes::byte(s, 2) as usize + 256 * (sheet_bytes::byte(s, 3) as usize);
+    let n = part_bytes::byte(s, 0) as usize;
+    let limit = part_bytes::word16(s, 2) as usize;
     let opening = session_open::open_refusal(most, n, limit);
     if opening != 0 {
         return opening;
     }
-    sheet_layout::runs_refusal(s)
+    runs_refusal(s)
 }

@@ -1,17 +1,17 @@
--- `sheet_layout::runs_refusal` meets its contract: the invariant: the runs from i on, after `from`, and the code decide. The
--- measure is the count of runs left. Assumes nothing.
+-- `sheet_refusal::runs_refusal` meets its contract. The loop's invariant: the runs from i on, after `from`, and the code decide.
+-- The measure is the count of runs left. Assumes nothing.
 use Prim.Native.Nat.{_-_}
 use native.Mathlib.Nat.{sub-zero}
 use mathlib.Core.Logic.{⊎-elim}
 use mathlib.Core.Path.{_≡_, _∙_, sym}
 use lib.ListN.{length}
-use borrow.Author.Needs.{needs}
 use Rattle.model.specs.Refusal.{refusal}
 use Rattle.model.specs.Sheet.{runsFrom}
-use Rattle.sheet_bytes.specs.Runs.{runs-none}
-use Rattle.sheet_layout.specs.RunTests.{runTests, leftRefusal, early, long, not-whole, on}
-use Rattle.sheet_layout.proofs.runs_refusal.Statement.{statement}
-use Rattle.sheet_layout.proofs.runs_refusal.Tie as tie
+use Rattle.sheet_layout.specs.Runs.{runs-none}
+use Rattle.sheet_refusal.specs.RunTests.{runTests, leftRefusal, early, long, not-whole, on}
+use borrow.Author.Needs.{needs}
+use Rattle.sheet_refusal.proofs.runs_refusal.Statement.{statement}
+use Rattle.sheet_refusal.proofs.runs_refusal.Tie as tie
 
 abbrev Inv-loop : tie.InvT-loop
 Inv-loop s count from₀ code₀ i₀ from code i =
@@ -20,13 +20,31 @@ Inv-loop s count from₀ code₀ i₀ from code i =
 abbrev μ-loop : tie.MeasureT-loop
 μ-loop s count from₀ code₀ i₀ from code i = count - i
 
+byte-requires : tie.Need-byte-requires Inv-loop μ-loop
+byte-requires c κs = search needs
+
+cast-count : tie.Need-cast-count Inv-loop μ-loop
+cast-count c = search needs
+
+mul-from : tie.Need-mul-from Inv-loop μ-loop
+mul-from c = search needs
+
+add-from : tie.Need-add-from Inv-loop μ-loop
+add-from c = search needs
+
 loop-holds : tie.Need-loop-holds Inv-loop μ-loop
 loop-holds c = rw (sub-zero, c .byte .ensures)
+
+run-at-requires : tie.Need-run-at-requires Inv-loop μ-loop
+run-at-requires c κs = search needs
 
 returns : tie.Need-returns Inv-loop μ-loop
 returns c =
     let at = c .before .before in
     sym (at .before .before .loop .inv ∙ early (at .run-at .ensures) _ (at .before .loop-test .taken) _ _ _ (c .if1 .taken))
+
+add-end : tie.Need-add-end Inv-loop μ-loop
+add-end c = search needs
 
 returns-2 : tie.Need-returns-2 Inv-loop μ-loop
 returns-2 c =
@@ -34,6 +52,12 @@ returns-2 c =
     sym
     (at .before .before .loop .inv
     ∙ long (at .run-at .ensures) _ (at .before .loop-test .taken) _ _ _ (c .before .before .if1 .left) (c .if2 .taken))
+
+add-i : tie.Need-add-i Inv-loop μ-loop
+add-i c = search needs
+
+loop-less : tie.Need-loop-less Inv-loop μ-loop
+loop-less c = search needs
 
 loop-again : tie.Need-loop-again Inv-loop μ-loop
 loop-again c =
@@ -52,15 +76,5 @@ returns-3 c = sym (c .before .loop .inv ∙ rw (runs-none _ _ _ (c .loop-test .l
 pub runs-refusal-spec : {M : Type 1} → statement M
 runs-refusal-spec =
     tie.close
-    (tie.spec
-    Inv-loop
-    μ-loop
-    (λ c κs. search needs) (λ c. search needs) (λ c. search needs) (λ c. search needs)
-    loop-holds
-    (λ c κs. search needs)
-    returns
-    (λ c. search needs)
-    returns-2
-    (λ c. search needs) (λ c. search needs)
-    loop-again
-    returns-3)
+    (tie.spec Inv-loop μ-loop byte-requires cast-count mul-from add-from loop-holds run-at-requires returns
+    add-end returns-2 add-i loop-less loop-again returns-3)

@@ -11,7 +11,7 @@ use Rattle.model.specs.Refusal.{Test}
 use Rattle.model.specs.Sheet.{Run, runs, runsFrom, headerEnd, inOrder, wholeEntries}
 use Rattle.model.specs.Sound.{every}
 use Rattle.base.specs.Bools.{cond-same}
-use Rattle.sheet_bytes.specs.Runs.{IsRun, left-next}
+use Rattle.sheet_layout.specs.Runs.{IsRun, left-next}
 
 -- The last two of the sheet's tests.
 abbrev pub runTests : List ℕ → List Test

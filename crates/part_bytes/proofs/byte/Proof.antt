@@ -1,0 +1,23 @@
+-- `part_bytes::byte` meets its contract: a byte past the end reads as 0. Assumes nothing.
+use mathlib.Core.Path.{refl, sym}
+use denote.Ref.{now}
+use Rattle.part_bytes.specs.Beyond.{byte-beyond}
+use borrow.Author.Needs.{needs}
+use Rattle.part_bytes.proofs.byte.Statement.{statement}
+use Rattle.part_bytes.proofs.byte.Tie as tie
+
+shared-slice-read-result : tie.Need-shared-slice-read-result
+shared-slice-read-result c = search needs
+
+returns : tie.Need-returns
+returns c = refl
+
+returns-2 : tie.Need-returns-2
+returns-2 c =
+    let a = c .before .args in
+    sym (byte-beyond (now (a .s)) (a .i) (c .if1 .left))
+
+pub byte-spec : {M : Type 1} → statement M
+byte-spec =
+    tie.close
+    (tie.spec shared-slice-read-result returns returns-2)

@@ -1,0 +1,2 @@
+-- What is read and written past the end.
+pub mod Beyond

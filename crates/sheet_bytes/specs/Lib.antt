@@ -1,3 +1,0 @@
--- What reading a run gives, and which runs are left.
-pub mod Beyond
-pub mod Runs

@@ -1,0 +1,57 @@
+-- `sheet_layout::run_at` meets its contract: past the last whole pair of the bytes both numbers are 0. Assumes nothing.
+use native.Mathlib.Omega.{arith}
+use mathlib.Core.Path.{sym}
+use lib.Dec.{lit<}
+use denote.Ref.{now}
+use Rattle.part_bytes.specs.Beyond.{word16-beyond}
+use borrow.Author.Needs.{needs}
+use Rattle.sheet_layout.proofs.run_at.Statement.{statement}
+use Rattle.sheet_layout.proofs.run_at.Tie as tie
+
+returns : tie.Need-returns
+returns c =
+    let a = c .before .before .args in
+    record {
+      offset-is = sym (word16-beyond (now (a .s)) _ (omega (arith, c .if1 .taken)));
+      size-is = sym (word16-beyond (now (a .s)) _ (omega (arith, c .if1 .taken)));
+      offset-small = lit< tt;
+      size-small = lit< tt;
+    }
+
+mul-at : tie.Need-mul-at
+mul-at c = search needs
+
+add-at : tie.Need-add-at
+add-at c = search needs
+
+word16-requires : tie.Need-word16-requires
+word16-requires c κs = search needs
+
+cast-offset : tie.Need-cast-offset
+cast-offset c = search needs
+
+add-word16 : tie.Need-add-word16
+add-word16 c = search needs
+
+word16-requires-2 : tie.Need-word16-requires-2
+word16-requires-2 c κs = search needs
+
+cast-size : tie.Need-cast-size
+cast-size c = search needs
+
+returns-2 : tie.Need-returns-2
+returns-2 c =
+    let offset = c .before .word16 in
+    let size = c .word162 in
+    record {
+      offset-is = offset .ensures;
+      size-is = size .ensures;
+      offset-small = omega (arith, offset .ok);
+      size-small = omega (arith, size .ok);
+    }
+
+pub run-at-spec : {M : Type 1} → statement M
+run-at-spec =
+    tie.close
+    (tie.spec returns mul-at add-at word16-requires cast-offset add-word16 word16-requires-2 cast-size
+    returns-2)
