@@ -1,33 +1,38 @@
 /*
  * Builds a sheet in memory, runs it and prints who decided what: seat 0 proposes 7 and works alone until it has committed; both
- * seats then look, seat 1 after a proposal of its own, 9.
+ * seats then look, seat 1 after a proposal of its own, 9. C and C++.
  */
 #include <stdio.h>
 
 #include "janus.h"
 
-enum { PROPOSE = 0, WORK = 1, LOOK = 2 };
-enum { SEATS = 2, ROUNDS = 5, TURNS = 36, ENTRIES = 1 + TURNS + 3, HEADER = 8, ENTRY = 6 };
+enum { SEATS = 2, HEADER = 8 };
 
-static uint8_t *put_entry(uint8_t *at, uint8_t kind, uint8_t seat, uint32_t value)
+static uint8_t sheet[JANUS_SHEET_MAX];
+static size_t length = HEADER;
+
+static void put_number(size_t at, uint32_t number, size_t bytes)
 {
-    at[0] = kind;
-    at[1] = seat;
-    for (int i = 0; i < 4; i++)
-        at[2 + i] = (uint8_t)(value >> (8 * i));
-    return at + ENTRY;
+    for (size_t i = 0; i < bytes; i++)
+        sheet[at + i] = (uint8_t)(number >> (8 * i));
 }
 
-static void put_header(uint8_t *sheet)
+static void add_entry(uint8_t kind, uint8_t seat, uint32_t value)
+{
+    sheet[length] = kind;
+    sheet[length + 1] = seat;
+    put_number(length + 2, value, 4);
+    length += JANUS_ENTRY_LENGTH;
+}
+
+/* Written last, when the length of the run is known. */
+static void put_header(void)
 {
     sheet[0] = SEATS;
-    sheet[1] = 1; /* one run */
-    sheet[2] = ROUNDS;
-    sheet[3] = 0;
-    sheet[4] = HEADER; /* where the run starts */
-    sheet[5] = 0;
-    sheet[6] = ENTRIES * ENTRY % 256; /* and its length */
-    sheet[7] = ENTRIES * ENTRY / 256;
+    sheet[1] = 1; /* one pair: where the run starts, and its length */
+    put_number(2, janus_window(SEATS), 2);
+    put_number(4, HEADER, 2);
+    put_number(6, (uint32_t)(length - HEADER), 2);
 }
 
 static uint32_t decided(const uint8_t *buffer, int seat)
@@ -38,20 +43,18 @@ static uint32_t decided(const uint8_t *buffer, int seat)
 
 int main(void)
 {
-    uint8_t sheet[HEADER + ENTRIES * ENTRY];
     uint8_t buffer[JANUS_BUFFER_LENGTH] = {0};
-    uint8_t *at = sheet + HEADER;
 
-    put_header(sheet);
-    at = put_entry(at, PROPOSE, 0, 7);
-    for (int i = 0; i < TURNS; i++)
-        at = put_entry(at, WORK, 0, 1);
-    at = put_entry(at, LOOK, 0, 0);
-    at = put_entry(at, PROPOSE, 1, 9);
-    put_entry(at, LOOK, 1, 0);
+    add_entry(JANUS_PROPOSE, 0, 7);
+    for (unsigned i = 0; i < janus_turns_alone(SEATS); i++)
+        add_entry(JANUS_WORK, 0, JANUS_HINT_YES);
+    add_entry(JANUS_LOOK, 0, 0);
+    add_entry(JANUS_PROPOSE, 1, 9);
+    add_entry(JANUS_LOOK, 1, 0);
+    put_header();
 
-    uint32_t code = janus_run(sheet, sizeof sheet, ENTRIES, buffer, sizeof buffer);
-    printf("code %u\n", (unsigned)code);
+    uint32_t code = janus_run(sheet, length, JANUS_ENTRIES_MAX, buffer, sizeof buffer);
+    printf("code %u: %s\n", (unsigned)code, janus_result_text(code));
     for (int seat = 0; seat < SEATS; seat++)
         printf("seat %d decided %u\n", seat, (unsigned)decided(buffer, seat));
     return code == JANUS_FINISHED ? 0 : 1;

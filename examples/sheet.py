@@ -1,10 +1,10 @@
 #!/usr/bin/env python3
-"""Writes a turn sheet (document 01, "Turn sheets") from a list of lines.
+"""Makes a turn sheet (document 01, "Turn sheets") of a list of lines.
 
-Reads standard input, writes the sheet's bytes to standard output:
+usage: sheet.py [LIST [SHEET]]      standard input and standard output where left out, or where the name is -
 
-    n 2                # seats, then the round limit
-    L 5
+    n 2                # seats
+    L 5                # the round limit
     propose 0 7        # SEAT VALUE
     work 0 yes         # SEAT HINT, yes or no
     look 0             # SEAT
@@ -12,74 +12,179 @@ Reads standard input, writes the sheet's bytes to standard output:
     entry 9 0 4        # KIND SEAT VALUE, any bytes at all
     run                # the entries below form a new run, with its own pair
 
-Blank lines, and what follows a #, are ignored. Entries above the first `run`
-form a run of their own; two `run` lines in a row give a run of length 0. Only
-what does not fit its bytes is an error here; refusing is left to the board.
+Blank lines, and what follows a #, are ignored. The lines n and L are both needed, once each, anywhere. Entries above the
+first `run` form a run of their own; two `run` lines in a row give a run of length 0. Only what is not understood or does not
+fit its bytes is an error here (exit code 1, nothing is written); refusing a turn is left to the board.
 """
 
+import os
+import re
 import struct
 import sys
 
+# What each word of a line may be: the largest number that fits its bytes.
+MOST = {"n": 255, "L": 65_535, "kind": 255, "seat": 255, "value": 4_294_967_295}
+MOST_RUNS = 255
+MOST_PLACE = 65_535
 KINDS = {"propose": 0, "work": 1, "look": 2, "crash": 3}
 HINTS = {"no": 0, "yes": 1}
+# The words that follow the first one of an entry's line.
+SHAPES = {
+    "propose": ("seat", "value"),
+    "work": ("seat", "hint"),
+    "look": ("seat",),
+    "crash": ("seat",),
+    "entry": ("kind", "seat", "value"),
+}
+
+
+class Wrong(Exception):
+    """Something that is told in words, not as a traceback."""
+
+
+def number(what, word):
+    """The number that a word of digits stands for, if it fits what it is for."""
+    allowed = f"a whole number from 0 to {MOST[what]}"
+    if not re.fullmatch("[0-9]+", word):
+        raise Wrong(f"{what} {word} is not {allowed}")
+    digits = word.lstrip("0") or "0"
+    if len(digits) > 10 or int(digits) > MOST[what]:
+        raise Wrong(f"{what} {word} is out of range: it must be {allowed}")
+    return int(digits)
+
+
+def part(what, word):
+    """The number of one word of an entry's line."""
+    if what != "hint":
+        return number(what, word)
+    if word not in HINTS:
+        raise Wrong(f"hint {word} is neither yes nor no")
+    return HINTS[word]
 
 
 def entry(words):
-    """The six bytes of one entry."""
+    """The six bytes of one entry, from the words of its line."""
     name, *rest = words
-    if name == "entry":
-        kind, seat, value = map(int, rest)
-    elif name == "propose":
-        (seat, value), kind = map(int, rest), KINDS[name]
-    elif name == "work":
-        (seat, hint), kind = rest, KINDS[name]
-        seat, value = int(seat), HINTS[hint]
-    else:
-        (seat,), kind, value = rest, KINDS[name], 0
-        seat = int(seat)
-    return struct.pack("<BBI", kind, seat, value)
+    shape = SHAPES.get(name)
+    if shape is None:
+        raise Wrong(f"{name} is none of n, L, run, {', '.join(SHAPES)}")
+    if len(rest) != len(shape):
+        raise Wrong(f"{name} takes {' '.join(shape).upper()}, not {' '.join(rest) or 'nothing'}")
+    parts = {what: part(what, word) for what, word in zip(shape, rest)}
+    kind = parts.get("kind", KINDS.get(name))
+    return struct.pack("<BBI", kind, parts["seat"], parts.get("value", parts.get("hint", 0)))
 
 
-def take(words, sizes, runs):
-    """Takes in the words of one line."""
-    if words[0] in sizes:
-        (sizes[words[0]],) = map(int, words[1:])
-    elif words == ["run"]:
-        runs.append(b"")
-    else:
-        added = entry(words)
-        if not runs:
-            runs.append(b"")
-        runs[-1] += added
+class List:
+    """What the lines say so far: the two sizes and the bytes of each run."""
+
+    def __init__(self):
+        self.sizes, self.runs = {}, []
+
+    def take(self, words):
+        """Takes in the words of one line."""
+        name, *rest = words
+        if name in ("n", "L"):
+            if name in self.sizes:
+                raise Wrong(f"{name} is given twice")
+            if len(rest) != 1:
+                raise Wrong(f"{name} takes one number, not {' '.join(rest) or 'nothing'}")
+            self.sizes[name] = number(name, rest[0])
+        elif words == ["run"]:
+            self.runs.append(b"")
+        else:
+            added = entry(words)
+            self.runs = self.runs or [b""]
+            self.runs[-1] += added
 
 
 def sheet(n, limit, runs):
     """The bytes of the whole sheet, its runs one right after another."""
-    header = struct.pack("<BBH", n, len(runs), limit)
-    offset = len(header) + 4 * len(runs)
-    pairs = b""
-    for run in runs:
+    if len(runs) > MOST_RUNS:
+        raise Wrong(f"{len(runs)} runs are too many: their count must be a whole number from 0 to {MOST_RUNS}")
+    pairs, offset = b"", 4 + 4 * len(runs)
+    for place, run in enumerate(runs):
+        if max(offset, len(run)) > MOST_PLACE:
+            raise Wrong(f"run {place} (from 0) starts at byte {offset} with {len(run)} bytes: neither may be above {MOST_PLACE}")
         pairs += struct.pack("<HH", offset, len(run))
         offset += len(run)
-    return header + pairs + b"".join(runs)
+    return struct.pack("<BBH", n, len(runs), limit) + pairs + b"".join(runs)
 
 
-def main():
-    sizes, runs = {"n": None, "L": None}, []
-    for number, line in enumerate(sys.stdin, 1):
+def made(text):
+    """The sheet of a list's text."""
+    lines = List()
+    for place, line in enumerate(re.split("\r\n|\n|\r", text), 1):
         words = line.split("#")[0].split()
         try:
             if words:
-                take(words, sizes, runs)
-        except (ValueError, KeyError, struct.error):
-            sys.exit(f"sheet.py: line {number} is not understood: {line.strip()}")
-    if None in sizes.values():
-        sys.exit("sheet.py: the lines n and L are both needed")
+                lines.take(words)
+        except Wrong as wrong:
+            raise Wrong(f"line {place}: {wrong}") from None
+    for name in ("n", "L"):
+        if name not in lines.sizes:
+            raise Wrong(f"there is no line {name}; n and L are both needed")
+    return sheet(lines.sizes["n"], lines.sizes["L"], lines.runs)
+
+
+def read(name):
+    """The text of a file, or of standard input."""
+    with open(0 if name == "-" else name, "rb", closefd=name != "-") as source:
+        return source.read().decode("utf-8-sig")
+
+
+def write(name, data):
+    """Writes all bytes to a file, or to standard output."""
     try:
-        sys.stdout.buffer.write(sheet(sizes["n"], sizes["L"], runs))
-    except struct.error as error:
-        sys.exit(f"sheet.py: the sheet does not fit its bytes: {error}")
+        target = 1 if name == "-" else os.open(name, os.O_WRONLY | os.O_CREAT | os.O_TRUNC, 0o666)
+        while data:
+            data = data[os.write(target, data):]
+    except OSError as error:
+        raise Wrong(f"{shown(name, 'standard output')}: {error.strerror}") from None
+
+
+def convert(source, target):
+    """Makes the sheet of one list; what goes wrong is raised in words."""
+    try:
+        if "-" not in (source, target) and os.path.exists(target) and os.path.samefile(source, target):
+            raise Wrong("it cannot be the list and the sheet at once")
+        data = made(read(source))
+    except UnicodeDecodeError:
+        raise Wrong(f"{shown(source)}: this is no text in UTF-8, so no list of lines") from None
+    except OSError as error:
+        raise Wrong(f"{shown(source)}: {error.strerror}") from None
+    except Wrong as wrong:
+        raise Wrong(f"{shown(source)}: {wrong}") from None
+    write(target, data)
+
+
+def shown(name, standard="standard input"):
+    """A file's name as it is told."""
+    return standard if name == "-" else name
+
+
+def main(arguments):
+    """The exit code: 0, 1 for a list, file or disk that will not do, 2 for wrong arguments."""
+    if len(arguments) == 1 and arguments[0] in ("--help", "-h"):
+        return told(lambda: write("-", f"{__doc__.strip()}\n".encode()))
+    if len(arguments) > 2 or any(word.startswith("-") and word != "-" for word in arguments):
+        print(f"sheet.py: {' '.join(arguments)}: a list and a sheet are named at most; try --help", file=sys.stderr)
+        return 2
+    source, target = (arguments + ["-", "-"])[:2]
+    return told(lambda: convert(source, target))
+
+
+def told(act):
+    """Does it, and tells what goes wrong in a line: the exit code."""
+    try:
+        act()
+    except Wrong as wrong:
+        print(f"sheet.py: {wrong}", file=sys.stderr)
+        return 1
+    except KeyboardInterrupt:
+        return 130
+    return 0
 
 
 if __name__ == "__main__":
-    main()
+    sys.exit(main(sys.argv[1:]))

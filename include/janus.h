@@ -1,57 +1,34 @@
 /*
- * janus.h: runs a turn sheet of the Janus board from C.
+ * janus.h: up to 64 seats agree on one number. For C99 and C++11 and later, on x86-64.
  *
- * A session is one agreement between n seats (1 to 64) over rounds 1 to L. A turn sheet is a list of what the seats do, in order:
- * propose a number, take a work turn, look at the decision, crash. janus_run opens a session, carries the entries out one after
- * another and writes down which seats have decided, and on what number. The library is proved: what it answers is what the
- * definitions of the scope document give, for every input, damaged sheets included.
+ * A session is one agreement between n seats over rounds 1 to L. A sheet lists what the seats do, in order: propose a number, take
+ * a work turn, look at the decision, crash. janus_run opens a session, carries the sheet's entries out one after another and
+ * writes down which seats have decided, and on what number. janus_report runs a sheet too and writes the board report's text.
  *
- * The function keeps no state, allocates nothing and touches nothing but the buffer that it is lent. It may be called from any
- * number of threads at once, each with its own buffer; a sheet may be shared, as it is only read. Sheet and buffer must not overlap,
- * and neither pointer may be NULL, not even with a length of 0.
+ * THE GUARANTEE
+ *
+ *   After janus_run all numbers in the buffer that are not 0 are equal, and that number was proposed: it is the value of a
+ *   proposal entry that was carried out.
+ *
+ *   This is proved for every sheet and every budget, unless the sheet or the buffer is refused as a whole (the buffer is then as
+ *   it was). docs/AGREEMENT.md has the theorem. Proved as well, for every sheet, damaged ones included: each number returned and
+ *   each byte written is what the rules of the scope document give.
  *
  * THE SHEET (numbers are little-endian)
  *
  *   byte 0         n, the number of seats, 1 to 64
  *   byte 1         p, the number of pairs, 0 to 16
- *   bytes 2, 3     L, the round limit: W to 256, where W = 2 * ceil(sqrt(n)) + 1 (1 seat: 3, 2: 5, 64: 17)
+ *   bytes 2, 3     L, the round limit, from the window W to 256; W goes by n, see DECISIONS
  *   then p pairs   16-bit offset and 16-bit length of a run of entries, offsets from the start of the sheet, sorted; the first run
  *                  starts at byte 4 + 4p or later, each next one at the end of the run before it or later
- *   entries        6 bytes each: kind, seat, 32-bit value
+ *   entries        6 bytes each: kind, seat (0 to n - 1), 32-bit value
  *
  *   kind 0  propose    value: the number, 1 to 4,294,967,295
  *   kind 1  work turn  value: the leader hint, 0 no, 1 yes
  *   kind 2  look       value: 0
  *   kind 3  crash      value: 0
  *
- * A run may have length 0. Bytes in no run are ignored. A sheet has 4 to 65,535 bytes.
- *
- * WHAT IS RETURNED
- *
- *     0  finished: every entry was carried out
- *   100  budget ended: as many entries as the budget allows were carried out, and more are left
- *
- *   The sheet or the buffer is refused, and the buffer is unchanged:
- *    15  the buffer is not exactly 256 bytes long (tested first)
- *    10  under 4 or over 65,535 bytes, over 16 pairs, or too short for its pairs
- *     1  seats not 1 to 64
- *     2  L below W or above 256
- *    11  pairs unsorted, overlapping, before the end of the pairs, or past the sheet
- *    12  a run's length is not a multiple of 6
- *
- *   An entry is refused; the entries before it were carried out, and the buffer tells how they left the seats:
- *    13  unknown kind, or a value that the kind does not have
- *     4  seat number n or above
- *     5  proposal of 0
- *     6  proposal by a seat that has proposed
- *     7  work turn, look or crash of a seat that has not proposed
- *     8  work turn, look or crash of a seat that has crashed or decided
- *     9  work turn of a seat whose rounds are spent
- *
- * THE BUFFER
- *
- *   After 0, 100 and a refused entry all 256 bytes are written: bytes 4s to 4s + 3 hold seat s's decided number, little-endian, or 0
- *   where seat s has not decided (or does not exist), for s from 0 to 63.
+ *   A run may have length 0. Bytes in no run are ignored. A sheet has 4 to 65,535 bytes, so it has 10,921 entries at most.
  */
 #ifndef JANUS_H
 #define JANUS_H
@@ -59,18 +36,164 @@
 #include <stddef.h>
 #include <stdint.h>
 
+#define JANUS_VERSION_MAJOR 1
+#define JANUS_VERSION_MINOR 0
+#define JANUS_VERSION "1.0"
+
+#define JANUS_SEATS_MAX 64
+#define JANUS_ROUNDS_MAX 256
+#define JANUS_PAIRS_MAX 16
+#define JANUS_SHEET_MIN 4
+#define JANUS_SHEET_MAX 65535
+#define JANUS_ENTRY_LENGTH 6
+#define JANUS_ENTRIES_MAX 10921
+#define JANUS_BUFFER_LENGTH 256
+#define JANUS_REPORT_LENGTH 5120
+
+enum { JANUS_PROPOSE = 0, JANUS_WORK = 1, JANUS_LOOK = 2, JANUS_CRASH = 3 };
+enum { JANUS_HINT_NO = 0, JANUS_HINT_YES = 1 };
+
+/*
+ * WHAT JANUS_RUN RETURNS: names, numbers and words
+ *
+ * The tests are made in this order: 15; 10; 1; 2; 11 over all pairs; 12 over all runs. Then entry by entry: 13; for a proposal 4,
+ * 5, 6, for a work turn 4, 7, 8, 9, for a look or a crash 4, 7, 8. The first refused entry ends the run. The numbers 3, 14 and 16
+ * of the scope document are for callers that hold a session; janus_run never returns them.
+ */
+#define JANUS_RESULTS(X)                                                                                                    \
+    X(JANUS_FINISHED, 0, "finished")                                                                                        \
+    X(JANUS_BUDGET_ENDED, 100, "budget ended with entries left")                                                            \
+    /* The buffer or the sheet is refused as a whole. The buffer is as it was. */                                           \
+    X(JANUS_BAD_BUFFER, 15, "buffer of wrong length")                                                                       \
+    X(JANUS_BAD_SHEET, 10, "sheet under 4 or over 65,535 bytes, over 16 pairs, or too short for its pairs")                 \
+    X(JANUS_BAD_SEAT_COUNT, 1, "seats not 1 to 64")                                                                         \
+    X(JANUS_BAD_ROUND_LIMIT, 2, "round limit below the window or above 256")                                                \
+    X(JANUS_BAD_PAIRS, 11, "pairs unsorted, overlapping, before the end of the pairs, or past the sheet")                   \
+    X(JANUS_BAD_RUN, 12, "length of a run not a multiple of 6")                                                             \
+    /* An entry is refused. The entries before it were carried out, and the buffer tells how they left the seats. */        \
+    X(JANUS_BAD_ENTRY, 13, "entry with an unknown kind or a wrong value")                                                   \
+    X(JANUS_NO_SUCH_SEAT, 4, "seat number n or above")                                                                      \
+    X(JANUS_BLANK_PROPOSAL, 5, "proposal of 0")                                                                             \
+    X(JANUS_SECOND_PROPOSAL, 6, "proposal by a seat that has proposed")                                                     \
+    X(JANUS_SEAT_OUT, 7, "work turn, look or crash of a seat that has not proposed")                                        \
+    X(JANUS_SEAT_GONE, 8, "work turn, look or crash of a seat that has crashed or decided")                                 \
+    X(JANUS_SEAT_SPENT, 9, "work turn of a seat whose rounds are spent")
+
+#define JANUS_RESULT_NAME(name, number, words) name = number,
+enum { JANUS_RESULTS(JANUS_RESULT_NAME) };
+#undef JANUS_RESULT_NAME
+
 #ifdef __cplusplus
+#define JANUS_NOEXCEPT noexcept
 extern "C" {
+#else
+#define JANUS_NOEXCEPT
 #endif
 
-#define JANUS_BUFFER_LENGTH 256
-#define JANUS_FINISHED 0
-#define JANUS_BUDGET_ENDED 100
+/*
+ * Runs a sheet. `budget` is the most entries that are carried out; the one behind them is not tried, be it good or bad:
+ *
+ *   no entry is left behind them     0, even with a budget of 0
+ *   some are left                  100, even if the next one would be refused
+ *   SIZE_MAX or JANUS_ENTRIES_MAX  never 100: no sheet has more entries
+ *
+ * The sheet as a whole is tested whatever the budget. Every call starts from an empty board: to go on, run a longer sheet.
+ *
+ * After 0, 100 and a refused entry all 256 bytes of the buffer are written: bytes 4s to 4s + 3 hold seat s's decided number,
+ * little-endian, or 0 where seat s has not decided (or does not exist), for s from 0 to 63.
+ */
+uint32_t janus_run(const uint8_t *sheet, size_t sheet_length, size_t budget, uint8_t *buffer, size_t buffer_length) JANUS_NOEXCEPT;
 
-uint32_t janus_run(const uint8_t *sheet, size_t sheet_length, size_t budget, uint8_t *buffer, size_t buffer_length);
+/*
+ * Runs a sheet with a budget of JANUS_ENTRIES_MAX and writes the board report's text to the buffer, from its first byte on and
+ * with no NUL behind it. Returns the text's size, which is never below 16; later bytes of the buffer are kept. Returns 15 and
+ * changes nothing if the buffer is shorter than the text; one of JANUS_REPORT_LENGTH bytes never is.
+ *
+ * The text tells which entry was refused: its first line is then "outcome refused CODE INDEX", with indices from 0. The other
+ * first lines are "outcome finished" and the number of entries carried out, and, alone, "sheet refused CODE".
+ */
+size_t janus_report(const uint8_t *sheet, size_t sheet_length, uint8_t *buffer, size_t buffer_length) JANUS_NOEXCEPT;
 
 #ifdef __cplusplus
 }
 #endif
+
+/*
+ * POINTERS. The sheet must be readable for its length and the buffer writable for its length, the two must not overlap, and no
+ * other thread may write either during the call: the proof begins there. With length 0 a pointer is not looked at and may be
+ * NULL: no sheet is answered with 10, no buffer with 15.
+ *
+ * THREADS. The functions keep no state, allocate nothing, take no lock, make no system call and call nothing but memcpy and
+ * memset. Any number of threads may call them at once, each with a buffer of its own; they may share a sheet.
+ *
+ * STACK. A call of janus_run takes about 9 KB, and about 12 KB if the dynamic linker binds memcpy and memset during the call
+ * (measured with glibc 2.36 on a processor with AVX-512). A call of either function takes less than JANUS_STACK. The C library
+ * keeps data of its own on a thread's stack: a thread of 16 KB crashed in its first call. Give a thread JANUS_THREAD_STACK and
+ * what your own functions take. A call on a stack that is too short ends in the guard page, if there is one, never beyond it.
+ *
+ * LINKING. ./install.sh PREFIX builds the archive and installs it, this header and PREFIX/lib/pkgconfig/janus.pc. Then, with
+ * PKG_CONFIG_PATH=PREFIX/lib/pkgconfig: cc server.c $(pkg-config --cflags --libs janus). The code is position-independent and
+ * uses the instructions that every x86-64 processor has. Linked into a shared library, -Wl,--exclude-libs,libjanus.a keeps its
+ * names from being exported by that library. There are no unwind tables and no debug information: a backtrace ends in these
+ * functions, and a C++ exception cannot pass through them. None needs to, as they call nothing back.
+ */
+#define JANUS_STACK 32768
+#define JANUS_THREAD_STACK 65536
+
+/* The words of a number that janus_run returned. */
+static inline const char *janus_result_text(uint32_t number)
+{
+#define JANUS_RESULT_WORDS(name, value, words) \
+    case value:                                \
+        return words;
+    switch (number) {
+        JANUS_RESULTS(JANUS_RESULT_WORDS)
+    default:
+        return "not a number that janus_run returns";
+    }
+#undef JANUS_RESULT_WORDS
+}
+
+/*
+ * DECISIONS. Every figure that goes by the window stands here. The figures are tested, not proved.
+ *
+ *   A seat commits once the last W rounds hold its number and none of them is contested. Every seat that looks from then on
+ *   decides on that number. The seat that committed must look too: a commit alone decides nobody.
+ *
+ *   To get a decision, give one seat work turns with hint yes, and the others none, until that seat has committed; then let every
+ *   seat look. A seat that works alone from an empty board commits with this work turn, whatever L is:
+ *
+ *   seats n          1    2-4    5-9  10-16  17-25  26-36  37-49  50-64
+ *   window W         3      5      7      9     11     13     15     17
+ *   work turns      19     36     57     82    111    144    181    222
+ *
+ *   These are W rounds with a read, a write and 1, 2, .. W comparisons, then two checks for each of the W rounds, then the commit:
+ *   W (W + 9) / 2 + 1. In examples/run_sheet.c n is 2, so W is 5 and the turns are 36.
+ *
+ *   On a board in use, with h as its highest filled round, a seat that works alone commits in round h + W or before, within
+ *   (W + 2) (4W + 4) + h work turns, if L is h + W or more. So L = W is enough for a seat that is alone from the start, and every
+ *   round that seats fill in each other's way needs one more. A larger L takes no more memory.
+ *
+ *   The hint is read between rounds only: with hint no a seat finishes its round, then waits. Seats that get hint yes by turns may
+ *   hinder each other until their rounds are spent, so a run may end undecided: 0 is returned and the buffer holds no number. Run
+ *   a sheet with a larger L, or one in which the hint stays longer with one seat.
+ *
+ *   Work turns after the commit do no harm while rounds are left. In round L the next one with hint yes makes the seat spent, and
+ *   the one after that stops the sheet with 9. A spent seat may still look.
+ */
+static inline unsigned janus_window(unsigned seats)
+{
+    unsigned root = 1;
+    while (root < 8 && root * root < seats)
+        root++;
+    return 2 * root + 1;
+}
+
+/* The work turns that a seat alone takes from an empty board to its commit. */
+static inline unsigned janus_turns_alone(unsigned seats)
+{
+    const unsigned window = janus_window(seats);
+    return window * (window + 9) / 2 + 1;
+}
 
 #endif

@@ -6,8 +6,9 @@
 //! the COUNT. It prints the seed, a table of what the sheets reached, and the
 //! time either side took. It ends with 1 at the first difference, after writing
 //! the sheet to `difference-SEED-INDEX.sheet`; a fault or an endless run of the
-//! library counts as one. It ends with 1, too, if anything that the table expects
-//! was never reached, which takes 50,000 sheets or so.
+//! library counts as one. From 100,000 sheets on it ends with 1, too, if anything
+//! that the table expects was never reached; fewer sheets may be too few for that,
+//! and it says so.
 //!
 //! The library is linked in statically as `entry` and exports
 //! `uint32_t janus_run(const uint8_t *sheet, size_t sheet_len, uint64_t budget,
@@ -22,9 +23,9 @@ use std::sync::mpsc::{channel, Receiver, RecvTimeoutError};
 use std::time::{Duration, Instant, SystemTime, UNIX_EPOCH};
 
 use janus_reference::runner::BUFFER;
-use janus_reference::schedule::MAX_BYTES;
+use janus_reference::sheet::MAX_BYTES;
 use janus_reference::{
-    entry, window, Access, Counts, Operation, Phase, Process, Refusal, Schedule, Session,
+    entry, window, Access, Counts, Operation, Phase, Process, Refusal, Session, Sheet,
 };
 
 // ---------------------------------------------------------------- the library
@@ -595,8 +596,8 @@ struct Case {
     buffer: usize,
 }
 
-fn entries_of(sheet: &[u8]) -> u64 {
-    Schedule::read(sheet).map_or(0, |schedule| schedule.entries().count() as u64)
+fn entries_of(bytes: &[u8]) -> u64 {
+    Sheet::read(bytes).map_or(0, |sheet| sheet.entries().count() as u64)
 }
 
 impl Case {
@@ -819,20 +820,20 @@ impl Coverage {
     }
 
     /// Runs the sheet once more, entry by entry, noting what it reaches.
-    fn observe(&mut self, sheet: &[u8], budget: u64) {
-        let schedule = match Schedule::read(sheet) {
-            Ok(schedule) => schedule,
-            Err(refusal) => return self.sheet_refused(sheet, refusal),
+    fn observe(&mut self, bytes: &[u8], budget: u64) {
+        let sheet = match Sheet::read(bytes) {
+            Ok(sheet) => sheet,
+            Err(refusal) => return self.sheet_refused(bytes, refusal),
         };
         let mut observer = Observer {
-            session: schedule.open(),
+            session: sheet.open(),
             counts: Counts::default(),
             seen: [0; 64],
         };
         let least = observer.session.limit == window(observer.session.n);
         self.least[observer.session.n] += u64::from(least);
-        let (mut done, total) = (0, schedule.entries().count() as u64);
-        for entry in schedule.entries() {
+        let (mut done, total) = (0, sheet.entries().count() as u64);
+        for entry in sheet.entries() {
             if done == budget {
                 self.note(Event::BudgetEnded);
                 self.note_if(budget == 0, Event::BudgetZero);
@@ -898,7 +899,7 @@ impl Coverage {
         self.below[n] += u64::from(limit + 1 == window(n));
         let mut opened = sheet.to_vec();
         opened[2..4].copy_from_slice(&256u16.to_le_bytes());
-        let next = Schedule::read(&opened).err();
+        let next = Sheet::read(&opened).err();
         self.note_if(next == Some(Refusal::Pairs), Event::TwoFirst);
     }
 
@@ -954,7 +955,7 @@ impl Coverage {
             255 => Event::Buffer255,
             _ => Event::Buffer257,
         });
-        let refused = Schedule::read(&case.sheet).is_err();
+        let refused = Sheet::read(&case.sheet).is_err();
         self.note_if(refused, Event::FifteenFirst);
     }
 }
@@ -1203,7 +1204,10 @@ const REPORT: &str = "BOARD_REPORT";
 /// since it may write before it has read all.
 fn reported(program: &OsStr, sheet: &[u8]) -> io::Result<Vec<u8>> {
     let pipes = (Stdio::piped(), Stdio::piped());
-    let mut child = Command::new(program).stdin(pipes.0).stdout(pipes.1).spawn()?;
+    let mut child = Command::new(program)
+        .stdin(pipes.0)
+        .stdout(pipes.1)
+        .spawn()?;
     let mut input = child.stdin.take().expect("the input is a pipe");
     let sheet = sheet.to_vec();
     let writer = std::thread::spawn(move || input.write_all(&sheet));
@@ -1254,16 +1258,18 @@ fn run_case(
     compare_report(index, &case, clock).map_err(|words| (case, words))
 }
 
-/// COUNT and SEED of the command line, or none where they are not numbers.
+/// COUNT, 1 or more, and SEED of the command line, or none where they are not
+/// such numbers.
 fn arguments() -> Option<(u64, u64)> {
     let words: Vec<String> = std::env::args().skip(1).collect();
-    let count = words.first().map_or(Ok(100_000), |word| word.parse());
+    let count = words.first().map_or(Ok(FULL), |word| word.parse());
     let clock = || SystemTime::now().duration_since(UNIX_EPOCH);
     let seed = match words.get(1) {
         Some(word) => word.parse().ok(),
         None => clock().ok().map(|since| since.as_nanos() as u64),
     };
-    (words.len() <= 2).then_some((count.ok()?, seed?))
+    let count = count.ok().filter(|count| *count > 0)?;
+    (words.len() <= 2).then_some((count, seed?))
 }
 
 fn print_clock(count: u64, coverage: &Coverage, clock: &Clock) {
@@ -1305,12 +1311,21 @@ fn work(count: u64, seed: u64) -> io::Result<ExitCode> {
     for name in &missing {
         println!("never reached: {name}");
     }
-    if !missing.is_empty() {
+    if !missing.is_empty() && count >= FULL {
         return Ok(ExitCode::FAILURE);
+    }
+    if !missing.is_empty() {
+        let left = missing.len();
+        println!(
+            "{count} sheets are too few for full coverage, {left} short of it; {FULL} are enough"
+        );
     }
     println!("differential: {count} sheets, no difference");
     Ok(ExitCode::SUCCESS)
 }
+
+/// So many sheets reach all that is expected, and a run of so many must.
+const FULL: u64 = 100_000;
 
 /// Set for the process that runs the cases.
 const WORKER: &str = "DIFFERENTIAL_WORKER";

@@ -1,11 +1,35 @@
 #!/usr/bin/env bash
-# The proved library beside the separately written program on random sheets: no difference may be found, and every kind of step,
-# stance and refusal must be reached. The seed and the counts are printed. Every 50th of the first 100,000 sheets goes through the report's program too.
+# The proved library beside the separately written program on random sheets: no difference may be found, and in a run of 100,000 sheets
+# or more every kind of step, stance and refusal must be reached. The seed and the counts are printed. Every 50th of the first
+# 100,000 sheets goes through the report's program too.
 #
 # usage: tests/differential.sh [SHEETS [SEED]]      as long as one likes; 100,000 sheets from seed 1 in the gate
 set -euo pipefail
+report=board_report
+sheets=${1-100000}
+seed=${2-1}
+
+refuse() {
+    echo "differential.sh: $*" >&2
+    echo "usage: tests/differential.sh [SHEETS [SEED]]      SHEETS 1 or more, SEED 0 or more, each of at most 18 digits" >&2
+    exit 2
+}
+
+(($# <= 2)) || refuse "this is too much: ${*:3}"
+[[ $sheets =~ ^0*[1-9][0-9]{0,17}$ ]] || refuse "'$sheets' is no number of sheets"
+[[ $seed =~ ^[0-9]{1,18}$ ]] || refuse "'$seed' is no seed"
+
 cd "$(dirname "$0")/.."
+mkdir -p target
 rt staticlib janus >target/staticlib.log || { cat target/staticlib.log; exit 1; }
 reference/build.sh target/staticlib/libjanus.a
-rt check board_report >target/report.log || { cat target/report.log; exit 1; }
-BOARD_REPORT=target/bin/board_report target/reference/differential "${1:-100000}" "${2:-1}"
+rt check "$report" >target/report.log || { cat target/report.log; exit 1; }
+export BOARD_REPORT=target/bin/$report
+target/reference/differential "$sheets" "$seed"
+
+# A short run passes, and says that it is short.
+if (($# == 0)); then
+    target/reference/differential 200 7 >target/short.log || { cat target/short.log; exit 1; }
+    grep -q '^200 sheets are too few for full coverage, [0-9]* short of it; 100000 are enough$' target/short.log
+    echo "differential: a run of 200 sheets says that it is too short"
+fi

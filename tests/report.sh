@@ -1,13 +1,22 @@
 #!/usr/bin/env bash
-# The board report's program beside the separately written one: the sample sheets, and the unstarred cases on sheets.
+# The board report's program beside the separately written one: the sample that README runs first, the sample sheets, and the unstarred
+# cases on sheets.
 set -euo pipefail
 cd "$(dirname "$0")/.."
+crate=board_report
+program=target/bin/$crate
 reference/build.sh >/dev/null
 out=target/tests
 mkdir -p "$out"
+
+# As README has it; this proves and builds the program where it changed.
+examples/report.sh >"$out/ours.txt"
+target/reference/reference report <examples/two_decide.sheet | cmp - "$out/ours.txt"
+[[ $(grep -c '^seat [01] decided 3$' "$out/ours.txt") == 2 ]]
+
 same() { # the name of a case; its sheet on standard input
     cat >"$out/case.sheet"
-    target/bin/board_report <"$out/case.sheet" >"$out/ours.txt"
+    "$program" <"$out/case.sheet" >"$out/ours.txt"
     target/reference/reference report <"$out/case.sheet" >"$out/theirs.txt"
     cmp "$out/ours.txt" "$out/theirs.txt" || { echo "report: $1 differs"; exit 1; }
     count=$((count + 1))
@@ -22,5 +31,5 @@ same "no entries" < <(printf '\1\0\3\0')
 [[ $(head -n 1 "$out/ours.txt") == "outcome finished 0" ]]
 same "a sheet of 65,536 bytes" < <(head -c 65536 /dev/zero)
 [[ $(cat "$out/ours.txt") == "sheet refused 10" ]]
-(head -c 60 examples/solo.sheet; sleep 0.2; tail -c +61 examples/solo.sheet) | target/bin/board_report | cmp - crates/board_report/stdout
+(head -c 60 examples/solo.sheet; sleep 0.2; tail -c +61 examples/solo.sheet) | "$program" | cmp - "crates/$crate/stdout"
 echo "report: $count sheets as the separate program has them, and one that comes in pieces"

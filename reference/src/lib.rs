@@ -14,7 +14,7 @@
 //! | estimate | own value |
 //! | decision | D |
 //! | counts | tally |
-//! | schedule | turn sheet |
+//! | sheet | turn sheet |
 //! | leader | hint |
 //! | step | work turn |
 //! | learn | look |
@@ -29,8 +29,8 @@ pub mod readout;
 pub mod refusal;
 pub mod report;
 pub mod runner;
-pub mod schedule;
 pub mod session;
+pub mod sheet;
 pub mod sound;
 pub mod trace;
 
@@ -42,6 +42,6 @@ pub use phase::{Phase, Process};
 pub use refusal::Refusal;
 pub use report::report;
 pub use runner::{entry, run, Ending};
-pub use schedule::{Operation, Schedule};
 pub use session::{window, Session};
-pub use trace::trace;
+pub use sheet::{Operation, Sheet};
+pub use trace::{trace, traces};

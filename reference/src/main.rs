@@ -4,6 +4,8 @@
 //! - `reference report` prints the board report (01, "The board report").
 //! - `reference trace` prints one line an entry; the format is described in
 //!   `trace.rs`.
+//! - `reference traces` prints the traces of many sheets, each behind its length
+//!   in 16 bits, and a blank line after each.
 //! - `reference entry BUDGET` prints `code CODE`, the C entry's answer, and a
 //!   line `seat S decided VALUE` for each place of the buffer that is not 0
 //!   (01, "Turn sheets").
@@ -12,24 +14,28 @@ use std::io::{self, Read, Write};
 use std::process::ExitCode;
 
 use janus_reference::runner::BUFFER;
-use janus_reference::schedule::MAX_BYTES;
-use janus_reference::{entry, report, trace};
+use janus_reference::sheet::MAX_BYTES;
+use janus_reference::{entry, report, trace, traces};
 
-const USAGE: &str = "usage: reference report | trace | entry BUDGET   (sheet on standard input)";
+const USAGE: &str =
+    "usage: reference report | trace | traces | entry BUDGET   (sheet on standard input)";
 
 fn main() -> ExitCode {
     let arguments: Vec<String> = std::env::args().skip(1).collect();
     let words: Vec<&str> = arguments.iter().map(String::as_str).collect();
-    let answer: fn(&[u8], u64) -> String = match words[..] {
-        ["report"] => |sheet, _| report(sheet),
-        ["trace"] => |sheet, _| trace(sheet),
-        ["entry", _] => entry_text,
+    // Of one sheet no more is read than it takes to see that it is too long.
+    let one = MAX_BYTES as u64 + 1;
+    let (most, answer): (u64, fn(&[u8], u64) -> String) = match words[..] {
+        ["report"] => (one, |sheet, _| report(sheet)),
+        ["trace"] => (one, |sheet, _| trace(sheet)),
+        ["traces"] => (u64::MAX, |sheets, _| traces(sheets)),
+        ["entry", _] => (one, entry_text),
         _ => return fail(USAGE),
     };
     let Ok(budget) = words.get(1).map_or(Ok(0), |word| word.parse()) else {
         return fail(USAGE);
     };
-    match answer_sheet(answer, budget) {
+    match answer_input(most, answer, budget) {
         Ok(()) => ExitCode::SUCCESS,
         Err(error) => fail(&format!("reference: {error}")),
     }
@@ -40,12 +46,11 @@ fn fail(message: &str) -> ExitCode {
     ExitCode::from(2)
 }
 
-/// Reads no more than it takes to see that a sheet is too long.
-fn answer_sheet(answer: fn(&[u8], u64) -> String, budget: u64) -> io::Result<()> {
-    let mut sheet = Vec::new();
-    let most = MAX_BYTES as u64 + 1;
-    io::stdin().take(most).read_to_end(&mut sheet)?;
-    io::stdout().write_all(answer(&sheet, budget).as_bytes())
+/// Reads so many bytes at most and prints the answer to them.
+fn answer_input(most: u64, answer: fn(&[u8], u64) -> String, budget: u64) -> io::Result<()> {
+    let mut input = Vec::new();
+    io::stdin().take(most).read_to_end(&mut input)?;
+    io::stdout().write_all(answer(&input, budget).as_bytes())
 }
 
 fn entry_text(sheet: &[u8], budget: u64) -> String {

@@ -5,21 +5,21 @@ use std::fmt::Write;
 use crate::board::Counts;
 use crate::phase::{Phase, Process};
 use crate::runner::{run, Ending};
-use crate::schedule::Schedule;
 use crate::session::Session;
+use crate::sheet::Sheet;
 
 /// The program's budget, as many entries as a sheet can hold.
 pub const BUDGET: u64 = 10_921;
 
 /// The lines printed for a sheet, each ended by a line feed.
-pub fn report(sheet: &[u8]) -> String {
-    let schedule = match Schedule::read(sheet) {
-        Ok(schedule) => schedule,
+pub fn report(bytes: &[u8]) -> String {
+    let sheet = match Sheet::read(bytes) {
+        Ok(sheet) => sheet,
         Err(refusal) => return format!("sheet refused {}\n", refusal.code()),
     };
-    let mut session = schedule.open();
+    let mut session = sheet.open();
     let mut counts = Counts::default();
-    let ending = run(&schedule, BUDGET, &mut session, &mut counts);
+    let ending = run(&sheet, BUDGET, &mut session, &mut counts);
     let mut text = String::new();
     write_report(&mut text, ending, &counts, &session).expect("a string takes every line");
     text
@@ -39,8 +39,7 @@ fn write_report(
             writeln!(text, "outcome finished {done}")?;
         }
     }
-    let (reads, writes, contested) = (counts.reads, counts.writes, counts.contested);
-    writeln!(text, "tally {reads} {writes} {contested}")?;
+    writeln!(text, "tally {counts}")?;
     let (highest, decision) = (session.highest_filled(), session.registers.decision);
     writeln!(text, "board {highest} {decision}")?;
     for (number, process) in session.processes[..session.n].iter().enumerate() {

@@ -2,8 +2,8 @@
 
 use crate::board::Counts;
 use crate::refusal::Refusal;
-use crate::schedule::{Operation, Schedule, ENTRY};
 use crate::session::{Session, MAX_PROCESSES};
+use crate::sheet::{Operation, Sheet, ENTRY};
 
 /// The C entry's answer where the budget ended. (01, "Turn sheets".)
 pub const BUDGET_ENDED: u32 = 100;
@@ -40,11 +40,11 @@ impl Ending {
     }
 }
 
-/// Carries out a schedule's entries on the session it opened. (01: the runner;
+/// Carries out a sheet's entries on the session it opened. (01: the runner;
 /// each entry 13 first, then its operation's own order.)
-pub fn run(schedule: &Schedule, budget: u64, session: &mut Session, counts: &mut Counts) -> Ending {
+pub fn run(sheet: &Sheet, budget: u64, session: &mut Session, counts: &mut Counts) -> Ending {
     let mut done = 0;
-    for run in schedule.runs() {
+    for run in sheet.runs() {
         for entry in run.chunks_exact(ENTRY) {
             if done == budget {
                 return Ending::BudgetEnded(done);
@@ -62,17 +62,17 @@ pub fn run(schedule: &Schedule, budget: u64, session: &mut Session, counts: &mut
 
 /// What the clinic server gets. (01, "Turn sheets", the C entry: 15 first; the
 /// buffer is written unless the answer is 15, 1, 2, 10, 11 or 12.)
-pub fn entry(sheet: &[u8], budget: u64, buffer: &mut [u8]) -> u32 {
+pub fn entry(bytes: &[u8], budget: u64, buffer: &mut [u8]) -> u32 {
     if buffer.len() != BUFFER {
         return Refusal::Buffer.code();
     }
-    let schedule = match Schedule::read(sheet) {
-        Ok(schedule) => schedule,
+    let sheet = match Sheet::read(bytes) {
+        Ok(sheet) => sheet,
         Err(refusal) => return refusal.code(),
     };
-    let mut session = schedule.open();
+    let mut session = sheet.open();
     let mut counts = Counts::default();
-    let ending = run(&schedule, budget, &mut session, &mut counts);
+    let ending = run(&sheet, budget, &mut session, &mut counts);
     write_decided(&session, buffer);
     ending.code()
 }

@@ -4,7 +4,7 @@
 use crate::board::{Access, Board, Counts, Registers};
 use crate::phase::{Bounds, Phase, Process};
 use crate::refusal::Refusal;
-use crate::schedule::Operation;
+use crate::sheet::Operation;
 
 /// The most processes of a session. (01: seats n, 1 to 64.)
 pub const MAX_PROCESSES: usize = 64;

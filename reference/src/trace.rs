@@ -1,12 +1,12 @@
 //! The trace of a sheet, for working a case on paper register by register.
 //!
-//! One line an entry, four columns set apart by ` | `:
+//! One line an entry, five columns set apart by ` | `:
 //!
 //! ```text
-//! INDEX | OPERATION   | REGISTER        | RECORD
-//!     0 | propose 0 7 | none            | gate round 0 value 7
-//!     1 | work 0 yes  | T[1] read blank | put round 1 value 7
-//!     2 | work 0 yes  | T[1] written 7  | compare 0 round 1 value 7
+//! INDEX | OPERATION   | REGISTER        | RECORD                    | TALLY
+//!     0 | propose 0 7 | none            | gate round 0 value 7      | 0 0 0
+//!     1 | work 0 yes  | T[1] read blank | put round 1 value 7       | 1 0 0
+//!     2 | work 0 yes  | T[1] written 7  | compare 0 round 1 value 7 | 1 1 0
 //! ```
 //!
 //! - INDEX counts from 0 over all runs and is set to the right in 5 places.
@@ -18,9 +18,10 @@
 //!   `C[r] marked`, `D read VALUE` or `D written VALUE`, `blank` standing for a
 //!   VALUE of 0; set to the left in 25 places.
 //! - RECORD is the seat's record after the entry: its stance with its place,
-//!   then `round R value V`.
+//!   then `round R value V`; set to the left in 40 places.
+//! - TALLY is reads, writes and contested, from the sheet's start on.
 //!
-//! A refused entry has `refused CODE` in place of the last two columns and is
+//! A refused entry has `refused CODE` in place of the last three columns and is
 //! the last line. A refused sheet gives the one line `sheet refused CODE`.
 //!
 //! So `grep '| work 3 '` follows a seat's turns, `grep 'T\[4\]'` a register,
@@ -32,19 +33,19 @@ use std::fmt::Write;
 use crate::board::{Access, Counts};
 use crate::phase::{Phase, Process};
 use crate::refusal::Refusal;
-use crate::schedule::{Operation, Schedule};
 use crate::session::Session;
+use crate::sheet::{Operation, Sheet};
 
 /// The trace of a sheet, each line ended by a line feed.
-pub fn trace(sheet: &[u8]) -> String {
-    let schedule = match Schedule::read(sheet) {
-        Ok(schedule) => schedule,
+pub fn trace(bytes: &[u8]) -> String {
+    let sheet = match Sheet::read(bytes) {
+        Ok(sheet) => sheet,
         Err(refusal) => return format!("sheet refused {}\n", refusal.code()),
     };
-    let mut session = schedule.open();
+    let mut session = sheet.open();
     let mut counts = Counts::default();
     let mut text = String::new();
-    for (index, entry) in schedule.entries().enumerate() {
+    for (index, entry) in sheet.entries().enumerate() {
         let (words, result) = carry_out(entry, &mut session, &mut counts);
         write!(text, "{index:5} | {words:24} | ").expect("a string takes every line");
         match result {
@@ -58,7 +59,21 @@ pub fn trace(sheet: &[u8]) -> String {
     text
 }
 
-/// The words of an entry, and its last two columns or its refusal.
+/// The traces of many sheets, each ended by a blank line. A sheet stands behind
+/// its length, 16 bits, low byte first.
+pub fn traces(sheets: &[u8]) -> String {
+    let (mut text, mut rest) = (String::new(), sheets);
+    while let &[low, high, ref bytes @ ..] = rest {
+        let length = usize::from(u16::from_le_bytes([low, high])).min(bytes.len());
+        let (sheet, after) = bytes.split_at(length);
+        text += &trace(sheet);
+        text.push('\n');
+        rest = after;
+    }
+    text
+}
+
+/// The words of an entry, and its last three columns or its refusal.
 fn carry_out(
     entry: &[u8],
     session: &mut Session,
@@ -72,7 +87,7 @@ fn carry_out(
     let result = session
         .apply_trusted(operation, counts, |access| register = access.to_string())
         .map(|()| &session.processes[operation.process()])
-        .map(|process| format!("{register:25} | {process}\n"));
+        .map(|process| format!("{register:25} | {:40} | {counts}\n", process.to_string()));
     (operation.to_string(), result)
 }
 
@@ -92,6 +107,12 @@ impl fmt::Display for Operation {
             Operation::Learn { process } => write!(f, "look {process}"),
             Operation::Crash { process } => write!(f, "crash {process}"),
         }
+    }
+}
+
+impl fmt::Display for Counts {
+    fn fmt(&self, f: &mut fmt::Formatter) -> fmt::Result {
+        write!(f, "{} {} {}", self.reads, self.writes, self.contested)
     }
 }
 

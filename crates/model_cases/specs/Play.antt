@@ -7,51 +7,28 @@ use Rattle.model.specs.declared.Phase.{Phase}
 use Rattle.model.specs.declared.Phase.the-variants.{Idle, Waiting, Write, Scan, Adopt, Compare, Flag, CheckMark}
 use Rattle.model.specs.declared.Phase.the-variants.{CheckValue, Commit, Exhausted, Crashed, Decided}
 use Rattle.model.specs.declared.Process.{Process}
-use Rattle.model.specs.declared.Session.{Session}
-use Rattle.model.specs.declared.Counts.{Counts}
-use Rattle.model.specs.declared.Changed.{Changed}
+use Rattle.model.specs.declared.Operation.{Operation}
 use Rattle.model.specs.declared.Stepped.{Stepped}
 use Rattle.model.specs.Window.{window}
-use Rattle.model.specs.Board.{valueAt, markAt, processAt}
-use Rattle.model.specs.Step.{bit}
-use Rattle.model.specs.Machine
+use Rattle.model.specs.Board.{valueAt, markAt, processAt, noCounts}
+use Rattle.model.specs.Machine.{opening, perform}
 use Rattle.model.specs.Sound.{every}
+use Rattle.model.specs.Public.{withCounts}
 
--- One operation of a case. All of them use the case's own counts, which begin at 0.
-pub data Operation : Type 0 where
-  propose : (p v : ℕ) → Operation
-  work : (p : ℕ) → (leader : Bool) → Operation
-  look : (p : ℕ) → Operation
-  crash : (p : ℕ) → Operation
+-- The machine of n processes after one operation: its answer, the session and the counts.
+played : (n : ℕ) → Stepped → Operation → Stepped
+played n t o = perform (window n) (t .session) (t .counts) o
 
--- The answer of the last operation (at first: of the opening), the session and the counts.
-pub record State : Type 0 where
-  pub code : ℕ
-  pub session : Session
-  pub counts : Counts
-
-fromChanged : Changed → Counts → State
-fromChanged a c = record { code = a .code; session = a .session; counts = c }
-
-fromStepped : Stepped → State
-fromStepped a = record { code = a .code; session = a .session; counts = a .counts }
-
-played : State → Operation → State
-unfolding fromChanged fromStepped
-played t (propose p v) = fromChanged (Machine.propose (t .session) p v) (t .counts)
-played t (work p leader) = fromStepped (Machine.step (t .session) p leader (t .counts))
-played t (look p) = fromStepped (Machine.learn (t .session) p (t .counts))
-played t (crash p) = fromChanged (Machine.crash (t .session) p) (t .counts)
-
--- The machine, opened with n processes and round limit L, after the operations one after another.
-playedAll : State → List Operation → State
+-- After operations one after another.
+playedAll : (n : ℕ) → Stepped → List Operation → Stepped
 unfolding played
-playedAll t [] = t
-playedAll t (o ∷ os) = playedAll (played t o) os
+playedAll n t [] = t
+playedAll n t (o ∷ os) = playedAll n (played n t o) os
 
-play : (n L : ℕ) → List Operation → State
-unfolding fromChanged playedAll
-play n L os = playedAll (fromChanged (Machine.opening n L) (record { reads = 0; writes = 0; contested = 0 })) os
+-- Opened with n processes and round limit L, and an empty tally.
+play : (n L : ℕ) → List Operation → Stepped
+unfolding playedAll
+play n L os = playedAll n (withCounts (opening n L) noCounts) os
 
 -- What a case says of the state after it.
 pub data Shows : Type 0 where
@@ -97,7 +74,7 @@ phaseEq φ ψ = eqb (kind φ) (kind ψ) && eqb (place φ) (place ψ)
     place Crashed = 0
     place Decided = 0
 
-shown : State → Shows → Bool
+shown : Stepped → Shows → Bool
 unfolding phaseEq
 shown t (answers k) = eqb (t .code) k
 shown t (hasWindow W) = eqb (window (t .session .n)) W

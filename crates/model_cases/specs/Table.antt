@@ -4,38 +4,39 @@ use mathlib.Core.Path.{_≡_, refl}
 use mathlib.Core.Bool.{Bool, true, false}
 use mathlib.Core.List.{List, [], _∷_, _++_}
 use Rattle.model.specs.declared.Phase.the-variants.{Waiting, Compare, Commit, Exhausted, Decided}
+use Rattle.model.specs.declared.Operation.{Operation}
+use Rattle.model.specs.declared.Operation.the-variants.{Propose, Step, Learn}
 use Rattle.model.specs.Window.{window, rootUp, rootFrom}
 use Rattle.model.specs.Board.{opened}
 use Rattle.model.specs.Step.{accessAt, access, found, goOn, nextAt, next, learnt, written, turn, counted}
 use Rattle.model.specs.Refusal.{full}
-use Rattle.model.specs.Machine.{openWithin, opening, proposed, propose as proposeOf, worked, step, looked, learn, crashed, crash as crashOf}
+use Rattle.model.specs.Machine.{openWithin, opening, accessOf, becomes, after, countsAfter, answered, perform}
 use Rattle.model.specs.Sound.{every}
-use Rattle.model_cases.specs.Play.{Operation, Case, holds, repeat}
-use Rattle.model_cases.specs.Play.Operation.{propose, work, look, crash}
+use Rattle.model_cases.specs.Play.{Case, holds, repeat}
 use Rattle.model_cases.specs.Play.Shows.{answers, hasWindow, register, marked, decision, stands, counts}
 
 -- n = 1, L = 3, proposal 7, hints yes.
 solo : ℕ → List Operation
-solo turns = propose 0 7 ∷ repeat turns (work 0 true)
+solo turns = Propose 0 7 ∷ repeat turns (Step 0 true)
 
 -- n = 2, L = 5: seat 0 proposes 3, seat 1 proposes 8; hints yes; work 0, 1, 0, 1, 0, 0, 1.
 contended : List Operation
 contended =
-    propose 0 3
-    ∷ propose 1 8
-    ∷ work 0 true
-    ∷ work 1 true
-    ∷ work 0 true
-    ∷ work 1 true
-    ∷ work 0 true
-    ∷ work 0 true
-    ∷ work 1 true
+    Propose 0 3
+    ∷ Propose 1 8
+    ∷ Step 0 true
+    ∷ Step 1 true
+    ∷ Step 0 true
+    ∷ Step 1 true
+    ∷ Step 0 true
+    ∷ Step 0 true
+    ∷ Step 1 true
     ∷ []
 
 -- "From there work 0, 0, 1, 1, 1."
 continued : List Operation
 unfolding contended
-continued = contended ++ (work 0 true ∷ work 0 true ∷ work 1 true ∷ work 1 true ∷ work 1 true ∷ [])
+continued = contended ++ (Step 0 true ∷ Step 0 true ∷ Step 1 true ∷ Step 1 true ∷ Step 1 true ∷ [])
 
 pub table : List Case
 unfolding solo contended continued
@@ -57,7 +58,7 @@ table =
     ∷ record {
       n = 1;
       limit = 3;
-      operations = propose 0 7 ∷ repeat 19 (work 0 false);
+      operations = Propose 0 7 ∷ repeat 19 (Step 0 false);
       shows = answers 0 ∷ stands 0 Waiting 0 7 ∷ counts 0 0 0 ∷ [];
     }
     -- two processes
@@ -69,18 +70,18 @@ table =
       shows = register 2 3 ∷ stands 1 (Compare 0) 2 3 ∷ counts 8 4 1 ∷ [];
     }
     -- at gate with round L: hint no; hint yes; a further work turn; a look
-    ∷ record { n = 1; limit = 3; operations = solo 19 ++ (work 0 false ∷ []); shows = answers 0 ∷ stands 0 Waiting 3 7 ∷ [] }
+    ∷ record { n = 1; limit = 3; operations = solo 19 ++ (Step 0 false ∷ []); shows = answers 0 ∷ stands 0 Waiting 3 7 ∷ [] }
     ∷ record { n = 1; limit = 3; operations = solo 20; shows = answers 0 ∷ stands 0 Exhausted 3 7 ∷ [] }
     ∷ record { n = 1; limit = 3; operations = solo 21; shows = answers 9 ∷ stands 0 Exhausted 3 7 ∷ [] }
-    ∷ record { n = 1; limit = 3; operations = solo 21 ++ (look 0 ∷ []); shows = answers 0 ∷ stands 0 Decided 3 7 ∷ [] }
+    ∷ record { n = 1; limit = 3; operations = solo 21 ++ (Learn 0 ∷ []); shows = answers 0 ∷ stands 0 Decided 3 7 ∷ [] }
     -- a second proposal
-    ∷ record { n = 1; limit = 3; operations = propose 0 5 ∷ propose 0 5 ∷ []; shows = answers 6 ∷ [] }
-    ∷ record { n = 1; limit = 3; operations = propose 0 5 ∷ propose 0 0 ∷ []; shows = answers 5 ∷ [] }
+    ∷ record { n = 1; limit = 3; operations = Propose 0 5 ∷ Propose 0 5 ∷ []; shows = answers 6 ∷ [] }
+    ∷ record { n = 1; limit = 3; operations = Propose 0 5 ∷ Propose 0 0 ∷ []; shows = answers 5 ∷ [] }
     ∷ []
 
 -- Every row holds of the machine.
 pub starred-cases : every holds table ≡ true
 unfolding
     table holds window rootUp rootFrom opened accessAt access found goOn nextAt next learnt written turn counted full openWithin opening
-    proposed proposeOf worked step looked learn crashed crashOf
+    accessOf becomes after countsAfter answered perform
 starred-cases = refl

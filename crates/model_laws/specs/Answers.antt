@@ -1,10 +1,12 @@
 -- The answer of an operation, by the number of its first refusal and by what is left where it is 0.
 use Prim.Native.Nat.{ℕ, suc, zero, _<_, _≤_, _%_}
 use native.Mathlib.Omega.{arith}
-use mathlib.Core.Path.{_≡_, refl, sym, _∙_}
+use mathlib.Core.Path.{_≡_, refl, sym, _∙_, ap}
 use mathlib.Core.Bool.{Bool, true, false, cond, not}
 use mathlib.Core.List.{_∷_}
-use borrow.Author.Tests.{not-false}
+use lib.Dec.{leb}
+use borrow.Author.Tests.{leb-false}
+use Rattle.model.specs.declared.Phase.the-variants.{Waiting, Crashed}
 use Rattle.model.specs.declared.Process.{Process}
 use Rattle.model.specs.declared.Session.{Session}
 use Rattle.model.specs.declared.Counts.{Counts}
@@ -12,11 +14,11 @@ use Rattle.model.specs.declared.Operation.{Operation}
 use Rattle.model.specs.declared.Operation.the-variants.{Propose, Step, Learn, Crash, Malformed}
 use Rattle.model.specs.declared.Changed.{Changed}
 use Rattle.model.specs.declared.Stepped.{Stepped}
-use Rattle.model.specs.Board.{processAt}
+use Rattle.model.specs.Board.{processAt, withProcess, noCounts}
 use Rattle.model.specs.Window.{window}
-use Rattle.model.specs.Step.{counted}
-use Rattle.model.specs.Refusal.{refusal, ownTests, tests, stepped, full}
-use Rattle.model.specs.Machine.{accessOf, answered, perform}
+use Rattle.model.specs.Step.{counted, turn, written, found, learnt, process}
+use Rattle.model.specs.Refusal.{refusal, isMalformed, processOf, ownTests, tests, stepped, full}
+use Rattle.model.specs.Machine.{accessOf, becomes, after, countsAfter, answered, perform}
 use Rattle.model.specs.Public.{operate, withCounts, withoutCounts}
 use Rattle.model.specs.Sound.{sound}
 use Rattle.base.specs.Bools.{cond-same}
@@ -66,10 +68,6 @@ admitted s c o e = go (sound s) refl e
     go true eb e′ = (eb, accepted s c o e′)
     go false eb e′ = absurd (omega arith)
 
--- A sound session has few processes, so that the index at which the code reads one is its number.
-pub index-is : (s : Session) (p : ℕ) → sound s ≡ true → p < s .n → p % 64 ≡ p
-index-is s p t below = omega (arith, sound-few s t)
-
 -- Where an accepted operation counts a register operation, the counts are not full: the code's own test of that changes nothing.
 pub accepted-counts : (L : ℕ) (q : Process) (c : Counts) (o : Operation) → NoneHolds (ownTests (q .phase) c o) →
     cond (full c) c (counted (accessOf L q o) c) ≡ counted (accessOf L q o) c
@@ -79,3 +77,69 @@ accepted-counts L q c (Step p leader) own = rw (own .1 .1 .1 .0)
 accepted-counts L q c (Learn p) own = rw (own .1 .1 .0)
 accepted-counts L q c (Crash p) own = cond-same (full c) c
 accepted-counts L q c Malformed own = cond-same (full c) c
+
+-- A sound session has few processes, so that the index at which the code reads one is its number.
+pub index-is : (s : Session) (p : ℕ) → sound s ≡ true → p < s .n → p % 64 ≡ p
+index-is s p t below = omega (arith, sound-few s t)
+
+module _ (s : Session) (c : Counts) (o : Operation) where
+  -- The number, with the own tests made on the record that the code reads.
+  pub code-is : {b : Bool} {own k : ℕ} → isMalformed o ≡ false → b ≡ sound s →
+      own ≡ refusal (ownTests (processAt s (processOf o % 64) .phase) c o) →
+      k ≡ cond (not b) 3 (cond (leb (s .n) (processOf o)) 4 own) →
+      k ≡ codeOf s c o
+  code-is formed eb eo ek = ek ∙ rw (eb, eo, formed) (go (sound s) (leb (s .n) (processOf o)) refl refl)
+    where
+      go : (b t : Bool) → sound s ≡ b → leb (s .n) (processOf o) ≡ t →
+          cond (not b) 3 (cond t 4 (refusal (ownTests (processAt s (processOf o % 64) .phase) c o)))
+          ≡ cond (not b) 3 (cond t 4 (refusal (ownTests (processAt s (processOf o) .phase) c o)))
+      go true true eb et = refl
+      go true false eb et = rw (index-is s (processOf o) eb (leb-false (s .n) (processOf o) et))
+      go false t eb et = refl
+
+  module _ {k : ℕ} (code : k ≡ codeOf s c o) where
+    pub operate-refused : (k ≡ 0 → ⊥) → record { code = k; session = s; counts = c } ≡ operate s c o
+    unfolding operate answered
+    operate-refused some = stepped-refused _ _ code some
+
+    module _ (none : k ≡ 0) where
+      -- What the accepted operation knows.
+      pub known : (sound s ≡ true) × Accepted s c o
+      known = admitted s c o (sym code ∙ none)
+
+      pub index-of : processOf o % 64 ≡ processOf o
+      index-of = index-is s (processOf o) (known .0) (known .1 .below)
+
+      -- The session and the counts that the code leaves.
+      pub operate-accepted : {t : Session} {d : Counts} → t ≡ after (window (s .n)) s o →
+          d ≡ cond (full c) c (counted (accessOf (s .limit) (processAt s (processOf o)) o) c) →
+          record { code = k; session = t; counts = d } ≡ operate s c o
+      unfolding operate answered countsAfter
+      operate-accepted et ed = stepped-accepted s c code none et (ed ∙ accepted-counts (s .limit) _ c o (known .1 .own))
+
+-- The same of an operation that is lent no counts.
+module _ (s : Session) (o : Operation) {k : ℕ} (code : k ≡ codeOf s noCounts o) where
+  pub uncounted-refused : (k ≡ 0 → ⊥) → record { code = k; session = s } ≡ withoutCounts (operate s noCounts o)
+  uncounted-refused some = ap withoutCounts (operate-refused s noCounts o code some)
+
+  pub uncounted-accepted : k ≡ 0 → {t : Session} → t ≡ after (window (s .n)) s o →
+      record { code = k; session = t } ≡ withoutCounts (operate s noCounts o)
+  uncounted-accepted none et = ap withoutCounts (operate-accepted s noCounts o code none et refl)
+
+-- ---- what an accepted operation that writes no register leaves
+
+module _ (W : ℕ) (s : Session) where
+  pub proposed-is : (p v : ℕ) {i : ℕ} {q : Process} → i ≡ p → q ≡ process Waiting (processAt s i .round) v →
+      withProcess s i q ≡ after W s (Propose p v)
+  unfolding after turn written accessOf becomes
+  proposed-is p v ei eq = rw (eq, ei)
+
+  pub crashed-is : (p : ℕ) {i : ℕ} {q : Process} → i ≡ p → q ≡ process Crashed (processAt s i .round) (processAt s i .estimate) →
+      withProcess s i q ≡ after W s (Crash p)
+  unfolding after turn written accessOf becomes
+  crashed-is p ei eq = rw (eq, ei)
+
+  pub learnt-is : (p : ℕ) {i : ℕ} {q : Process} → i ≡ p → q ≡ learnt (processAt s i) (s .decision) →
+      withProcess s i q ≡ after W s (Learn p)
+  unfolding after turn written accessOf becomes found
+  learnt-is p ei eq = rw (eq, ei)

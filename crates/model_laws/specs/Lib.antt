@@ -8,3 +8,4 @@ pub mod Keeps
 pub mod Sounds
 pub mod Operations
 pub mod Answers
+pub mod ByteLaws

@@ -26,7 +26,7 @@ use Rattle.model_laws.specs.Every.{every-replicate, every-drop}
 use Rattle.model_laws.specs.Accepted.{NoneHolds, none-holds, Accepted, accepted}
 use Rattle.model_laws.specs.Windows.{window-least}
 use Rattle.model_laws.specs.Phases.{process-facts, inside-some}
-use Rattle.model_laws.specs.Ranges.{InRange, access-range}
+use Rattle.model_laws.specs.Ranges.{InRange, access-range, range-more}
 use Rattle.model_laws.specs.Keeps.{next-sound, learnt-sound, placed-sound}
 use Rattle.model_laws.specs.Sounds.{Sound, sound-facts, facts-sound, idle-sound, sound-process, set-sound, written-sound}
 
@@ -81,16 +81,27 @@ becomes-sound W L q c (Crash p) x wide t own =
     placed-sound W L wide (q .round) (q .estimate) (inside-some f (own .0)) (f .round) .1
 becomes-sound W L q c Malformed x wide t own = t
 
-module _ (W : ℕ) (wide : 1 ≤ W) (s : Session) (c : Counts) (o : Operation) (t : soundAt W s ≡ true) where
-  -- The register operation of any operation.
-  pub access-in-range : InRange (s .limit) (accessOf (s .limit) (processAt s (processOf o)) o)
-  access-in-range = operation-range W (s .limit) _ o (sound-process W s (processOf o) t)
+module _ (W : ℕ) (s : Session) (o : Operation) where
+  -- No operation changes n or the limit.
+  pub after-same : (after W s o .n ≡ s .n) × (after W s o .limit ≡ s .limit)
+  unfolding after turn
+  after-same = (written-same s _ _ .n, written-same s _ _ .limit)
 
+  module _ (t : soundAt W s ≡ true) where
+    -- The register operation of any operation is on registers 1 to L, and so on the arrays' registers.
+    pub access-in-range : InRange (s .limit) (accessOf (s .limit) (processAt s (processOf o)) o)
+    access-in-range = operation-range W (s .limit) _ o (sound-process W s (processOf o) t)
+
+    pub access-in-arrays : InRange maxRounds (accessOf (s .limit) (processAt s (processOf o)) o)
+    access-in-arrays =
+        range-more (s .limit) maxRounds (accessOf (s .limit) (processAt s (processOf o)) o) (sound-facts W s t .low) access-in-range
+
+module _ (W : ℕ) (wide : 1 ≤ W) (s : Session) (c : Counts) (o : Operation) (t : soundAt W s ≡ true) where
   -- An accepted operation leaves a sound session.
   pub after-sound : Accepted s c o → soundAt W (after W s o) ≡ true
   unfolding after
   after-sound a =
-      turn-sound W s (processOf o) _ _ t (a .below) access-in-range
+      turn-sound W s (processOf o) _ _ t (a .below) (access-in-range W s o t)
       (becomes-sound W (s .limit) _ c o _ wide (sound-process W s (processOf o) t) (a .own))
 
   -- And so does each operation, accepted or refused.
@@ -101,11 +112,6 @@ module _ (W : ℕ) (wide : 1 ≤ W) (s : Session) (c : Counts) (o : Operation) (
       go : (k : ℕ) → refusal (tests s c o) ≡ k → soundAt W (stepped k s (after W s o) c (countsAfter s c o) .session) ≡ true
       go zero e = after-sound (accepted s c o e)
       go (suc k) e = t
-
-  -- No operation changes n or the limit.
-  pub after-same : (after W s o .n ≡ s .n) × (after W s o .limit ≡ s .limit)
-  unfolding after turn
-  after-same = (written-same s _ _ .n, written-same s _ _ .limit)
 
 -- A session just opened, with n and L as an opening accepts them.
 pub opened-sound : (W n L : ℕ) → 1 ≤ n → n ≤ maxProcesses → W ≤ L → L ≤ maxRounds → soundAt W (opened n L) ≡ true

@@ -44,3 +44,13 @@ access-range W L r Commit leader low f = tt
 access-range W L r Exhausted leader low f = tt
 access-range W L r Crashed leader low f = tt
 access-range W L r Decided leader low f = tt
+
+-- The registers 1 to L are among those 1 to M, where L is at most M.
+pub range-more : (L M : ℕ) (a : Access) → L ≤ M → InRange L a → InRange M a
+range-more L M Nothing low ok = tt
+range-more L M (ReadValue r) low ok = omega arith
+range-more L M (WriteValue r) low ok = omega arith
+range-more L M (ReadMark r) low ok = omega arith
+range-more L M (SetMark r) low ok = omega arith
+range-more L M ReadDecision low ok = tt
+range-more L M WriteDecision low ok = tt

@@ -2,8 +2,8 @@
 ghost use mathlib.Core.Path.{_≡_};
 ghost use mathlib.Core.Bool.{cond, not};
 ghost use mathlib.Core.List.{[], _∷_};
-ghost use lib.Dec.{eqb, leb};
-ghost use Rattle.model.specs.Refusal.{status as statusOf, isOutside, isGone, isSpent, full as fullOf, refusal};
+ghost use lib.Dec.{leb};
+ghost use Rattle.model.specs.Refusal.{status as statusOf, full as fullOf, refusal, proposeTests, crashTests, learnTests, stepTests};
 use model::Counts;
 use model::Phase;
 use model::Status;
@@ -36,9 +36,9 @@ fn full_refusal(c: Counts) -> u32
     if part_counts::full(c) { 16 } else { 0 }
 }
 
-// 01, "Numbers returned", proposal: 5, 6, the tests of `proposeTests` after the process' number.
+// 01, "Numbers returned", proposal, after the process' number: 5, 6.
 pub fn propose_refusal(v: u32, phase: Phase) -> u32
-    ensures { λ r. ⌜ r ≡ refusal ((eqb v 0, 5) ∷ (not (isOutside (statusOf phase)), 6) ∷ []) ⌝ }
+    ensures { λ r. ⌜ r ≡ refusal (proposeTests phase v) ⌝ }
 {
     if v == 0 {
         return 5;
@@ -51,9 +51,9 @@ pub fn propose_refusal(v: u32, phase: Phase) -> u32
     }
 }
 
-// 01, "Numbers returned", crash: 7, 8, the tests of `crashTests` after the seat's number.
-pub fn turn_refusal(phase: Phase) -> u32
-    ensures { λ r. ⌜ r ≡ refusal ((isOutside (statusOf phase), 7) ∷ (isGone (statusOf phase), 8) ∷ []) ⌝ }
+// 01, "Numbers returned", crash, after the process' number: 7, 8.
+pub fn crash_refusal(phase: Phase) -> u32
+    ensures { λ r. ⌜ r ≡ refusal (crashTests phase) ⌝ }
 {
     match status(phase) {
         Status::Outside => 7, // a crash before the proposal
@@ -63,9 +63,9 @@ pub fn turn_refusal(phase: Phase) -> u32
     }
 }
 
-// 01, "Numbers returned", look: 7, 8, 16, the tests of `learnTests` after the seat's number.
+// 01, "Numbers returned", look, after the process' number: 7, 8, 16.
 pub fn learn_refusal(phase: Phase, c: Counts) -> u32
-    ensures { λ r. ⌜ r ≡ refusal ((isOutside (statusOf phase), 7) ∷ (isGone (statusOf phase), 8) ∷ (fullOf c, 16) ∷ []) ⌝ }
+    ensures { λ r. ⌜ r ≡ refusal (learnTests phase c) ⌝ }
 {
     match status(phase) {
         Status::Outside => 7, // a look before the proposal
@@ -75,9 +75,9 @@ pub fn learn_refusal(phase: Phase, c: Counts) -> u32
     }
 }
 
-// 01, "Numbers returned", work: 7, 8, 9, 16, the tests of `stepTests` after the seat's number.
+// 01, "Numbers returned", work, after the process' number: 7, 8, 9, 16.
 pub fn step_refusal(phase: Phase, c: Counts) -> u32
-    ensures { λ r. ⌜ r ≡ refusal ((isOutside (statusOf phase), 7) ∷ (isGone (statusOf phase), 8) ∷ (isSpent (statusOf phase), 9) ∷ (fullOf c, 16) ∷ []) ⌝ }
+    ensures { λ r. ⌜ r ≡ refusal (stepTests phase c) ⌝ }
 {
     match status(phase) {
         Status::Outside => 7, // a step before the proposal
@@ -90,7 +90,7 @@ pub fn step_refusal(phase: Phase, c: Counts) -> u32
 // 01, "Numbers returned": 3 for a session that is not sound, 4 for a process number n or above, then the number that the
 // operation's own tests give.
 pub fn first_refusal(sound: bool, n: usize, p: usize, own: u32) -> u32
-    ensures { λ r. ⌜ r ≡ cond sound (cond (leb n p) 4 own) 3 ⌝ }
+    ensures { λ r. ⌜ r ≡ cond (not sound) 3 (cond (leb n p) 4 own) ⌝ }
 {
     if !sound {
         return 3;

@@ -1,39 +1,54 @@
 -- The registers one by one: what an access reads and leaves in each, and the turn made of them.
-use Prim.Native.Nat.{ℕ, _-_, _≤_}
+use Prim.Native.Nat.{ℕ, _+_, _-_, _%_, _≤_}
 use native.Mathlib.Omega.{arith}
-use mathlib.Core.Path.{_≡_, refl}
-use mathlib.Core.Bool.{Bool, true, false, cond}
+use mathlib.Core.Path.{_≡_, refl, sym}
+use mathlib.Core.Bool.{Bool, true, false}
 use mathlib.Core.List.{List}
 use lib.ListN.{getD, set}
 use lib.Dec.{ltb}
-use borrow.Author.Tests.{lt-ltb}
+use Rattle.model.specs.declared.Phase.{Phase}
+use Rattle.model.specs.declared.Phase.the-variants.{Idle, Waiting, Write, Scan, Adopt, Compare, Flag, CheckMark}
+use Rattle.model.specs.declared.Phase.the-variants.{CheckValue, Commit, Exhausted, Crashed, Decided}
 use Rattle.model.specs.declared.Access.{Access}
 use Rattle.model.specs.declared.Access.the-variants.{Nothing, ReadValue, WriteValue, ReadMark, SetMark, ReadDecision, WriteDecision}
 use Rattle.model.specs.declared.Process.{Process}
 use Rattle.model.specs.declared.Session.{Session}
-use Rattle.model.specs.Board.{processAt, maxRounds}
-use Rattle.model.specs.Step.{access, accessAt, bit, found, written, turn}
-use Rattle.model.specs.Sound.{soundAt}
-use Rattle.model_laws.specs.Phases.{process-facts}
-use Rattle.model_laws.specs.Ranges.{InRange, access-range}
-use Rattle.model_laws.specs.Sounds.{sound-facts, sound-process}
+use Rattle.model.specs.declared.Operation.the-variants.{Step}
+use Rattle.model.specs.Board.{processAt, with, maxRounds}
+use Rattle.model.specs.Step.{accessAt, access, next, bit, found, written, turn}
+use Rattle.model.specs.Machine.{accessOf, becomes, after}
+use Rattle.base.specs.Bools.{cond-cases}
+use Rattle.model_laws.specs.Ranges.{InRange}
 
--- The value read from the registers, by the case of the access; 0 where nothing is read. An index past the array, which no turn of a
--- sound process has, reads 0, and below writes nothing.
-abbrev pub foundIn : (values : List ℕ) (marks : List Bool) (decision : ℕ) → Access → ℕ
-foundIn values marks decision Nothing = 0
-foundIn values marks decision (ReadValue r) = cond (ltb (r - 1) maxRounds) (getD values (r - 1) 0) 0
-foundIn values marks decision (WriteValue r) = 0
-foundIn values marks decision (ReadMark r) = cond (ltb (r - 1) maxRounds) (bit (getD marks (r - 1) false)) 0
-foundIn values marks decision (SetMark r) = 0
-foundIn values marks decision ReadDecision = decision
-foundIn values marks decision WriteDecision = 0
+-- The index of the register of round r, r - 1 for the rounds 1 to 256; for any other number, which no turn of a sound process has, some index.
+abbrev pub slot : ℕ → ℕ
+slot r = (r % 256 + 255) % 256
+
+-- The value read from T; 0 where none is.
+abbrev pub valueIn : List ℕ → Access → ℕ
+valueIn values Nothing = 0
+valueIn values (ReadValue r) = getD values (slot r) 0
+valueIn values (WriteValue r) = 0
+valueIn values (ReadMark r) = 0
+valueIn values (SetMark r) = 0
+valueIn values ReadDecision = 0
+valueIn values WriteDecision = 0
+
+-- The mark read from C; v where none is.
+abbrev pub markIn : (v : ℕ) → List Bool → Access → ℕ
+markIn v marks Nothing = v
+markIn v marks (ReadValue r) = v
+markIn v marks (WriteValue r) = v
+markIn v marks (ReadMark r) = bit (getD marks (slot r) false)
+markIn v marks (SetMark r) = v
+markIn v marks ReadDecision = v
+markIn v marks WriteDecision = v
 
 -- The value registers after an access that may write e.
 abbrev pub valuesAfter : List ℕ → Access → (e : ℕ) → List ℕ
 valuesAfter values Nothing e = values
 valuesAfter values (ReadValue r) e = values
-valuesAfter values (WriteValue r) e = cond (ltb (r - 1) maxRounds) (set values (r - 1) e) values
+valuesAfter values (WriteValue r) e = set values (slot r) e
 valuesAfter values (ReadMark r) e = values
 valuesAfter values (SetMark r) e = values
 valuesAfter values ReadDecision e = values
@@ -45,7 +60,7 @@ marksAfter marks Nothing = marks
 marksAfter marks (ReadValue r) = marks
 marksAfter marks (WriteValue r) = marks
 marksAfter marks (ReadMark r) = marks
-marksAfter marks (SetMark r) = cond (ltb (r - 1) maxRounds) (set marks (r - 1) true) marks
+marksAfter marks (SetMark r) = set marks (slot r) true
 marksAfter marks ReadDecision = marks
 marksAfter marks WriteDecision = marks
 
@@ -59,59 +74,79 @@ decisionAfter decision (SetMark r) e = decision
 decisionAfter decision ReadDecision e = decision
 decisionAfter decision WriteDecision e = e
 
--- A session's access reads that, where it is one of the registers.
-pub found-in : (s : Session) (a : Access) → InRange maxRounds a → found s a ≡ foundIn (s .values) (s .marks) (s .decision) a
-unfolding found
-found-in s Nothing ok = refl
-found-in s (ReadValue r) ok = rw (lt-ltb (r - 1) maxRounds (omega arith))
-found-in s (WriteValue r) ok = refl
-found-in s (ReadMark r) ok = rw (lt-ltb (r - 1) maxRounds (omega arith))
-found-in s (SetMark r) ok = refl
-found-in s ReadDecision ok = refl
-found-in s WriteDecision ok = refl
+-- A register of the rounds 1 to 256 stands at its round less 1.
+slot-is : (r : ℕ) → 1 ≤ r → r ≤ maxRounds → slot r ≡ r - 1
+slot-is r some low = omega arith
 
--- The session with these registers, and another record for process p.
-abbrev pub withTurn : Session → (p : ℕ) → (values : List ℕ) (marks : List Bool) (decision : ℕ) → Process → Session
-withTurn s p values marks decision q =
-    record {
-      n = s .n;
-      limit = s .limit;
-      values = values;
-      marks = marks;
-      decision = decision;
-      processes = set (s .processes) p q;
-    }
+-- The access is no look.
+abbrev pub NoLook : Access → Type 0
+NoLook Nothing = Unit {0}
+NoLook (ReadValue r) = Unit {0}
+NoLook (WriteValue r) = Unit {0}
+NoLook (ReadMark r) = Unit {0}
+NoLook (SetMark r) = Unit {0}
+NoLook ReadDecision = ⊥
+NoLook WriteDecision = Unit {0}
+
+-- What an access other than a look reads from the registers, where it is one of them.
+pub read-is : (s : Session) (a : Access) → NoLook a → InRange maxRounds a → markIn (valueIn (s .values) a) (s .marks) a ≡ found s a
+unfolding found
+read-is s Nothing look ok = refl
+read-is s (ReadValue r) look ok = rw (slot-is r (ok .0) (ok .1))
+read-is s (WriteValue r) look ok = refl
+read-is s (ReadMark r) look ok = rw (slot-is r (ok .0) (ok .1))
+read-is s (SetMark r) look ok = refl
+read-is s ReadDecision look ok = absurd look
+read-is s WriteDecision look ok = refl
 
 -- A turn, register by register, where its access is one of the registers.
 pub turn-is : (s : Session) (p : ℕ) (a : Access) (becomes : ℕ → Process) → InRange maxRounds a →
     turn s p a becomes
-    ≡ withTurn s p (valuesAfter (s .values) a (processAt s p .estimate)) (marksAfter (s .marks) a)
-    (decisionAfter (s .decision) a (processAt s p .estimate)) (becomes (found s a))
+    ≡ with s (valuesAfter (s .values) a (processAt s p .estimate)) (marksAfter (s .marks) a)
+    (decisionAfter (s .decision) a (processAt s p .estimate)) (set (s .processes) p (becomes (found s a)))
 unfolding turn written
 turn-is s p Nothing becomes ok = refl
 turn-is s p (ReadValue r) becomes ok = refl
-turn-is s p (WriteValue r) becomes ok = rw (lt-ltb (r - 1) maxRounds (omega arith))
+turn-is s p (WriteValue r) becomes ok = rw (slot-is r (ok .0) (ok .1))
 turn-is s p (ReadMark r) becomes ok = refl
-turn-is s p (SetMark r) becomes ok = rw (lt-ltb (r - 1) maxRounds (omega arith))
+turn-is s p (SetMark r) becomes ok = rw (slot-is r (ok .0) (ok .1))
 turn-is s p ReadDecision becomes ok = refl
 turn-is s p WriteDecision becomes ok = refl
 
--- The registers 1 to L are among the array's.
-range-all : (L : ℕ) (a : Access) → L ≤ maxRounds → InRange L a → InRange maxRounds a
-range-all L Nothing low ok = tt
-range-all L (ReadValue r) low ok = omega arith
-range-all L (WriteValue r) low ok = omega arith
-range-all L (ReadMark r) low ok = omega arith
-range-all L (SetMark r) low ok = omega arith
-range-all L ReadDecision low ok = tt
-range-all L WriteDecision low ok = tt
+-- A work turn makes no look.
+step-no-look : (L r : ℕ) (φ : Phase) (leader : Bool) → NoLook (accessAt L r φ leader)
+unfolding accessAt
+step-no-look L r Idle leader = tt
+step-no-look L r Waiting false = tt
+step-no-look L r Waiting true = cond-cases NoLook (ltb r L) (λ t. tt) (λ t. tt)
+step-no-look L r Write leader = tt
+step-no-look L r (Scan k) leader = tt
+step-no-look L r (Adopt k) leader = tt
+step-no-look L r (Compare i) leader = tt
+step-no-look L r (Flag i) leader = tt
+step-no-look L r (CheckMark i) leader = tt
+step-no-look L r (CheckValue i) leader = tt
+step-no-look L r Commit leader = tt
+step-no-look L r Exhausted leader = tt
+step-no-look L r Crashed leader = tt
+step-no-look L r Decided leader = tt
 
--- A work turn's access in a sound session, at whatever window.
-pub access-all : (W : ℕ) (s : Session) (p : ℕ) (leader : Bool) → soundAt W s ≡ true →
-    InRange maxRounds (access (s .limit) (processAt s p) leader)
-unfolding access
-access-all W s p leader t =
-    let q = processAt s p in
-    let f = process-facts W (s .limit) q (sound-process W s p t) in
-    range-all (s .limit) (accessAt (s .limit) (q .round) (q .phase) leader) (sound-facts W s t .low)
-    (access-range W (s .limit) (q .round) (q .phase) leader (f .round) (f .phase))
+-- What the code leaves in each register, and the record that it makes by the value read, are what the machine leaves after a work turn of a
+-- sound session; i is the index of process p.
+pub worked-is : (W : ℕ) (s : Session) (p : ℕ) (leader : Bool) {i v x y : ℕ} {a : Access} {values : List ℕ} {marks : List Bool} {q : Process} →
+    InRange maxRounds (accessOf (s .limit) (processAt s p) (Step p leader)) →
+    i ≡ p →
+    a ≡ access (s .limit) (processAt s i) leader →
+    v ≡ valueIn (s .values) a →
+    x ≡ markIn v (s .marks) a →
+    values ≡ valuesAfter (s .values) a (processAt s i .estimate) →
+    marks ≡ marksAfter (s .marks) a →
+    y ≡ decisionAfter (s .decision) a (processAt s i .estimate) →
+    q ≡ next W (s .limit) (processAt s i) leader x →
+    with s values marks y (set (s .processes) i q) ≡ after W s (Step p leader)
+unfolding after accessOf becomes access
+worked-is W s p leader ok ei ea er ex ev em ey eq =
+    let r = processAt s p in
+    let a = access (s .limit) r leader in
+    let read = read-is s a (step-no-look (s .limit) (r .round) (r .phase) leader) ok in
+    rw (eq, ev, em, ey, ex, er, ea, ei, read) (sym (turn-is s p a (next W (s .limit) r leader) ok))

@@ -1,62 +1,73 @@
-// The registers as one access uses them: what it reads, and what it leaves in each.
+// The register operation of a turn, register by register: what it reads, and what it leaves in each.
 ghost use mathlib.Core.Path.{_≡_};
-ghost use Prim.Native.Nat.{_-_};
-ghost use Rattle.part_registers.specs.Registers.{foundIn, valuesAfter, marksAfter, decisionAfter};
+ghost use Rattle.model.specs.Step.{bit as bitOf};
+ghost use Rattle.part_registers.specs.Registers.{slot as slotOf, valueIn, markIn, valuesAfter, marksAfter, decisionAfter};
 use model::Access;
 
-// The index of the register of round r.
-fn index(r: usize) -> usize
-    ensures { λ i. ⌜ i ≡ r - 1 ⌝ }
+// The index of the register of round r: r - 1 for the rounds 1 to 256. For any other number it is some index, so that no caller is asked for
+// anything; it compiles to two instructions.
+fn slot(r: usize) -> usize
+    ensures { λ i. ⌜ i ≡ slotOf r ⌝ }
 {
-    if 0 < r { r - 1 } else { 0 }
+    (r % 256 + 255) % 256
 }
 
-// 01, "One turn at a time": the register operation a of a process whose own value is e, and the value that it reads, 0 where it reads
-// none. Where there is no such register, nothing is written and 0 is read.
-pub fn perform<'a>(
-    values: &'a mut [u32; 256],
-    marks: &'a mut [bool; 256],
-    decision: &'a mut u32,
-    a: Access,
-    e: u32,
-) -> u32
-    ensures reads { λ x. ⌜ x ≡ foundIn (now (values .entry)) (now (marks .entry)) (now (decision .entry)) a ⌝ }
-    ensures writes_value { λ _. ⌜ now (values .exit) ≡ valuesAfter (now (values .entry)) a e ⌝ }
-    ensures writes_mark { λ _. ⌜ now (marks .exit) ≡ marksAfter (now (marks .entry)) a ⌝ }
-    ensures writes_decision { λ _. ⌜ now (decision .exit) ≡ decisionAfter (now (decision .entry)) a e ⌝ }
+// 01, "One turn at a time": the value register T[r], read or written with e. 0 where the operation reads no value.
+pub fn value(values: &mut [u32; 256], a: Access, e: u32) -> u32
+    ensures reads { λ x. ⌜ x ≡ valueIn (now (values .entry)) a ⌝ }
+    ensures writes { λ _. ⌜ now (values .exit) ≡ valuesAfter (now (values .entry)) a e ⌝ }
 {
     match a {
         Access::Nothing => 0,
-        Access::ReadValue(r) => {
-            let i = index(r);
-            if i < 256 { values[i] } else { 0 }
-        }
+        Access::ReadValue(r) => values[slot(r)],
         Access::WriteValue(r) => {
-            let i = index(r);
-            if i < 256 {
-                values[i] = e;
-            }
+            values[slot(r)] = e;
             0
         }
-        Access::ReadMark(r) => {
-            let i = index(r);
-            if i < 256 {
-                if marks[i] { 1 } else { 0 }
-            } else {
-                0
-            }
-        }
+        Access::ReadMark(_) => 0,
+        Access::SetMark(_) => 0,
+        Access::ReadDecision => 0,
+        Access::WriteDecision => 0,
+    }
+}
+
+// A mark that is read, as a number.
+fn bit(marked: bool) -> u32
+    ensures { λ r. ⌜ r ≡ bitOf marked ⌝ }
+{
+    if marked { 1 } else { 0 }
+}
+
+// The same of the mark C[r], read or set; v where the operation reads no mark.
+pub fn mark(v: u32, marks: &mut [bool; 256], a: Access) -> u32
+    ensures reads { λ x. ⌜ x ≡ markIn v (now (marks .entry)) a ⌝ }
+    ensures writes { λ _. ⌜ now (marks .exit) ≡ marksAfter (now (marks .entry)) a ⌝ }
+{
+    match a {
+        Access::Nothing => v,
+        Access::ReadValue(_) => v,
+        Access::WriteValue(_) => v,
+        Access::ReadMark(r) => bit(marks[slot(r)]),
         Access::SetMark(r) => {
-            let i = index(r);
-            if i < 256 {
-                marks[i] = true;
-            }
-            0
+            marks[slot(r)] = true;
+            v
         }
-        Access::ReadDecision => *decision,
-        Access::WriteDecision => {
-            *decision = e;
-            0
-        }
+        Access::ReadDecision => v,
+        Access::WriteDecision => v,
+    }
+}
+
+// The decision register D after the operation.
+pub fn decision(d: u32, a: Access, e: u32) -> u32
+    ensures { λ x. ⌜ x ≡ decisionAfter d a e ⌝ }
+{
+    match a {
+        Access::Nothing => d,
+        Access::ReadValue(_) => d,
+        Access::WriteValue(_) => d,
+        Access::ReadMark(_) => d,
+        Access::SetMark(_) => d,
+        Access::ReadDecision => d,
+        Access::WriteDecision => e,
     }
 }

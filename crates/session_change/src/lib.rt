@@ -31,7 +31,12 @@ pub fn crash(s: Session, p: usize) -> Changed
     let i = p % 64;
     let q = s.processes[i];
     let phase = q.phase;
-    let code = part_refusals::first_refusal(session_sound::sound(s), s.n, p, part_refusals::turn_refusal(phase));
+    let code = part_refusals::first_refusal(
+        session_sound::sound(s),
+        s.n,
+        p,
+        part_refusals::crash_refusal(phase),
+    );
     let mut after = s;
     if code == 0 {
         after.processes[i] = part_moves::crashed(q);

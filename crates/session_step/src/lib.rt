@@ -6,6 +6,8 @@ use model::Access;
 use model::Counts;
 use model::Session;
 use model::Stepped;
+use part_registers::mark;
+use part_registers::value;
 
 // 01, "One turn at a time": a work turn, one register operation and what the process becomes by the value read. Here and below, i is
 // p wherever the call is accepted: where it is not, the tests refuse.
@@ -23,11 +25,8 @@ pub fn step(s: Session, p: usize, leader: bool, c: Counts) -> Stepped
     let mut counts = c;
     if code == 0 {
         let a = part_access::access(limit, q, leader);
-        let mut marks = after.marks;
-        let mut decision = after.decision;
-        let x = part_registers::perform(&mut after.values, &mut marks, &mut decision, a, q.estimate);
-        after.marks = marks;
-        after.decision = decision;
+        let x = mark(value(&mut after.values, a, q.estimate), &mut after.marks, a);
+        after.decision = part_registers::decision(after.decision, a, q.estimate);
         let window = part_window::window(n as u8);
         after.processes[i] = part_next::next(window, limit, q, leader, x);
         counts = part_counts::counted(a, c);

@@ -2,21 +2,20 @@
 // tested for soundness: that every session of the run is sound is part of the loop's proof.
 ghost use mathlib.Core.Path.{_≡_};
 ghost use Prim.Native.Nat.{_<_};
-ghost use Rattle.model.specs.Runner.{ran as ranOf, noCounts, runFrom, run as runOf};
+ghost use Rattle.model.specs.Board.{noCounts};
+ghost use Rattle.model.specs.Runner.{ran as ranOf, runFrom, run as runOf};
 ghost use Rattle.model.specs.Sheet.{entries};
-ghost use Rattle.sheet_run.specs.Carried.{Opened};
+ghost use Rattle.sheet_run_laws.specs.Carried.{Opened};
 use model::Counts;
 use model::Ending;
 use model::Operation;
 use model::Ran;
 use model::Session;
+use part_registers::mark;
+use part_registers::value;
 use sheet_place_laws::Handed;
 
-mod operation;
-mod turns;
-
-use operation::mark;
-use operation::value;
+mod entry;
 
 // A byte as a number.
 fn wide(x: u8) -> usize
@@ -51,7 +50,7 @@ fn no_counts() -> Counts
 // 01, "Turn sheets": the entries one after another, on a session just opened, up to the budget or the first refused entry.
 fn carry(sheet: &[u8], budget: usize, window: usize, mut s: Session, mut c: Counts) -> Ran
     requires { ⌜ Opened window s ⌝ }
-    ensures { λ r. ⌜ r ≡ runFrom budget 0 s c (entries (now (sheet .entry))) ⌝ }
+    ensures { λ r. ⌜ r ≡ runFrom window budget 0 s c (entries (now (sheet .entry))) ⌝ }
 {
     let mut k: usize = 0;
     let mut place = sheet_reader::first_place(sheet);
@@ -59,30 +58,31 @@ fn carry(sheet: &[u8], budget: usize, window: usize, mut s: Session, mut c: Coun
         let Handed::Next(e) = sheet_reader::entry_at(sheet, place) else {
             return ran(k, s, c, Ending::Finished);
         };
-        let p = turns::process_of(e);
-        if turns::halts(budget, k, s.n, p) {
-            return ran(k, s, c, turns::halt(budget, k));
+        let p = entry::process_of(e);
+        if entry::halts(budget, k, s.n, p) {
+            return ran(k, s, c, entry::halt(budget, k));
         }
         let q = s.processes[p];
+        let phase = q.phase;
         if let Operation::Step(_, leader) = e {
-            let code = turns::step_refusal(q, c);
+            let code = part_refusals::step_refusal(phase, c);
             if code != 0 {
                 return ran(k, s, c, Ending::Refused(code, k));
             }
             let a = part_access::access(s.limit, q, leader);
             let x = mark(value(&mut s.values, a, q.estimate), &mut s.marks, a);
-            s.decision = operation::decision(s.decision, a, q.estimate);
+            s.decision = part_registers::decision(s.decision, a, q.estimate);
             s.processes[p] = part_next::next(window, s.limit, q, leader, x);
             c = part_counts::counted(a, c);
         } else {
-            let code = turns::refusal_of(q, c, e);
+            let code = entry::refusal_of(phase, c, e);
             if code != 0 {
                 return ran(k, s, c, Ending::Refused(code, k));
             }
-            if turns::changes(s.decision, e) {
-                s.processes[p] = turns::becomes(q, s.decision, e);
+            if entry::changes(s.decision, e) {
+                s.processes[p] = entry::becomes(q, s.decision, e);
             }
-            c = part_counts::counted(turns::access_of(e), c);
+            c = part_counts::counted(entry::access_of(e), c);
         }
         k += 1;
         place = sheet_reader::place_after(sheet, place);
@@ -93,7 +93,7 @@ fn carry(sheet: &[u8], budget: usize, window: usize, mut s: Session, mut c: Coun
 pub fn run(sheet: &[u8], budget: usize) -> Ran
     ensures { λ r. ⌜ r ≡ runOf (now (sheet .entry)) budget ⌝ }
 {
-    let code = sheet_place_laws::refusal(sheet);
+    let code = sheet_refusal::refusal(session_open::server(), sheet);
     if code != 0 {
         return ran(
             0,

@@ -1,9 +1,4 @@
--- The agreement rule: its statement (Calls, Rule), and its proof.
-pub mod Calls
-pub mod Rule
-pub mod Board
-pub mod Invariant
-pub mod Operations
-pub mod Opening
+-- The agreement rule: of the machine at any window, and of lists of calls.
 pub mod Conclusions
+pub mod Machine
 pub mod Theorem

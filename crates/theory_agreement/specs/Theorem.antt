@@ -1,106 +1,83 @@
--- The agreement rule holds: by induction over the list of calls, the sessions are the machine's and keep the invariant.
-use Prim.Native.Nat.{ℕ, suc, zero, _*_, _≤_, _<_}
+-- The agreement rule holds: the calls follow the machine, and the machine's rule holds at the session's window.
+use Prim.Native.Nat.{ℕ, suc, zero, _≤_}
 use native.Mathlib.Omega.{arith}
 use mathlib.Core.Path.{_≡_, refl, sym, _∙_, ap, subst}
-use mathlib.Core.Bool.{Bool, true, false, cond}
-use mathlib.Core.List.{List, [], _∷_}
+use mathlib.Core.List.{List, []}
 use Rattle.model.specs.declared.Session.{Session}
 use Rattle.model.specs.declared.Counts.{Counts}
+use Rattle.model.specs.declared.Operation.{Operation}
+use Rattle.model.specs.declared.Operation.the-variants.{Propose, Step, Learn, Crash, Malformed}
 use Rattle.model.specs.declared.Changed.{Changed}
 use Rattle.model.specs.declared.Stepped.{Stepped}
-use Rattle.model.specs.Refusal.{Test, refusal, changed, stepped, proposeTests, stepTests, learnTests, crashTests}
-use Rattle.model.specs.Machine
-use Rattle.model.specs.Machine.{opening}
-use Rattle.model.specs.Public
+use Rattle.model.specs.Window.{window}
+use Rattle.model.specs.Board.{opened, noCounts, serverLimits}
+use Rattle.model.specs.Step.{counted}
+use Rattle.model.specs.Refusal.{refusal, openTests, changed}
+use Rattle.model.specs.Machine.{accessOf, after, countsAfter, answered, perform, openWithin, opening}
+use Rattle.model.specs.Public.{operate, withCounts, propose, step, learn, crash}
 use Rattle.model.specs.Sound.{sound}
 use Rattle.model_laws.specs.Windows.{window-least, window-square}
-use Rattle.model_laws.specs.Sounds.{sound-facts}
-use Rattle.theory_past.specs.Event.{Event}
-use Rattle.theory_agreement.specs.Calls.{Call, propose, step, learn, crash, Promised, Answers, Run, none, call, left, code, fed, machine, noted, past}
-use Rattle.theory_agreement.specs.Rule.{EachAsTheMachine, Rule, AgreementRule}
-use Rattle.theory_agreement.specs.Operations.{Kept, propose-kept, step-kept, learn-kept, crash-kept}
-use Rattle.theory_agreement.specs.Opening.{opening-kept}
-use Rattle.theory_agreement.specs.Conclusions.{decided-agree, proposed-first, committed-only}
+use Rattle.model_laws.specs.Accepted.{never-three}
+use Rattle.model_laws.specs.Operations.{open-accepted}
+use Rattle.model_laws.specs.Answers.{codeOf, stepped-code, stepped-counts, operate-sound}
+use Rattle.model_rule.specs.Event.{Event}
+use Rattle.model_rule.specs.Calls.{Input, machine, Promised, Call, Run, none, call, inputs}
+use Rattle.model_rule.specs.Rule.{EachAsTheMachine, AgreementRule}
+use Rattle.theory_agreement.specs.Machine.{Reached, machine-reached, opened-reached, reached-rule}
 
--- A sound session is answered as the machine answers.
-sound-answers : (m : Session) (c : Call) → sound m ≡ true → Promised m c → Answers m c
-unfolding Public.propose Public.step Public.learn Public.crash Public.ifSound Public.ifSoundCounted
-sound-answers m (propose p v a) ok e = e ∙ rw ok
-sound-answers m (step p leader c a c′) ok e = e ∙ rw ok
-sound-answers m (learn p c a c′) ok e = e ∙ rw ok
-sound-answers m (crash p a) ok e = e ∙ rw ok
+-- What is promised of a call is what the operation answers: a proposal and a crash leave any counts.
+pub promised-operate : (s : Session) (c : Counts) (o : Operation) (a : Changed) (c′ : Counts) → Promised s c o a c′ →
+    withCounts a c′ ≡ operate s c o
+unfolding propose step learn crash operate answered countsAfter accessOf counted
+promised-operate s c (Propose p v) a c′ e =
+    rw (e .0, e .1) (stepped-counts (codeOf s c (Propose p v)) s (after (window (s .n)) s (Propose p v)) noCounts c)
+promised-operate s c (Step p leader) a c′ e = e
+promised-operate s c (Learn p) a c′ e = e
+promised-operate s c (Crash p) a c′ e =
+    rw (e .0, e .1) (stepped-counts (codeOf s c (Crash p)) s (after (window (s .n)) s (Crash p)) noCounts c)
+promised-operate s c Malformed a c′ e = absurd e
 
--- The call left the session that the machine went on to.
-answers-left : (m : Session) (c : Call) → Answers m c → left c ≡ fed m c
-answers-left m (propose p v a) e = ap (λ (x : Changed). x .session) e
-answers-left m (step p leader c a c′) e = ap (λ (x : Stepped). x .session) e
-answers-left m (learn p c a c′) e = ap (λ (x : Stepped). x .session) e
-answers-left m (crash p a) e = ap (λ (x : Changed). x .session) e
+-- A session that the machine reached, at its own window: every operation answers as the machine does, and not 3.
+module _ {n L : ℕ} {m : Session} {h : List Event} (i : Reached (window n) n L m h) (f : Input) where
+  pub operate-reached : operate m (f .counts) (f .operation) ≡ perform (window n) m (f .counts) (f .operation)
+  unfolding sound
+  operate-reached =
+      let w : window (m .n) ≡ window n = ap window (i .size) in
+      operate-sound m (f .counts) (f .operation) (rw w (i .sound)) ∙ rw w
 
--- No test of the list has the number k.
-abbrev Without : (k : ℕ) → List Test → Type 0
-Without k [] = 0 ≡ k → ⊥
-Without k (t ∷ ts) = (t .1 ≡ k → ⊥) × Without k ts
+  pub never-unsound : perform (window n) m (f .counts) (f .operation) .code ≡ 3 → ⊥
+  unfolding perform answered
+  never-unsound e = never-three m (f .counts) (f .operation) (sym (stepped-code _ m _ _ _) ∙ e)
 
--- A number that no test has is not returned.
-not-returned : (k : ℕ) (ts : List Test) → Without k ts → refusal ts ≡ k → ⊥
-not-returned k [] other e = other e
-not-returned k (t ∷ ts) other e = go (t .0) e (not-returned k ts (other .1))
+-- A list of calls follows the machine: each is answered as the machine answers, and the session at the end is the machine's.
+pub followed : {n L : ℕ} {start : Session} {cs : List Call} {s : Session} → 1 ≤ window n → Reached (window n) n L start [] → Run start cs s →
+    EachAsTheMachine (window n) start cs × (s ≡ machine (window n) start (inputs cs))
+followed wide i none = (tt, refl)
+followed {n} {L} {start} wide i (call {cs} {s} run c promised) =
+    let f = followed wide i run in
+    let m = machine-reached wide i (inputs cs) in
+    let e =
+    promised-operate (machine (window n) start (inputs cs)) (c .input .counts) (c .input .operation) (c .answer) (c .after)
+    (subst (λ (x : Session). Promised x (c .input .counts) (c .input .operation) (c .answer) (c .after)) (f .1) promised)
+    ∙ operate-reached m (c .input) in
+    ((e, λ three. never-unsound m (c .input) (sym (ap (λ (x : Stepped). x .code) e) ∙ three), f .0), ap (λ (x : Stepped). x .session) e)
+
+-- An accepted opening.
+pub opening-reached : (n L : ℕ) → opening n L .code ≡ 0 → (1 ≤ n) × Reached (window n) n L (opening n L .session) []
+unfolding opening openWithin
+opening-reached n L = go (refusal (openTests serverLimits n L)) refl
   where
-    go : (b : Bool) → cond b (t .1) (refusal ts) ≡ k → (refusal ts ≡ k → ⊥) → ⊥
-    go true e′ later = other .0 e′
-    go false e′ later = later e′
-
-changed-code : (k : ℕ) (s s′ : Session) → changed k s s′ .code ≡ k
-changed-code zero s s′ = refl
-changed-code (suc k) s s′ = refl
-
-stepped-code : (k : ℕ) (s s′ : Session) (c c′ : Counts) → stepped k s s′ c c′ .code ≡ k
-stepped-code zero s s′ c c′ = refl
-stepped-code (suc k) s s′ c c′ = refl
-
--- The machine never returns 3.
-never-unsound : (m : Session) (c : Call) → Answers m c → code c ≡ 3 → ⊥
-unfolding Machine.propose Machine.step Machine.learn Machine.crash
-never-unsound m (propose p v a) e three =
-    not-returned 3 (proposeTests m p v) (omega arith) (sym (changed-code _ m _) ∙ sym (ap (λ (x : Changed). x .code) e) ∙ three)
-never-unsound m (step p leader c a c′) e three =
-    not-returned 3 (stepTests m p c) (omega arith) (sym (stepped-code _ m _ c _) ∙ sym (ap (λ (x : Stepped). x .code) e) ∙ three)
-never-unsound m (learn p c a c′) e three =
-    not-returned 3 (learnTests m p c) (omega arith) (sym (stepped-code _ m _ c _) ∙ sym (ap (λ (x : Stepped). x .code) e) ∙ three)
-never-unsound m (crash p a) e three =
-    not-returned 3 (crashTests m p) (omega arith) (sym (changed-code _ m _) ∙ sym (ap (λ (x : Changed). x .code) e) ∙ three)
-
--- One operation keeps the invariant.
-kept-call : (m : Session) (c : Call) (h : List Event) → Kept m h → Kept (fed m c) (noted m c h)
-kept-call m (propose p v a) h i = propose-kept m p v h i
-kept-call m (step p leader c a c′) h i = step-kept m p leader c h i
-kept-call m (learn p c a c′) h i = learn-kept m p c h i
-kept-call m (crash p a) h i = crash-kept m p h i
-
--- A list of calls: each is answered as the machine answers, the session is the machine's, and the machine keeps the invariant.
-followed : {start : Session} {cs : List Call} {s : Session} → Kept start [] → Run start cs s →
-    EachAsTheMachine start cs × (s ≡ machine start cs) × Kept (machine start cs) (past start cs)
-unfolding sound
-followed i none = (tt, refl, i)
-followed {start} i (call {cs} {s} run c promised) =
-    let f = followed i run in
-    let m = machine start cs in
-    let a = sound-answers m c (f .2 .sound) (subst (λ (x : Session). Promised x c) (f .1) promised) in
-    let l = answers-left m c a in
-    ((a, l, never-unsound m c a, f .0), l, kept-call m c (past start cs) (f .2))
+    go : (k : ℕ) → refusal (openTests serverLimits n L) ≡ k → changed k (opened 0 0) (opened n L) .code ≡ 0 →
+        (1 ≤ n) × Reached (window n) n L (changed k (opened 0 0) (opened n L) .session) []
+    go zero e ok =
+        let a = open-accepted serverLimits n L e in (a .0, opened-reached (window n) n L (a .0) (a .1) (a .2) (a .3))
+    go (suc k) e ok = absurd (omega arith)
 
 -- The agreement rule.
 pub agreement : AgreementRule
 agreement n L ok cs s run =
-    let start = opening n L .session in
-    let f = followed (opening-kept n L ok) run in
-    let i : Kept s (past start cs) = subst (λ (x : Session). Kept x (past start cs)) (sym (f .1)) (f .2) in
-    let some = sound-facts _ s (i .sound) .some in
-    record {
-      each-call = f .0;
-      session = f .1;
-      agreement = decided-agree i (window-least (s .n) some) (window-square (s .n));
-      validity = proposed-first i;
-      commitment = committed-only i (window-least (s .n) some) (window-square (s .n));
-    }
+    let o = opening-reached n L ok in
+    let least = window-least n (o .0) in
+    let wide : 1 ≤ window n = omega arith in
+    let f = followed wide (o .1) run in
+    (f .0, f .1, rw (f .1) (reached-rule least (window-square n) (machine-reached wide (o .1) (inputs cs))))

@@ -1,2 +1,2 @@
-// The agreement rule (document 01; demand 3 of the order): one theorem about whole lists of calls. There is no code here:
-// the statement and the proof stand in specs/. Read specs/Calls.antt and specs/Rule.antt; the rest is proof.
+// The agreement rule (document 01; demand 3 of the order): of the machine at any window, and of whole lists of calls. There is no code
+// here: the statement stands in model_rule, the proof in specs/.

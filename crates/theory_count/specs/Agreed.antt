@@ -4,13 +4,15 @@ use native.Mathlib.Omega.{arith}
 use native.Mathlib.Decide.{ℕ-discrete, decLe}
 use mathlib.Core.Path.{_≡_, sym}
 use mathlib.Core.List.{List}
-use Rattle.theory_past.specs.Event.{Event, Wrote, Written, Committed, Lawful}
+use Rattle.model_rule.specs.Event.{Event, Committed}
+use Rattle.theory_past.specs.Epoch.{Wrote, WrittenIn}
+use Rattle.theory_past.specs.Lawful.{Lawful}
 use Rattle.theory_count.specs.Rivals.{Rivals, walked}
 use Rattle.theory_count.specs.Grid.{no-rivals}
 
 module _ (W n : ℕ) (h : List Event) (wide : 2 ≤ W) (few : 4 * n ≤ W * W) (lawful : Lawful W n h) where
   -- What is written to the register of a commit is the value committed.
-  same-register : {R v u e : ℕ} → Committed R v h → Written R u e h → u ≡ v
+  same-register : {R v u e : ℕ} → Committed R v h → WrittenIn R u e h → u ≡ v
   same-register {R} {v} {u} {e} committed written =
       let lawfully = lawful .commits (committed .past) in
       let rivals : (u ≡ v → ⊥) → Rivals W n R u v h =
@@ -30,7 +32,7 @@ module _ (W n : ℕ) (h : List Event) (wide : 2 ≤ W) (few : 4 * n ≤ W * W) (
   pub agreed : {R v p r u e : ℕ} → Committed R v h → Wrote p r u e h → R ≤ r → u ≡ v
   agreed {R} {p} {r} committed wrote above =
       let window = lawful .commits (committed .past) .window in
-      let written : Written r _ _ h = record { process = p; wrote = wrote } in
+      let written : WrittenIn r _ _ h = record { process = p; wrote = wrote } in
       elim (ℕ-discrete R r) [
         | yes same ↦ same-register committed (rw (← same) at written)
         | no other ↦ same-register committed (walked lawful written (omega arith) (omega arith) .written)

@@ -4,7 +4,9 @@ use native.Mathlib.Omega.{arith}
 use mathlib.Core.Path.{_≡_}
 use mathlib.Core.List.{List, _∷_}
 use mathlib.Core.Logic.{inl, inr}
-use Rattle.theory_past.specs.Event.{Event, write, Past, Wrote, Lawful}
+use Rattle.model_rule.specs.Event.{Event, write, Past}
+use Rattle.theory_past.specs.Epoch.{Wrote}
+use Rattle.theory_past.specs.Lawful.{Lawful}
 use Rattle.theory_past.specs.Past.{past-total, past-cons}
 
 -- The same round, value and epoch.

@@ -5,7 +5,9 @@ use native.Mathlib.Decide.{ℕ-discrete}
 use native.Mathlib.Nat.{mod-lt, div-lt-iff-lt-mul, div-add-mod'}
 use mathlib.Core.Path.{_≡_, refl}
 use mathlib.Core.List.{List}
-use Rattle.theory_past.specs.Event.{Event, Wrote, Lawful}
+use Rattle.model_rule.specs.Event.{Event}
+use Rattle.theory_past.specs.Epoch.{Wrote}
+use Rattle.theory_past.specs.Lawful.{Lawful}
 use Rattle.theory_count.specs.Pigeon.{spare-hole}
 use Rattle.theory_count.specs.Apart.{same-write}
 use Rattle.theory_count.specs.Rivals.{Rivals, walked, cell}

@@ -5,12 +5,14 @@ use native.Mathlib.Decide.{ℕ-discrete}
 use mathlib.Core.Path.{_≡_}
 use mathlib.Core.List.{List}
 use mathlib.Core.Logic.{inl, inr}
-use Rattle.theory_past.specs.Event.{Event, Written, Flagged, Held, Passed, Lawful}
+use Rattle.model_rule.specs.Event.{Event}
+use Rattle.theory_past.specs.Epoch.{WrittenIn, Flagged, Held, Passed}
+use Rattle.theory_past.specs.Lawful.{Lawful}
 use Rattle.theory_count.specs.TwoValues.{two-values}
 
 -- A value written to a register was walked through every lower round.
 pub walked :
-    {W n i r v e : ℕ} {h : List Event} → Lawful W n h → Written r v e h → 1 ≤ i → i < r → Passed W i v h
+    {W n i r v e : ℕ} {h : List Event} → Lawful W n h → WrittenIn r v e h → 1 ≤ i → i < r → Passed W i v h
 walked {i} {r = zero} lawful w low below = absurd (omega arith)
 walked {i} {r = suc r} lawful w low below =
     let pass = lawful .passed (w .wrote) (omega arith) in
@@ -41,15 +43,15 @@ pub record Rivals (W n R u v : ℕ) (h : List Event) : Type 0 where
   pub window : W ≤ R
   pub unflagged : Unflagged W R h
   pub epoch : ℕ
-  pub first : Written R u epoch h
+  pub first : WrittenIn R u epoch h
   pub epoch′ : ℕ
-  pub second : Written R v epoch′ h
+  pub second : WrittenIn R v epoch′ h
   pub differ : u ≡ v → ⊥
 
 -- A write to register j in epoch i; where j is i, of another value than v.
 pub record Cell (i j v : ℕ) (h : List Event) : Type 0 where
   pub value : ℕ
-  pub written : Written j value i h
+  pub written : WrittenIn j value i h
   pub other : i ≡ j → value ≡ v → ⊥
 
 -- With two values at register R each register of the window was written to in each epoch from its own up to R.
@@ -63,8 +65,8 @@ cell {W} {R} {u} {v} {h} i j rivals inside low below =
           record { value = touched .value; written = touched .written; other = λ e. absurd (apart e) }
     ]
   where
-    pass : {w e : ℕ} → Written R w e h → Passed W i w h
+    pass : {w e : ℕ} → WrittenIn R w e h → Passed W i w h
     pass w = walked (rivals .lawful) w (omega arith) below
 
-    holds : {w e : ℕ} → Written R w e h → Held i j w h
+    holds : {w e : ℕ} → WrittenIn R w e h → Held i j w h
     holds w = held (rivals .window) (rivals .unflagged) (pass w) inside low below

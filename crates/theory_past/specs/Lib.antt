@@ -1,5 +1,5 @@
--- The past of a run, and what can be said of it.
-pub mod Event
+-- The past of the machine, by epochs, and what is true of it.
+pub mod Epoch
 pub mod Past
 pub mod Registers
-pub mod Grow
+pub mod Lawful

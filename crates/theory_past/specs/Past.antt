@@ -1,12 +1,12 @@
 -- Older parts of a past: what was true of one stays true, and what an event on top of it can add.
 use Prim.Native.Nat.{ℕ, max}
 use mathlib.Core.Path.{_≡_, refl}
-use mathlib.Core.List.{List, [], _∷_}
-use mathlib.Core.Logic.{_⊎_, inl, inr}
+use mathlib.Core.List.{List, [], _∷_, _++_}
+use mathlib.Core.Logic.{_⊎_, inl, inr, ⊎-elim}
 use native.Mathlib.Omega.{arith}
-use Rattle.theory_past.specs.Event.{Event, write, flag, top, Past}
-use Rattle.theory_past.specs.Event.{Proposed, Wrote, Written, Flagged, Committed, Held, Contested, Compared, Passed}
-use Rattle.theory_past.specs.Event.Past.{here, there}
+use Rattle.model_rule.specs.Event.{Event, write, flag, Past, Happened}
+use Rattle.model_rule.specs.Event.Past.{here, there}
+use Rattle.theory_past.specs.Epoch.{top, Wrote, WrittenIn, Flagged, Held, Contested, Compared, Passed}
 
 -- A part of a part is a part.
 pub past-trans : {a b c : List Event} → Past a b → Past b c → Past a c
@@ -16,6 +16,11 @@ past-trans p (there q) = there (past-trans p q)
 -- What came before an event of the past is a part of the past.
 pub past-before : {x : Event} {b h : List Event} → Past (x ∷ b) h → Past b h
 past-before q = past-trans (there here) q
+
+-- A past with more events on top.
+pub past-more : (es h : List Event) → Past h (es ++ h)
+past-more [] h = here
+past-more (x ∷ es) h = there (past-more es h)
 
 -- Nothing stands in the empty past.
 pub past-none : {x : Event} {b : List Event} → Past (x ∷ b) [] → ⊥
@@ -44,25 +49,22 @@ past-cons (there p) = inr p
 -- ---- what was true of an older part is true of the whole
 
 module _ {h h′ : List Event} (q : Past h h′) where
-  pub proposed-past : {v : ℕ} → Proposed v h → Proposed v h′
-  proposed-past x = record { before = x .before; past = past-trans (x .past) q }
+  pub happened-past : {x : Event} → Happened x h → Happened x h′
+  happened-past x = record { before = x .before; past = past-trans (x .past) q }
 
   pub wrote-past : {p r v e : ℕ} → Wrote p r v e h → Wrote p r v e h′
   wrote-past x = record { before = x .before; past = past-trans (x .past) q; epoch = x .epoch }
 
-  pub written-past : {r v e : ℕ} → Written r v e h → Written r v e h′
+  pub written-past : {r v e : ℕ} → WrittenIn r v e h → WrittenIn r v e h′
   written-past x = record { process = x .process; wrote = wrote-past (x .wrote) }
 
   pub flagged-past : {j e : ℕ} → Flagged j e h → Flagged j e h′
   flagged-past x = record { before = x .before; past = past-trans (x .past) q; epoch = x .epoch }
 
-  pub committed-past : {r v : ℕ} → Committed r v h → Committed r v h′
-  committed-past x = record { before = x .before; past = past-trans (x .past) q }
-
-  pub held-past : {i j v : ℕ} → Held i j v h → Held i j v h′
+  held-past : {i j v : ℕ} → Held i j v h → Held i j v h′
   held-past x = record { moment = x .moment; past = past-trans (x .past) q; epoch = x .epoch; holds = x .holds }
 
-  pub contested-past : {i j : ℕ} → Contested i j h → Contested i j h′
+  contested-past : {i j : ℕ} → Contested i j h → Contested i j h′
   contested-past x = record { epoch = x .epoch; flagged = flagged-past (x .flagged); early = x .early }
 
   pub compared-past : {i j v : ℕ} → Compared i j v h → Compared i j v h′
@@ -75,22 +77,28 @@ module _ {h h′ : List Event} (q : Past h h′) where
 
 -- ---- what the newest event can add
 
+-- An event that happened in `y ∷ h` is y or happened in h.
+pub happened-cases : {x y : Event} {h : List Event} → Happened x (y ∷ h) → (y ≡ x) ⊎ Happened x h
+happened-cases x = ⊎-elim (λ c. inl (c .0)) (λ q. inr (record { before = x .before; past = q })) (past-cases (x .past))
+
+-- In h, where y is another.
+pub happened-older : {x y : Event} {h : List Event} → (y ≡ x → ⊥) → Happened x (y ∷ h) → Happened x h
+happened-older other x = ⊎-elim (λ e. absurd (other e)) (λ z. z) (happened-cases x)
+
 -- A write in `y ∷ h` is y, of the epoch that y makes, or a write in h.
 pub wrote-cases : {p r v e : ℕ} {y : Event} {h : List Event} →
     Wrote p r v e (y ∷ h) → ((y ≡ write p r v) × (max r (top h) ≡ e)) ⊎ Wrote p r v e h
-wrote-cases {p} {r} {v} {e} {y} {h} x = go (past-cases (x .past))
-  where
-    go : ((y ≡ write p r v) × (h ≡ x .before)) ⊎ Past (write p r v ∷ x .before) h →
-        ((y ≡ write p r v) × (max r (top h) ≡ e)) ⊎ Wrote p r v e h
-    go (inl c) = inl (c .0, rw (c .1) (x .epoch))
-    go (inr q) = inr (record { before = x .before; past = q; epoch = x .epoch })
+wrote-cases x =
+    ⊎-elim
+    (λ c. inl (c .0, rw (c .1) (x .epoch)))
+    (λ q. inr (record { before = x .before; past = q; epoch = x .epoch }))
+    (past-cases (x .past))
 
 -- A flag in `y ∷ h` is y, of the epoch of h, or a flag in h.
 pub flagged-cases : {j e : ℕ} {y : Event} {h : List Event} →
     Flagged j e (y ∷ h) → ((y ≡ flag j) × (top h ≡ e)) ⊎ Flagged j e h
-flagged-cases {j} {e} {y} {h} x = go (past-cases (x .past))
-  where
-    go : ((y ≡ flag j) × (h ≡ x .before)) ⊎ Past (flag j ∷ x .before) h →
-        ((y ≡ flag j) × (top h ≡ e)) ⊎ Flagged j e h
-    go (inl c) = inl (c .0, rw (c .1) (x .epoch))
-    go (inr q) = inr (record { before = x .before; past = q; epoch = x .epoch })
+flagged-cases x =
+    ⊎-elim
+    (λ c. inl (c .0, rw (c .1) (x .epoch)))
+    (λ q. inr (record { before = x .before; past = q; epoch = x .epoch }))
+    (past-cases (x .past))

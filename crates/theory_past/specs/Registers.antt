@@ -1,15 +1,17 @@
 -- What the highest written round and the registers tell of the writes of a past.
 use Prim.Native.Nat.{ℕ, max, _≤_, _<_}
-use mathlib.Core.Path.{_≡_, refl, subst}
+use mathlib.Core.Path.{_≡_, refl, sym, subst}
+use mathlib.Core.Bool.{Bool, true, true≢false}
 use mathlib.Core.List.{List, [], _∷_}
 use lib.Dec.{eqb}
-use borrow.Author.Tests.{eqb-true, ne-eqb}
+use borrow.Author.Tests.{eqb-true, eq-eqb, ne-eqb}
 use native.Mathlib.Nat.{le-refl, le-trans}
 use native.Mathlib.Omega.{arith}
-use Rattle.theory_past.specs.Event.{Event, proposal, write, flag, commit, top, last, Past, Wrote, Written, Flagged}
-use Rattle.theory_past.specs.Event.Past.{here, there}
+use Rattle.model_rule.specs.Event.{Event, proposal, write, flag, commit, decision, Past}
+use Rattle.model_rule.specs.Event.Past.{here, there}
+use Rattle.theory_past.specs.Epoch.{top, last, isMarked, Wrote, WrittenIn, Flagged}
 use Rattle.base.specs.Bools.{cond-cases}
-use Rattle.theory_past.specs.Past.{past-before, written-past}
+use Rattle.theory_past.specs.Past.{past-before, written-past, flagged-past}
 
 -- ---- the highest written round
 
@@ -19,6 +21,7 @@ top-event (proposal v) h = le-refl (top h)
 top-event (write p r v) h = omega arith
 top-event (flag j) h = le-refl (top h)
 top-event (commit r v) h = le-refl (top h)
+top-event (decision p v) h = le-refl (top h)
 
 -- The highest written round only grows.
 pub top-le : {h h′ : List Event} → Past h h′ → top h ≤ top h′
@@ -50,13 +53,14 @@ last-above (proposal v ∷ h) j a = last-above h j a
 last-above (write p r v ∷ h) j a = rw (ne-eqb r j (omega arith)) (last-above h j (omega arith))
 last-above (flag i ∷ h) j a = last-above h j a
 last-above (commit r v ∷ h) j a = last-above h j a
+last-above (decision p v ∷ h) j a = last-above h j a
 
 -- v was written to register j, in some epoch.
 abbrev pub WrittenTo : (j v : ℕ) → List Event → Type 0
-WrittenTo j v h = (e : ℕ) × Written j v e h
+WrittenTo j v h = (e : ℕ) × WrittenIn j v e h
 
 -- A write is written, just after it, in the epoch that it makes.
-pub written-newest : (p r v : ℕ) (h : List Event) → Written r v (max r (top h)) (write p r v ∷ h)
+pub written-newest : (p r v : ℕ) (h : List Event) → WrittenIn r v (max r (top h)) (write p r v ∷ h)
 written-newest p r v h = record { process = p; wrote = record { before = h; past = here; epoch = refl } }
 
 -- What was written stays so.
@@ -73,10 +77,44 @@ last-written (write p r v ∷ h) j =
     (λ t a. written-to-event (last-written h j a))
 last-written (flag i ∷ h) j = λ a. written-to-event (last-written h j a)
 last-written (commit r v ∷ h) j = λ a. written-to-event (last-written h j a)
+last-written (decision p v ∷ h) j = λ a. written-to-event (last-written h j a)
 
 -- The value of the highest written register was written in the epoch of that round.
-pub last-fresh : (h : List Event) (j : ℕ) → 0 < last h j → top h ≤ j → Written j (last h j) j h
+pub last-fresh : (h : List Event) (j : ℕ) → 0 < last h j → top h ≤ j → WrittenIn j (last h j) j h
 last-fresh h j a b =
     let w : WrittenTo j (last h j) h = last-written h j a in
     let same : w .0 ≡ j = omega (arith, wrote-epoch (w .1 .wrote), wrote-top (w .1 .wrote)) in
     rw same at (w .1)
+
+-- ---- the marks
+
+-- Round j was flagged, in some epoch.
+abbrev pub IsFlagged : (j : ℕ) → List Event → Type 0
+IsFlagged j h = (e : ℕ) × Flagged j e h
+
+flagged-event : {j : ℕ} {x : Event} {h : List Event} → IsFlagged j h → IsFlagged j (x ∷ h)
+flagged-event f = (f .0, flagged-past (there here) (f .1))
+
+-- A marked round was flagged.
+pub marked-flagged : (h : List Event) (j : ℕ) → isMarked h j ≡ true → IsFlagged j h
+marked-flagged [] j = λ m. absurd (true≢false (sym m))
+marked-flagged (proposal v ∷ h) j = λ m. flagged-event (marked-flagged h j m)
+marked-flagged (write p r v ∷ h) j = λ m. flagged-event (marked-flagged h j m)
+marked-flagged (flag i ∷ h) j =
+    cond-cases (λ (b : Bool). b ≡ true → IsFlagged j (flag i ∷ h)) (eqb i j)
+    (λ t m. rw (← (eqb-true i j t)) (top h, record { before = h; past = here; epoch = refl }))
+    (λ t m. flagged-event (marked-flagged h j m))
+marked-flagged (commit r v ∷ h) j = λ m. flagged-event (marked-flagged h j m)
+marked-flagged (decision p v ∷ h) j = λ m. flagged-event (marked-flagged h j m)
+
+-- A flagged round is marked.
+pub flagged-marked : {j e : ℕ} {h : List Event} → Flagged j e h → isMarked h j ≡ true
+flagged-marked {j} f = go (f .past)
+  where
+    go : {h : List Event} → Past (flag j ∷ f .before) h → isMarked h j ≡ true
+    go here = rw (eq-eqb j j refl)
+    go (there {e = proposal v} q) = go q
+    go (there {e = write p r v} q) = go q
+    go (there {e = flag i} {h = g} q) = cond-cases (λ (b : Bool). b ≡ true) (eqb i j) (λ t. refl) (λ t. go q)
+    go (there {e = commit r v} q) = go q
+    go (there {e = decision p v} q) = go q

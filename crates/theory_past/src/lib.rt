@@ -1,1 +1,1 @@
-// The past of a run as a list of events, and the counting argument over it. There is no code here: the theorems stand in specs/.
+// The past of the machine by epochs, and what is true of it. There is no code here: the theorems stand in specs/.

@@ -10,12 +10,14 @@ use native.Mathlib.Decide.{decLt}
 use native.Mathlib.Omega.{arith}
 use Rattle.model.specs.declared.Phase.{Phase}
 use Rattle.model.specs.declared.Phase.the-variants.{Waiting, CheckMark, CheckValue, Commit}
-use Rattle.theory_past.specs.Event.{Event, commit, Flagged, CommitLawful}
-use Rattle.theory_past.specs.Event.Past.{here, there}
+use Rattle.model_rule.specs.Event.{Event, commit}
+use Rattle.theory_past.specs.Epoch.{Flagged}
+use Rattle.theory_past.specs.Lawful.{CommitLawful}
+use Rattle.model_rule.specs.Event.Past.{here, there}
 use Rattle.base.specs.Bools.{cond-cases}
-use Rattle.theory_past.specs.Past.{proposed-past}
+use Rattle.theory_past.specs.Past.{happened-past}
 use Rattle.theory_walk.specs.Place.{Unflagged, Placed}
-use Rattle.theory_walk.specs.Kept.{finished-past}
+use Rattle.theory_walk.specs.Stays.{finished-past}
 use Rattle.theory_walk.specs.Rounds.{sub-back}
 
 -- What holds of the last m rounds holds of fewer.
@@ -51,7 +53,7 @@ check-value-placed W p r v i x h a =
 
 -- After the commit the process waits.
 pub commit-placed : (W p r v : ℕ) (h : List Event) → Placed W p r v Commit h → Placed W p r v Waiting (commit r v ∷ h)
-commit-placed W p r v h a = (proposed-past (there here) (a .0), λ b. finished-past (there here) (a .1))
+commit-placed W p r v h a = (happened-past (there here) (a .0), λ b. finished-past (there here) (a .1))
 
 -- The commit is lawful.
 pub commit-lawful : (W p r v : ℕ) (h : List Event) → W ≤ r → Placed W p r v Commit h → CommitLawful W r v h h

@@ -14,10 +14,12 @@ use Rattle.model.specs.declared.Phase.the-variants.{Write, Scan, Adopt, Compare
 use Rattle.model.specs.declared.Process.{Process}
 use Rattle.model.specs.declared.Access.the-variants.{Nothing, ReadValue}
 use Rattle.model.specs.Step.{process}
-use Rattle.theory_past.specs.Event.{Event, top, last, Proposed, Lawful}
+use Rattle.model_rule.specs.Event.{Event, Proposed}
+use Rattle.theory_past.specs.Epoch.{top, last}
+use Rattle.theory_past.specs.Lawful.{Lawful}
 use Rattle.base.specs.Bools.{cond-cases}
 use Rattle.theory_past.specs.Registers.{WrittenTo, wrote-top, last-above, last-written, last-fresh}
-use Rattle.theory_walk.specs.Place.{Found, Finished, Placed, Stands}
+use Rattle.theory_walk.specs.Place.{Found, Finished, Placed, PlacedAt}
 
 -- A register that is found filled is not above the highest written round.
 pub filled-below : (h : List Event) (j x : ℕ) → x ≡ last h j → (x ≡ 0 → ⊥) → j ≤ top h
@@ -57,9 +59,9 @@ scan-on W L p r v k {h} a b =
 -- A step from waiting, told to lead.
 pub waiting-placed : {W n : ℕ} (L p r v x : ℕ) {h : List Event} → Lawful W n h → Placed W p r v Waiting h →
     Found h (cond (ltb r L) (ReadValue (r + 1)) Nothing) x →
-    Stands W p (cond (ltb r L) (process (cond (eqb x 0) Write (cond (ltb (r + 1) L) (Scan (r + 2)) (Adopt L))) (r + 1) v) (process Exhausted r v)) h
+    PlacedAt W p (cond (ltb r L) (process (cond (eqb x 0) Write (cond (ltb (r + 1) L) (Scan (r + 2)) (Adopt L))) (r + 1) v) (process Exhausted r v)) h
 waiting-placed {W} L p r v x {h} l a f =
-    cond-cases (λ (q : Process). Stands W p q h) (ltb r L)
+    cond-cases (λ (q : Process). PlacedAt W p q h) (ltb r L)
     (λ t. climb (rw t at f))
     (λ t. a .0)
   where

@@ -11,18 +11,19 @@ use native.Mathlib.Omega.{arith}
 use Rattle.model.specs.declared.Phase.{Phase}
 use Rattle.model.specs.declared.Phase.the-variants.{Waiting, Write, Compare, Flag, CheckMark}
 use Rattle.model.specs.Step.{goOn}
-use Rattle.theory_past.specs.Event.{Event, write, flag, top, last, Proposed, Held, Contested, Compared}
-use Rattle.theory_past.specs.Event.Past.{here, there}
+use Rattle.model_rule.specs.Event.{Event, write, flag, Proposed}
+use Rattle.theory_past.specs.Epoch.{top, last, Held, Contested, Compared}
+use Rattle.model_rule.specs.Event.Past.{here, there}
 use Rattle.base.specs.Bools.{cond-cases}
-use Rattle.theory_past.specs.Past.{proposed-past}
+use Rattle.theory_past.specs.Past.{happened-past}
 use Rattle.theory_past.specs.Registers.{written-newest}
 use Rattle.theory_walk.specs.Place.{Walked, Finished, Placed}
-use Rattle.theory_walk.specs.Kept.{walked-past}
+use Rattle.theory_walk.specs.Stays.{walked-past}
 
 -- A process has walked nothing of the round just after its write.
 pub write-done : (W p r v : ℕ) (h : List Event) → Placed W p r v Write h → Placed W p r v (Compare 0) (write p r v ∷ h)
 write-done W p r v h a = (
-  proposed-past (there here) (a .0),
+  happened-past (there here) (a .0),
   record {
     reached = omega arith;
     epoch = max r (top h);
@@ -89,7 +90,7 @@ compare-placed W p r v i x h a e =
 pub flag-placed : (W p r v i : ℕ) (h : List Event) → Placed W p r v (Flag i) h → Placed W p r v (goOn W r i) (flag (r - i) ∷ h)
 flag-placed W p r v i h a =
     go-on-placed W p r v i (flag (r - i) ∷ h)
-    (proposed-past (there here) (a .0))
+    (happened-past (there here) (a .0))
     (walked-more (walked-past (there here) (a .1)) (λ e. inl (contested e)))
   where
     contested : top h ≡ r → Contested r (r - i) (flag (r - i) ∷ h)

@@ -1,26 +1,29 @@
--- A step of a process keeps what its place tells, and the past lawful.
-use Prim.Native.Nat.{ℕ, _≤_, _<_}
+-- A step of a process: what it adds to the past is lawful, and the process stands where its new phase tells.
+use Prim.Native.Nat.{ℕ, _-_, _<_}
 use mathlib.Core.Path.{_≡_, refl}
 use mathlib.Core.Bool.{Bool, true, false}
-use mathlib.Core.List.{List}
+use mathlib.Core.List.{List, [], _∷_, _++_}
 use native.Mathlib.Omega.{arith}
 use Rattle.model.specs.declared.Phase.{Phase}
 use Rattle.model.specs.declared.Phase.the-variants.{Idle, Waiting, Write, Scan, Adopt, Compare, Flag}
 use Rattle.model.specs.declared.Phase.the-variants.{CheckMark, CheckValue, Commit, Exhausted, Crashed, Decided}
-use Rattle.model.specs.Step.{accessAt, nextAt}
+use Rattle.model.specs.declared.Process.{Process}
+use Rattle.model.specs.Step.{accessAt, access, nextAt, next}
 use Rattle.model.specs.Refusal.{status, isOutside}
 use Rattle.model_laws.specs.Phases.{PhaseSound}
-use Rattle.theory_past.specs.Event.{Event, Lawful}
-use Rattle.theory_past.specs.Grow.{WriteLawful, lawful-event}
-use Rattle.theory_walk.specs.Place.{Found, Placed, Stands, recorded}
+use Rattle.model_rule.specs.Event.{Event, proposal, write, flag, commit, decision, stepEvents, Happened}
+use Rattle.theory_past.specs.Past.{happened-older}
+use Rattle.theory_past.specs.Lawful.{Lawful, EventsLawful}
+use Rattle.theory_walk.specs.Place.{Found, Placed, PlacedAt, Stands}
+use Rattle.theory_walk.specs.Stays.{SpareAll}
 use Rattle.theory_walk.specs.Climb.{waiting-placed, scan-placed, adopt-placed}
 use Rattle.theory_walk.specs.Rounds.{write-done, compare-placed, flag-placed}
 use Rattle.theory_walk.specs.Checks.{check-mark-placed, check-value-placed, commit-placed, commit-lawful}
 
--- A process in round r with estimate v that finds x by its access stands, after its step, where its new place tells.
-pub step-placed : {W n : ℕ} (L p r v : ℕ) (φ : Phase) (leader : Bool) (x : ℕ) {h : List Event} →
+-- A process in round r with estimate v that finds x by its access is, after its step, where its new phase tells.
+step-placed : {W n : ℕ} (L p r v : ℕ) (φ : Phase) (leader : Bool) (x : ℕ) {h : List Event} →
     PhaseSound W L r φ → Lawful W n h → Placed W p r v φ h → Found h (accessAt L r φ leader) x →
-    Stands W p (nextAt W L r v φ leader x) (recorded p r v φ h)
+    PlacedAt W p (nextAt W L r v φ leader x) (stepEvents p r v φ ++ h)
 unfolding accessAt nextAt
 step-placed L p r v Idle leader x s l a f = tt
 step-placed L p r v Waiting false x s l a f = a
@@ -37,25 +40,68 @@ step-placed L p r v Exhausted leader x s l a f = a
 step-placed L p r v Crashed leader x s l a f = a
 step-placed L p r v Decided leader x s l a f = a
 
--- The write of a process that stands before it is lawful.
-write-lawful : {W n : ℕ} (p r v : ℕ) {h : List Event} → p < n → 0 < v → 1 ≤ r → Placed W p r v Write h → WriteLawful W n p r v h
-write-lawful p r v q u b a =
-    record { some = u; reached = a .1; writer = q; round = b; value = a .0; ordered = a .2; passed = a .3 }
+-- What holds of no event, and of the event of each phase that has one, holds of the events of a step.
+pub step-cases : (P : Phase → List Event → Type 0) (p r v : ℕ) → ((φ : Phase) → P φ []) → P Write (write p r v ∷ []) →
+    ((i : ℕ) → P (Flag i) (flag (r - i) ∷ [])) → P Commit (commit r v ∷ []) → (φ : Phase) → P φ (stepEvents p r v φ)
+step-cases P p r v none w f c Idle = none Idle
+step-cases P p r v none w f c Waiting = none Waiting
+step-cases P p r v none w f c Write = w
+step-cases P p r v none w f c (Scan k) = none (Scan k)
+step-cases P p r v none w f c (Adopt k) = none (Adopt k)
+step-cases P p r v none w f c (Compare i) = none (Compare i)
+step-cases P p r v none w f c (Flag i) = f i
+step-cases P p r v none w f c (CheckMark i) = none (CheckMark i)
+step-cases P p r v none w f c (CheckValue i) = none (CheckValue i)
+step-cases P p r v none w f c Commit = c
+step-cases P p r v none w f c Exhausted = none Exhausted
+step-cases P p r v none w f c Crashed = none Crashed
+step-cases P p r v none w f c Decided = none Decided
 
--- A step of one of the n processes keeps the past lawful.
-pub step-lawful : {W n : ℕ} (L p r v : ℕ) (φ : Phase) {h : List Event} →
-    p < n → (isOutside (status φ) ≡ false → 0 < v) → PhaseSound W L r φ → Lawful W n h → Placed W p r v φ h →
-    Lawful W n (recorded p r v φ h)
-step-lawful L p r v Idle q u s l a = l
-step-lawful L p r v Waiting q u s l a = l
-step-lawful L p r v Write q u s l a = lawful-event l (write-lawful p r v q (u refl) s a)
-step-lawful L p r v (Scan k) q u s l a = l
-step-lawful L p r v (Adopt k) q u s l a = l
-step-lawful L p r v (Compare i) q u s l a = l
-step-lawful L p r v (Flag i) q u s l a = lawful-event l tt
-step-lawful L p r v (CheckMark i) q u s l a = l
-step-lawful L p r v (CheckValue i) q u s l a = l
-step-lawful {W} L p r v Commit {h} q u s l a = lawful-event l (commit-lawful W p r v h s a)
-step-lawful L p r v Exhausted q u s l a = l
-step-lawful L p r v Crashed q u s l a = l
-step-lawful L p r v Decided q u s l a = l
+-- The event of a step of one of the n processes is lawful.
+pub step-lawful : (W : ℕ) {n : ℕ} (L p r v : ℕ) (φ : Phase) (h : List Event) →
+    p < n → (isOutside (status φ) ≡ false → 0 < v) → PhaseSound W L r φ → Placed W p r v φ h →
+    EventsLawful W n (stepEvents p r v φ) h
+step-lawful W {n} L p r v φ h q =
+    step-cases
+    (λ φ es. (isOutside (status φ) ≡ false → 0 < v) → PhaseSound W L r φ → Placed W p r v φ h → EventsLawful W n es h)
+    p r v
+    (λ φ u s a. tt)
+    (λ u s a.
+    (record { some = u refl; reached = a .1; writer = q; round = s; value = a .0; ordered = a .2; passed = a .3 }, tt))
+    (λ i u s a. (omega (arith, a .1 .reached), tt))
+    (λ u s a. (commit-lawful W p r v h s a, tt))
+    φ
+
+-- It is of the process itself, if of any.
+pub step-spares : (o p r v : ℕ) (φ : Phase) → (o ≡ p → ⊥) → SpareAll o (stepEvents p r v φ)
+step-spares o p r v φ other = step-cases (λ φ es. SpareAll o es) p r v (λ φ. tt) (other, tt) (λ i. (tt, tt)) (tt, tt) φ
+
+-- An event of the kinds that a step has.
+abbrev pub OfStep : Event → Type 0
+OfStep (proposal v) = ⊥
+OfStep (write p r v) = Unit {0}
+OfStep (flag j) = Unit {0}
+OfStep (commit r v) = Unit {0}
+OfStep (decision p v) = ⊥
+
+-- Another one is older than the step.
+pub step-older : (x : Event) (p r v : ℕ) (φ : Phase) {h : List Event} → (OfStep x → ⊥) →
+    Happened x (stepEvents p r v φ ++ h) → Happened x h
+step-older x p r v φ {h} other =
+    step-cases (λ φ es. Happened x (es ++ h) → Happened x h) p r v
+    (λ φ d. d)
+    (λ d. happened-older (λ e. other (rw (← e) tt)) d)
+    (λ i d. happened-older (λ e. other (rw (← e) tt)) d)
+    (λ d. happened-older (λ e. other (rw (← e) tt)) d)
+    φ
+
+-- A process that is not decided stands, after its step, where it should.
+pub step-stands : {W n : ℕ} (L p : ℕ) (q : Process) (leader : Bool) (x : ℕ) {h : List Event} → (q .phase ≡ Decided → ⊥) →
+    PhaseSound W L (q .round) (q .phase) → Lawful W n h → Stands W p q h → Found h (access L q leader) x →
+    Stands W p (next W L q leader x) (stepEvents p (q .round) (q .estimate) (q .phase) ++ h)
+unfolding access next
+step-stands L p q leader x {h} not s l a f =
+    record {
+      placed = step-placed L p (q .round) (q .estimate) (q .phase) leader x s l (a .placed) f;
+      decided = λ v d. absurd (not (a .decided v (step-older (decision p v) p (q .round) (q .estimate) (q .phase) (λ z. z) d) .0));
+    }

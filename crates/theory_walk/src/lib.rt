@@ -1,2 +1,2 @@
-// What a process' place in its walk tells of the past, and that each step keeps it. There is no code here: the theorems
+// What a process' place in its walk tells of the past, and that each operation keeps it. There is no code here: the theorems
 // stand in specs/.

@@ -2,16 +2,16 @@
 // low byte first. Standard output: a number that comes of the answers, so that no call can be left out.
 use model::Counts;
 use model::Session;
+use session_change::crash;
+use session_change::propose;
 use session_open::open;
 use session_read::decision;
 use session_read::process_record;
 use session_read::register;
-use session_change::crash;
-use session_change::propose;
-use session_values::standing_values;
-use std::num::wrapping_add_u32;
 use session_step::learn;
 use session_step::step;
+use session_values::standing_values;
+use std::num::wrapping_add_u32;
 
 // A session of 8 processes and 256 rounds, in which all but process 7 have proposed.
 fn proposed() -> Session {

@@ -2,7 +2,7 @@
 //! sound, and a sheet gives what its entries give one after another.
 
 use super::*;
-use crate::{run, Ending, Phase, Schedule};
+use crate::{run, Ending, Phase, Sheet};
 
 /// The generator splitmix64.
 struct Random(u64);
@@ -118,9 +118,9 @@ fn a_sheet_gives_what_its_entries_give() {
     for seed in 1000..1100 {
         let (case, accepted, _) = random_list(seed, 500);
         let bytes = sheet(case.session.n as u8, case.session.limit as u16, &accepted);
-        let schedule = Schedule::read(&bytes).ok().expect("a sheet in order");
-        let (mut session, mut counts) = (schedule.open(), Counts::default());
-        let ending = run(&schedule, u64::MAX, &mut session, &mut counts);
+        let sheet = Sheet::read(&bytes).ok().expect("a sheet in order");
+        let (mut session, mut counts) = (sheet.open(), Counts::default());
+        let ending = run(&sheet, u64::MAX, &mut session, &mut counts);
         assert_eq!(ending, Ending::Finished(accepted.len() as u64));
         assert_eq!((session, counts), (case.session, case.counts));
     }

@@ -2,7 +2,7 @@
 //! report and the trace.
 
 use super::*;
-use crate::{entry, report, run, trace, Ending, Schedule};
+use crate::{entry, report, run, trace, traces, Ending, Sheet};
 
 /// The C entry's answer with a budget that never ends.
 fn answer(bytes: &[u8]) -> u32 {
@@ -166,9 +166,9 @@ fn runs_are_read_in_order_past_ignored_bytes() {
     bytes.extend(raw(3, 1, 0));
     bytes.extend(raw(0, 0, 258));
     bytes.push(200);
-    let schedule = Schedule::read(&bytes).ok().expect("a sheet in order");
-    let (mut session, mut counts) = (schedule.open(), Counts::default());
-    let ending = run(&schedule, 99, &mut session, &mut counts);
+    let sheet = Sheet::read(&bytes).ok().expect("a sheet in order");
+    let (mut session, mut counts) = (sheet.open(), Counts::default());
+    let ending = run(&sheet, 99, &mut session, &mut counts);
     assert_eq!(ending, Ending::Finished(3));
     assert_eq!((ending.code(), ending.carried_out()), (0, 3));
     assert_eq!(session.processes[0].to_string(), "gate round 0 value 258");
@@ -218,6 +218,13 @@ fn the_longest_sheet_is_carried_out_whole() {
     assert_eq!(decided(&bytes, 10_921).0, 0);
 }
 
+/// The columns of each line of a trace.
+fn columns(text: &str) -> Vec<Vec<&str>> {
+    text.lines()
+        .map(|line| line.split('|').map(str::trim).collect())
+        .collect()
+}
+
 #[test]
 fn trace_of_a_refused_entry() {
     let bytes = sheet(
@@ -226,20 +233,23 @@ fn trace_of_a_refused_entry() {
         &[raw(0, 0, 7), raw(1, 0, YES), raw(9, 1, 4), raw(2, 0, 0)],
     );
     let text = trace(&bytes);
-    let columns: Vec<Vec<&str>> = text
-        .lines()
-        .map(|line| line.split('|').map(str::trim).collect())
-        .collect();
-    assert_eq!(columns.len(), 3);
+    let lines = columns(&text);
+    assert_eq!(lines.len(), 3);
     assert_eq!(
-        columns[0],
-        ["0", "propose 0 7", "none", "gate round 0 value 7"]
+        lines[0],
+        ["0", "propose 0 7", "none", "gate round 0 value 7", "0 0 0"]
     );
     assert_eq!(
-        columns[1],
-        ["1", "work 0 yes", "T[1] read blank", "put round 1 value 7"]
+        lines[1],
+        [
+            "1",
+            "work 0 yes",
+            "T[1] read blank",
+            "put round 1 value 7",
+            "1 0 0"
+        ]
     );
-    assert_eq!(columns[2], ["2", "entry 9 1 4", "refused 13"]);
+    assert_eq!(lines[2], ["2", "entry 9 1 4", "refused 13"]);
     assert_eq!(trace(&[]), "sheet refused 10\n");
 }
 
@@ -248,9 +258,23 @@ fn trace_of_the_sheet_of_134_bytes() {
     let text = trace(&report_sheet());
     let lines: Vec<&str> = text.lines().collect();
     assert_eq!(lines.len(), 21);
-    assert!(lines[13].ends_with("| C[3] read unmarked        | check-value 0 round 3 value 7"));
-    assert!(lines[19].ends_with("| D written 7               | gate round 3 value 7"));
-    assert!(lines[20].ends_with("| D read 7                  | decided round 3 value 7"));
+    let rows = columns(&text);
+    assert_eq!(
+        rows[13][2..],
+        [
+            "C[3] read unmarked",
+            "check-value 0 round 3 value 7",
+            "10 3 0"
+        ]
+    );
+    assert_eq!(
+        rows[19][2..],
+        ["D written 7", "gate round 3 value 7", "15 4 0"]
+    );
+    assert_eq!(
+        rows[20][2..],
+        ["D read 7", "decided round 3 value 7", "16 4 0"]
+    );
     let bars = |line: &str| -> Vec<usize> { line.match_indices('|').map(|(at, _)| at).collect() };
     assert!(lines.iter().all(|line| bars(line) == bars(lines[0])));
 }
@@ -261,11 +285,27 @@ fn trace_of_the_contested_case() {
     entries.extend([0, 1, 0, 1, 0, 0, 1, 0, 0, 1, 1, 1].map(|process| raw(1, process, YES)));
     entries.push(raw(2, 1, 0));
     let text = trace(&sheet(2, 5, &entries));
-    let lines: Vec<&str> = text.lines().collect();
-    assert!(lines[5].ends_with("| T[1] written 8            | compare 0 round 1 value 8"));
-    assert!(lines[6].ends_with("| T[1] read 8               | flag 0 round 1 value 3"));
-    assert!(lines[7].ends_with("| C[1] marked               | gate round 1 value 3"));
-    assert!(lines[11].ends_with("| T[2] read 3               | seek 3 round 2 value 8"));
-    assert!(lines[12].ends_with("| T[3] read blank           | take 2 round 2 value 8"));
-    assert!(lines[14].ends_with("| D read blank              | compare 0 round 2 value 3"));
+    let lines = columns(&text);
+    for (index, expected) in [
+        (5, ["T[1] written 8", "compare 0 round 1 value 8", "2 2 0"]),
+        (6, ["T[1] read 8", "flag 0 round 1 value 3", "3 2 0"]),
+        (7, ["C[1] marked", "gate round 1 value 3", "3 3 1"]),
+        (11, ["T[2] read 3", "seek 3 round 2 value 8", "6 4 1"]),
+        (12, ["T[3] read blank", "take 2 round 2 value 8", "7 4 1"]),
+        (14, ["D read blank", "compare 0 round 2 value 3", "9 4 1"]),
+    ] {
+        assert_eq!(lines[index][2..], expected);
+    }
+}
+
+#[test]
+fn traces_of_many_sheets() {
+    let sheets = [report_sheet(), vec![], sheet(1, 3, &[raw(0, 0, 5)])];
+    let mut input = Vec::new();
+    for bytes in &sheets {
+        input.extend((bytes.len() as u16).to_le_bytes());
+        input.extend(bytes);
+    }
+    let each: Vec<String> = sheets.iter().map(|bytes| trace(bytes) + "\n").collect();
+    assert_eq!(traces(&input), each.concat());
 }

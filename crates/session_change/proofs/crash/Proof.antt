@@ -1,29 +1,36 @@
 -- `session_change::crash` meets its contract: by the number of its first refusal, and by the record that it stores. Assumes nothing.
-use mathlib.Core.Path.{_≡_, sym, _∙_}
+use mathlib.Core.Path.{_≡_, refl}
 use borrow.Author.Needs.{needs}
-use Rattle.model.specs.Sound.{sound}
-use Rattle.model.specs.Board.{processAt}
-use Rattle.model.specs.Refusal.{refusal}
-use Rattle.model_laws.specs.Answers.{tested, number, refuses}
-use Rattle.session_change.specs.Answers.{crashOwn, crash-is, crash-accepted}
+use Rattle.model.specs.declared.Operation.{Operation}
+use Rattle.model.specs.declared.Operation.the-variants.{Crash}
+use Rattle.model.specs.Board.{noCounts}
+use Rattle.model.specs.Public
+use Rattle.model_laws.specs.Answers.{codeOf, code-is, uncounted-refused, uncounted-accepted, index-of, crashed-is}
 use Rattle.session_change.proofs.crash.Statement.{statement}
 use Rattle.session_change.proofs.crash.Tie as tie
 
+abbrev operation : tie.Start → Operation
+operation c = Crash (c .args .p)
+
 -- The number of the first refusal.
 code : (c : tie.After-first-refusal) →
-    let a = c .before .before .before .before .args in
-    c .first-refusal .result ≡ tested (sound (a .t1)) (a .t1 .n) (a .p) (refusal (crashOwn (processAt (a .t1) (a .p))))
-code c = number _ _ (λ q. refusal (crashOwn q)) (c .before .before .sound .ensures) (c .before .turn-refusal .ensures) (c .first-refusal .ensures)
+    let start = c .before .before .before .before in c .first-refusal .result ≡ codeOf (start .args .t1) noCounts (operation start)
+code c = code-is _ noCounts (operation (c .before .before .before .before)) refl (c .before .before .sound .ensures) (c .before .crash-refusal .ensures) (c .first-refusal .ensures)
 
+-- Accepted, and refused.
 returns : tie.Need-returns
+unfolding Public.crash
 returns c =
-    let a = c .before .before .before .before .before .before .args in
-    crash-accepted (a .t1) (a .p) (c .before .if1 .taken) (code (c .before .before)) (c .crashed .ensures)
+    let none = c .before .if1 .taken in
+    let o = operation (c .before .before .before .before .before .before) in
+    uncounted-accepted _ o (code (c .before .before)) none
+    (crashed-is _ _ _ (index-of _ noCounts o (code (c .before .before)) none) (c .crashed .ensures))
 
 returns-2 : tie.Need-returns-2
-returns-2 c = refuses _ _ (code (c .before)) (c .if1 .left) ∙ sym (crash-is _ _)
+unfolding Public.crash
+returns-2 c = uncounted-refused _ (operation (c .before .before .before .before .before)) (code (c .before)) (c .if1 .left)
 
--- The answers in the order of the code, as for `propose`.
+-- In the order of the code: the record's address and index, the tests, the new record, its address and index, the answers.
 pub crash-spec : {M : Type 1} → statement M
 crash-spec =
     tie.close

@@ -1,29 +1,38 @@
 -- `session_step::learn` meets its contract: by the number of its first refusal, and by the record and the counts that it leaves. Assumes nothing.
-use mathlib.Core.Path.{_≡_, sym, _∙_}
+use mathlib.Core.Path.{_≡_, refl}
 use borrow.Author.Needs.{needs}
-use Rattle.model.specs.Sound.{sound}
-use Rattle.model.specs.Board.{processAt}
-use Rattle.model.specs.Refusal.{refusal}
-use Rattle.model_laws.specs.Answers.{tested, number, refuses}
-use Rattle.session_step.specs.Answers.{learnOwn, learn-is, learn-accepted}
+use Rattle.model.specs.declared.Operation.{Operation}
+use Rattle.model.specs.declared.Operation.the-variants.{Learn}
+use Rattle.model.specs.Public
+use Rattle.model.specs.Machine.{accessOf}
+use Rattle.model_laws.specs.Answers.{codeOf, code-is, operate-refused, operate-accepted, index-of, learnt-is}
 use Rattle.session_step.proofs.learn.Statement.{statement}
 use Rattle.session_step.proofs.learn.Tie as tie
 
+abbrev operation : tie.Start → Operation
+operation c = Learn (c .args .p)
+
 -- The number of the first refusal.
 code : (c : tie.After-first-refusal) →
-    let a = c .before .before .before .before .args in
-    c .first-refusal .result ≡ tested (sound (a .t1)) (a .t1 .n) (a .p) (refusal (learnOwn (a .c) (processAt (a .t1) (a .p))))
-code c = number _ _ (λ q. refusal (learnOwn (c .before .before .before .before .args .c) q)) (c .before .sound .ensures) (c .before .before .learn-refusal .ensures) (c .first-refusal .ensures)
+    let start = c .before .before .before .before in c .first-refusal .result ≡ codeOf (start .args .t1) (start .args .c) (operation start)
+code c =
+    code-is _ _ (operation (c .before .before .before .before)) refl
+    (c .before .sound .ensures) (c .before .before .learn-refusal .ensures) (c .first-refusal .ensures)
 
+-- Accepted, and refused.
 returns : tie.Need-returns
+unfolding Public.learn accessOf
 returns c =
-    let a = c .before .before .before .before .before .before .before .args in
-    learn-accepted (a .t1) (a .p) (c .before .before .if1 .taken) (a .c) (code (c .before .before .before)) (c .before .learnt .ensures) (c .counted .ensures)
+    let first = c .before .before .before in
+    let none = c .before .before .if1 .taken in
+    let o = operation (first .before .before .before .before) in
+    operate-accepted _ _ o (code first) none (learnt-is _ _ _ (index-of _ _ o (code first) none) (c .before .learnt .ensures)) (c .counted .ensures)
 
 returns-2 : tie.Need-returns-2
-returns-2 c = refuses _ _ (code (c .before)) (c .if1 .left) ∙ sym (learn-is _ _ _)
+unfolding Public.learn
+returns-2 c = operate-refused _ _ (operation (c .before .before .before .before .before)) (code (c .before)) (c .if1 .left)
 
--- The answers in the order of the code, as for `propose`, with one for the counts.
+-- The answers in the order of the code: the record's address and index, the tests, the new record, its address and index, the counts.
 pub learn-spec : {M : Type 1} → statement M
 learn-spec =
     tie.close

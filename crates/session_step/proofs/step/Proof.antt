@@ -1,48 +1,69 @@
 -- `session_step::step` meets its contract: by the number of its first refusal, and by the registers, the record and the counts that it leaves. Assumes nothing.
-use mathlib.Core.Path.{_≡_, sym, _∙_}
+use mathlib.Core.Path.{_≡_, refl}
 use native.Mathlib.Omega.{arith}
 use borrow.Author.Needs.{needs}
+use Rattle.model.specs.declared.Operation.{Operation}
+use Rattle.model.specs.declared.Operation.the-variants.{Step}
+use Rattle.model.specs.Window.{window}
 use Rattle.model.specs.Sound.{sound}
-use Rattle.model.specs.Board.{processAt}
-use Rattle.model.specs.Refusal.{refusal}
-use Rattle.model_laws.specs.Answers.{tested, number, refuses}
-use Rattle.session_step.specs.Answers.{stepOwn, step-is, step-few, step-accepted}
+use Rattle.model.specs.Machine.{accessOf}
+use Rattle.model.specs.Public
+use Rattle.model_laws.specs.Answers.{codeOf, code-is, operate-refused, operate-accepted, index-of, known}
+use Rattle.model_laws.specs.Operations.{access-in-arrays}
+use Rattle.model_laws.specs.Sounds.{sound-few}
+use Rattle.part_registers.specs.Registers.{worked-is}
 use Rattle.session_step.proofs.step.Statement.{statement}
 use Rattle.session_step.proofs.step.Tie as tie
 
+abbrev operation : tie.Start → Operation
+operation c = Step (c .args .p) (c .args .leader)
+
 -- The number of the first refusal.
 code : (c : tie.After-first-refusal) →
-    let a = c .before .before .before .before .args in
-    c .first-refusal .result ≡ tested (sound (a .t1)) (a .t1 .n) (a .p) (refusal (stepOwn (a .c) (processAt (a .t1) (a .p))))
-code c = number _ _ (λ q. refusal (stepOwn (c .before .before .before .before .args .c) q)) (c .before .sound .ensures) (c .before .before .step-refusal .ensures) (c .first-refusal .ensures)
+    let start = c .before .before .before .before in c .first-refusal .result ≡ codeOf (start .args .t1) (start .args .c) (operation start)
+code c =
+    code-is _ _ (operation (c .before .before .before .before)) refl
+    (c .before .sound .ensures) (c .before .before .step-refusal .ensures) (c .first-refusal .ensures)
 
--- The place where the number is known to be 0, from the place where the access is performed.
-abbrev taken : tie.After-perform → tie.Then1
+-- Where the number is 0, from the place where the decision register is known.
+abbrev taken : tie.After-decision → tie.Then1
 taken c = c .before .before .before .before .before .before
 
+-- n fits a byte.
 cast-window : tie.Need-cast-window
 cast-window c =
     let start = taken c in
-    let a = start .before .before .before .before .before .args in
-    omega (arith, step-few (a .t1) (a .p) (start .if1 .taken) (a .c) (code (start .before)))
+    let o = operation (start .before .before .before .before .before) in
+    omega (arith, sound-few _ (known _ _ o (code (start .before)) (start .if1 .taken) .0))
 
+-- Accepted, and refused.
 returns : tie.Need-returns
+unfolding Public.step accessOf sound
 returns c =
-    let done = c .before .before .before in
-    let start = taken done in
-    let a = start .before .before .before .before .before .args in
-    step-accepted (a .t1) (a .p) (start .if1 .taken) (a .leader) (a .c) (code (start .before))
-    (done .before .before .before .before .before .access .ensures)
-    (done .perform .ensures .0)
-    (done .perform .ensures .1 .0)
-    (done .perform .ensures .1 .1 .0)
-    (done .perform .ensures .1 .1 .1)
-    (c .before .before .window .ensures)
-    (c .before .next .ensures)
-    (c .counted .ensures)
+    let written = c .before .before .before in
+    let marked = written .before in
+    let valued = marked .before .before in
+    let accessed = valued .before .before in
+    let start = taken written in
+    let first = start .before in
+    let none = start .if1 .taken in
+    let o = operation (first .before .before .before .before) in
+    let args = first .before .before .before .before .args in
+    let i = index-of _ _ o (code first) none in
+    operate-accepted _ _ o (code first) none
+    (worked-is (window (args .t1 .n)) _ _ _ (access-in-arrays _ _ o (known _ _ o (code first) none .0)) i
+    (accessed .access .ensures)
+    (valued .value .ensures .0)
+    (marked .mark .ensures .0)
+    (valued .value .ensures .1)
+    (marked .mark .ensures .1)
+    (written .decision .ensures)
+    (rw (← c .before .before .window .ensures) (c .before .next .ensures)))
+    (rw (accessed .access .ensures, i) at (c .counted .ensures))
 
 returns-2 : tie.Need-returns-2
-returns-2 c = refuses _ _ (code (c .before)) (c .if1 .left) ∙ sym (step-is _ _ _ _)
+unfolding Public.step
+returns-2 c = operate-refused _ _ (operation (c .before .before .before .before .before)) (code (c .before)) (c .if1 .left)
 
 -- The answers in the order of the code: the record's address and index, the tests, the turn's calls with the cast of n among them,
 -- the new record's address and index, the counts.
@@ -50,5 +71,5 @@ pub step-spec : {M : Type 1} → statement M
 step-spec =
     tie.close
     (tie.spec (λ c. search needs) (λ c. search needs) (λ c κs. search needs) (λ c κs. search needs) (λ c κs. search needs)
-    (λ c κs. search needs) (λ c κs. search needs) cast-window (λ c κs. search needs) (λ c κs. search needs)
-    (λ c. search needs) (λ c. search needs) (λ c κs. search needs) returns returns-2)
+    (λ c κs. search needs) (λ c κs. search needs) (λ c κs. search needs) (λ c κs. search needs) cast-window (λ c κs. search needs)
+    (λ c κs. search needs) (λ c. search needs) (λ c. search needs) (λ c κs. search needs) returns returns-2)

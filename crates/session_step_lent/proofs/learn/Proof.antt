@@ -132,4 +132,4 @@ pub learn-spec : {M : Type 1} → stated.statement M
 unfolding code.routine
 learn-spec 𝓤 H 𝓜 𝓖 𝓡 =
     finished 𝓤 H 𝓜 𝓖 𝓡 learn.ended stayed (learn.clauses 𝓤 H (𝓖 .A) (𝓜 .mem) (𝓡 .run)) (goes 𝓤 H (𝓖 .A) (givenOf 𝓤 H 𝓜 𝓖)) code.env #session_step_lent·learn code.function (code.unfolded 𝓤 H 𝓜 𝓡)
-    (Callee 𝓤 H (𝓖 .A) (𝓜 .mem) (𝓡 .run)) #session_step·learn callee-def.routine code.calls-session_step·learn (callee-thm.met 𝓤 H 𝓜 𝓖 𝓡) (walks 𝓤 H (𝓖 .A) (givenOf 𝓤 H 𝓜 𝓖) (𝓜 .mem) (𝓡 .run))
+    (Callee 𝓤 H (𝓖 .A) (𝓜 .mem) (𝓡 .run)) #session_step·learn callee-def.routine code.calls-session-step·learn (callee-thm.met 𝓤 H 𝓜 𝓖 𝓡) (walks 𝓤 H (𝓖 .A) (givenOf 𝓤 H 𝓜 𝓖) (𝓜 .mem) (𝓡 .run))

@@ -133,4 +133,4 @@ pub step-spec : {M : Type 1} → stated.statement M
 unfolding code.routine
 step-spec 𝓤 H 𝓜 𝓖 𝓡 =
     finished 𝓤 H 𝓜 𝓖 𝓡 step.ended stayed (step.clauses 𝓤 H (𝓖 .A) (𝓜 .mem) (𝓡 .run)) (goes 𝓤 H (𝓖 .A) (givenOf 𝓤 H 𝓜 𝓖)) code.env #session_step_lent·step code.function (code.unfolded 𝓤 H 𝓜 𝓡)
-    (Callee 𝓤 H (𝓖 .A) (𝓜 .mem) (𝓡 .run)) #session_step·step callee-def.routine code.calls-session_step·step (callee-thm.met 𝓤 H 𝓜 𝓖 𝓡) (walks 𝓤 H (𝓖 .A) (givenOf 𝓤 H 𝓜 𝓖) (𝓜 .mem) (𝓡 .run))
+    (Callee 𝓤 H (𝓖 .A) (𝓜 .mem) (𝓡 .run)) #session_step·step callee-def.routine code.calls-session-step·step (callee-thm.met 𝓤 H 𝓜 𝓖 𝓡) (walks 𝓤 H (𝓖 .A) (givenOf 𝓤 H 𝓜 𝓖) (𝓜 .mem) (𝓡 .run))

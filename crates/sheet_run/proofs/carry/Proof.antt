@@ -11,7 +11,7 @@ use borrow.Author.Needs.{needs}
 use lib.ListN.{length}
 use types.Run.{OneOf}
 use denote.Enum.Declared as Declared
-use Rattle.model.proofs.Operation as Entries
+use Rattle.model.proofs.Operation as Operations
 use Rattle.model.specs.declared.Operation.{Operation}
 use Rattle.model.specs.declared.Operation.the-variants.{Propose, Step, Learn, Crash, Malformed}
 use Rattle.model.specs.Board.{processAt}
@@ -20,18 +20,15 @@ use Rattle.model.specs.Sheet.{entries}
 use Rattle.sheet_place_laws.specs.declared.Handed.the-variants.{Next}
 use Rattle.sheet_place_laws.specs.Places.{handed, rest}
 use Rattle.sheet_place_laws.specs.PlaceLaws.{begin-rest, begin-proper}
-use Rattle.part_registers.specs.Registers.{access-all}
-use Rattle.model_laws.specs.Ranges.{InRange}
-use Rattle.sheet_run.specs.Operation.{in-range}
-use Rattle.sheet_run.specs.Uniform.{isStep, step-own, step-access, step-leaves, other-changes, other-stays, other-access}
-use Rattle.sheet_run.specs.Carried.{Carrying, Entered, accepted, tallied}
-use Rattle.sheet_run.specs.Carried.{ends, row-low, shorter, halted, due, refused, goes-on}
+use Rattle.sheet_run_laws.specs.Entries.{isStep, step-refusal, step-access, step-leaves, other-changes, other-stays, other-access}
+use Rattle.sheet_run_laws.specs.Carried.{Carrying, Entered, entered-none, tallied}
+use Rattle.sheet_run_laws.specs.Carried.{ends, row-low, shorter, halted, due, refused, goes-on}
 use Rattle.sheet_run.proofs.carry.Statement.{statement}
 use Rattle.sheet_run.proofs.carry.Tie as tie
 
 abbrev Inv-loop : tie.InvT-loop
 Inv-loop sheet budget window c₀ s₀ k₀ place₀ c s k place =
-    Carrying (runFrom budget 0 s₀ c₀ (entries sheet)) sheet budget window s c k place
+    Carrying (runFrom window budget 0 s₀ c₀ (entries sheet)) sheet budget window s c k place
 
 abbrev μ-loop : tie.MeasureT-loop
 μ-loop sheet budget window c₀ s₀ k₀ place₀ c s k place = length (rest sheet place)
@@ -78,21 +75,14 @@ step-entered c =
     record {
       named = h .before .before .process-of .ensures;
       below = due-of h .1;
-      code = c .step-refusal .ensures ∙ step-own _ _ (c .before .before .e2 .given .1);
+      code = c .step-refusal .ensures ∙ step-refusal _ _ (c .before .before .e2 .given .1);
     }
-
--- Its register is one of the arrays'.
-in-arrays : (c : tie.After-access Inv-loop μ-loop) → InRange 256 (c .access .result)
-in-arrays c =
-    let f = c .before .before in
-    let l = loop-of (f .before .before .before .before .before) .loop in
-    in-range 256 (sym (c .access .ensures)) (access-all _ (l .s) _ _ (l .inv .opened .sound))
 
 abbrev stored-at : tie.After-next Inv-loop μ-loop → Here
 stored-at c = c .before .before .before .before .before .before .before .before .before .before .before .before .before
 
 -- Any other entry.
-other-tag : (e : Operation) → OneOf (0 ∷ 2 ∷ 3 ∷ 4 ∷ []) (Declared.tagOf Entries.the-type e) → isStep e ≡ false
+other-tag : (e : Operation) → OneOf (0 ∷ 2 ∷ 3 ∷ 4 ∷ []) (Declared.tagOf Operations.the-type e) → isStep e ≡ false
 other-tag (Propose p v) h = refl
 other-tag (Step p leader) h = absurd (⊎-elim (λ z. omega arith) (⊎-elim (λ z. omega arith) (⊎-elim (λ z. omega arith) (λ z. omega arith))) h)
 other-tag (Learn p) h = refl
@@ -171,7 +161,7 @@ loop-again c =
     ⊎-elim
     (λ w.
     let told = w .1 .given .1 in
-    let f = accepted
+    let f = entered-none
     (step-entered
     (record {
       before = record {
@@ -190,12 +180,12 @@ loop-again c =
     (λ w.
     let e = entry-of (h .before .before) in
     let other = other-tag e (w .0 .keys2) in
-    let f = accepted (other-entered (record { before = record { before = j .before; match2 = w .0 }; refusal-of = w .1 })) (w .2 .left) in
+    let f = entered-none (other-entered (record { before = record { before = j .before; match2 = w .0 }; refusal-of = w .1 })) (w .2 .left) in
     on f
     (w .8
     ∙ ⊎-elim
     (λ v. v .2 ∙ other-changes W (l .s) (process-of h) e other (f .named) (sym (w .3 .ensures) ∙ v .0 .taken) (v .1 .ensures))
-    (λ v. v .1 ∙ other-stays W (l .s) (l .c) (process-of h) e other (sym (w .3 .ensures) ∙ v .0 .left) (sym (f .code)))
+    (λ v. v .1 ∙ other-stays W (l .s) (process-of h) (l .c) e other (sym (w .3 .ensures) ∙ v .0 .left) (sym (f .code)))
     (w .4 .came))
     (w .7 ∙ tallied f (w .5 .ensures ∙ other-access (l .s .limit) (processAt (l .s) (process-of h)) e other) (w .6 .ensures))
     (c .place-after .ensures))
@@ -210,7 +200,7 @@ carry-spec =
     (λ c κs. search needs) (λ c κs. search needs) (λ c κs. search needs) (λ c κs. search needs) returns-2
     (λ c. omega (arith, low c)) low
     (λ c. search needs) (λ c κs. search needs) (λ c κs. search needs) returns-3
-    (λ c κs. search needs) (λ c κs. in-arrays (c .before)) (λ c κs. in-arrays (c .before .before .before)) (λ c κs. search needs) (λ c κs. search needs)
+    (λ c κs. search needs) (λ c κs. search needs) (λ c κs. search needs) (λ c κs. search needs) (λ c κs. search needs)
     (λ c. omega (arith, low (stored-at c))) (λ c. low (stored-at c)) (λ c κs. search needs)
     (λ c κs. search needs) (λ c κs. search needs) returns-4
     (λ c κs. search needs) (λ c κs. search needs)

@@ -1,2 +1,0 @@
--- The laws of the operations' answers.
-pub mod Answers

@@ -1,2 +1,0 @@
--- The laws of a turn's answers.
-pub mod Answers

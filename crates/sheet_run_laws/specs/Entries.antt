@@ -1,0 +1,146 @@
+-- One entry as the runner's code takes it: a work turn has a path of its own, and of the others each is a refusal, a register operation and,
+-- where the record changes, what the process becomes. The laws say that this is what the machine does.
+use Prim.Native.Nat.{ℕ, suc, zero, _<_, _≤_}
+use native.Mathlib.Omega.{arith}
+use mathlib.Core.Path.{_≡_, refl, sym, _∙_, ap}
+use mathlib.Core.Bool.{Bool, true, false, cond, not, true≢false}
+use mathlib.Core.List.{List}
+use lib.ListN.{set}
+use lib.Dec.{leb, eqb}
+use lib.Seq.{set-getD}
+use borrow.Author.Tests.{le-leb, lt-leb, not-false}
+use Rattle.model.specs.declared.Phase.{Phase}
+use Rattle.model.specs.declared.Phase.the-variants.{Waiting, Crashed}
+use Rattle.model.specs.declared.Access.{Access}
+use Rattle.model.specs.declared.Access.the-variants.{Nothing, ReadDecision}
+use Rattle.model.specs.declared.Process.{Process}
+use Rattle.model.specs.declared.Session.{Session}
+use Rattle.model.specs.declared.Counts.{Counts}
+use Rattle.model.specs.declared.Operation.{Operation}
+use Rattle.model.specs.declared.Operation.the-variants.{Propose, Step, Learn, Crash, Malformed}
+use Rattle.model.specs.declared.Ending.{Ending}
+use Rattle.model.specs.declared.Ending.the-variants.{BudgetEnded, Refused}
+use Rattle.model.specs.Board.{processAt, with, withProcess, idle}
+use Rattle.model.specs.Step.{access, next, learnt, found, written, turn, process}
+use Rattle.model.specs.Refusal.{refusal, ownTests, processOf, isMalformed, tests, stepTests}
+use Rattle.model.specs.Machine.{accessOf, becomes, after}
+use Rattle.model.specs.Sound.{soundAt}
+use Rattle.model_laws.specs.Operations.{access-in-arrays}
+use Rattle.part_registers.specs.Registers.{valueIn, markIn, valuesAfter, marksAfter, decisionAfter, worked-is}
+
+-- Whether it is a work turn.
+abbrev pub isStep : Operation → Bool
+isStep (Propose p v) = false
+isStep (Step p leader) = true
+isStep (Learn p) = false
+isStep (Crash p) = false
+isStep Malformed = false
+
+-- How the run ends at an entry that is past the budget, or whose process is n or above.
+abbrev pub haltOf : (budget k : ℕ) → Ending
+haltOf budget k = cond (leb budget k) BudgetEnded (Refused 4 k)
+
+-- The refusal of an entry whose process is one of the n: 13, then its own.
+abbrev pub entryRefusal : Phase → Counts → Operation → ℕ
+entryRefusal φ c o = cond (isMalformed o) 13 (refusal (ownTests φ c o))
+
+-- ---- entries that are no work turn
+
+-- Whether the record of the process changes, by the decision register D.
+abbrev pub changesOf : (D : ℕ) → Operation → Bool
+changesOf D (Propose p v) = true
+changesOf D (Step p leader) = false
+changesOf D (Learn p) = not (eqb D 0)
+changesOf D (Crash p) = true
+changesOf D Malformed = false
+
+-- To what, where it does. (Where it does not, any record will do.)
+abbrev pub movedTo : Process → (D : ℕ) → Operation → Process
+movedTo q D (Propose p v) = process Waiting (q .round) v
+movedTo q D (Step p leader) = process Crashed (q .round) (q .estimate)
+movedTo q D (Learn p) = learnt q D
+movedTo q D (Crash p) = process Crashed (q .round) (q .estimate)
+movedTo q D Malformed = process Crashed (q .round) (q .estimate)
+
+-- The one register operation.
+abbrev pub otherAccess : Operation → Access
+otherAccess (Propose p v) = Nothing
+otherAccess (Step p leader) = Nothing
+otherAccess (Learn p) = ReadDecision
+otherAccess (Crash p) = Nothing
+otherAccess Malformed = Nothing
+
+-- ---- the refusal
+
+module _ (s : Session) (c : Counts) (o : Operation) where
+  -- Of a process below n.
+  pub entry-refusal : processOf o < s .n → refusal (tests s c o) ≡ entryRefusal (processAt s (processOf o) .phase) c o
+  entry-refusal low = rw (lt-leb (s .n) (processOf o) low)
+
+  -- A process n or above is refused by its number. (A malformed entry counts as one of process 0.)
+  pub number-refusal : 1 ≤ s .n → s .n ≤ processOf o → refusal (tests s c o) ≡ 4
+  number-refusal some high = go o high
+    where
+      go : (o : Operation) → s .n ≤ processOf o → refusal (tests s c o) ≡ 4
+      go (Propose p v) h = rw (le-leb (s .n) p h)
+      go (Step p leader) h = rw (le-leb (s .n) p h)
+      go (Learn p) h = rw (le-leb (s .n) p h)
+      go (Crash p) h = rw (le-leb (s .n) p h)
+      go Malformed h = absurd (omega arith)
+
+-- The refusal and the register operation of a work turn.
+pub step-refusal : (φ : Phase) (c : Counts) {o : Operation} {p : ℕ} {leader : Bool} → o ≡ Step p leader → refusal (stepTests φ c) ≡ entryRefusal φ c o
+step-refusal φ c told = rw told
+
+pub step-access : (L : ℕ) (q : Process) {o : Operation} {p : ℕ} {leader : Bool} → o ≡ Step p leader → access L q leader ≡ accessOf L q o
+unfolding accessOf
+step-access L q told = rw told
+
+-- What the code leaves after a work turn of a sound session, register by register.
+pub step-leaves : (W : ℕ) (s : Session) (p : ℕ) (leader : Bool) {o : Operation} {m v x y : ℕ} {a : Access} {values : List ℕ} {marks : List Bool} {q : Process} →
+    soundAt W s ≡ true →
+    o ≡ Step m leader →
+    p ≡ processOf o →
+    a ≡ access (s .limit) (processAt s p) leader →
+    v ≡ valueIn (s .values) a →
+    x ≡ markIn v (s .marks) a →
+    values ≡ valuesAfter (s .values) a (processAt s p .estimate) →
+    marks ≡ marksAfter (s .marks) a →
+    y ≡ decisionAfter (s .decision) a (processAt s p .estimate) →
+    q ≡ next W (s .limit) (processAt s p) leader x →
+    with s values marks y (set (s .processes) p q) ≡ after W s o
+step-leaves W s p leader {m = m} t told named ea er ex ev em ey eq =
+    rw told
+    (worked-is W s m leader (access-in-arrays W s (Step m leader) t) (named ∙ ap processOf told) ea er ex ev em ey eq)
+
+-- ---- what an entry that is no work turn leaves
+
+module _ (W : ℕ) (s : Session) (p : ℕ) where
+  -- Where the record changes.
+  pub other-changes : (o : Operation) {q : Process} → isStep o ≡ false → p ≡ processOf o →
+      changesOf (s .decision) o ≡ true → q ≡ movedTo (processAt s p) (s .decision) o → withProcess s p q ≡ after W s o
+  unfolding after accessOf becomes turn written found
+  other-changes (Propose m v) not-step named h eq = rw (eq, named)
+  other-changes (Step m leader) not-step named h eq = absurd (true≢false not-step)
+  other-changes (Learn m) not-step named h eq = rw (eq, named)
+  other-changes (Crash m) not-step named h eq = rw (eq, named)
+  other-changes Malformed not-step named h eq = absurd (true≢false (sym h))
+
+  -- And where it does not: a look at a blank D.
+  pub other-stays : (c : Counts) (o : Operation) → isStep o ≡ false →
+      changesOf (s .decision) o ≡ false → entryRefusal (processAt s p .phase) c o ≡ 0 → s ≡ after W s o
+  unfolding after accessOf becomes turn written found learnt
+  other-stays c (Propose m v) not-step h ok = absurd (true≢false h)
+  other-stays c (Step m leader) not-step h ok = absurd (true≢false not-step)
+  other-stays c (Learn m) not-step h ok = rw (not-false (eqb (s .decision) 0) h, set-getD (s .processes) m idle)
+  other-stays c (Crash m) not-step h ok = absurd (true≢false h)
+  other-stays c Malformed not-step h ok = absurd (omega arith)
+
+-- Its register operation.
+pub other-access : (L : ℕ) (q : Process) (o : Operation) → isStep o ≡ false → otherAccess o ≡ accessOf L q o
+unfolding accessOf
+other-access L q (Propose m v) not-step = refl
+other-access L q (Step m leader) not-step = absurd (true≢false not-step)
+other-access L q (Learn m) not-step = refl
+other-access L q (Crash m) not-step = refl
+other-access L q Malformed not-step = refl

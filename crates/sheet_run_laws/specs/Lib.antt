@@ -1,0 +1,3 @@
+-- One entry as the runner's code takes it, and what the runner's loop keeps.
+pub mod Entries
+pub mod Carried

@@ -1,0 +1,1 @@
+// What the runner's loop keeps, and the laws of its entries. There is no code here: the theorems stand in specs/.

@@ -1,0 +1,94 @@
+-- The rule of the machine, at any window W with 2 ≤ W and 4 * n ≤ W * W.
+use Prim.Native.Nat.{ℕ, suc, zero, _*_, _≤_}
+use native.Mathlib.Omega.{arith}
+use mathlib.Core.Path.{_≡_, refl, _∙_}
+use mathlib.Core.Bool.{true}
+use mathlib.Core.List.{List, [], _∷_, _++_}
+use Rattle.model.specs.declared.Session.{Session}
+use Rattle.model.specs.declared.Counts.{Counts}
+use Rattle.model.specs.declared.Operation.{Operation}
+use Rattle.model.specs.Board.{processAt, opened, maxProcesses, maxRounds}
+use Rattle.model.specs.Refusal.{refusal, tests, processOf, stepped}
+use Rattle.model.specs.Machine.{after, countsAfter, answered, perform}
+use Rattle.model.specs.Sound.{soundAt}
+use Rattle.model_laws.specs.Accepted.{accepted}
+use Rattle.model_laws.specs.Operations.{after-sound, after-same, opened-sound}
+use Rattle.model_rule.specs.Event.{Event, eventsOf}
+use Rattle.model_rule.specs.Calls.{Input, machine, ifAccepted, events, past}
+use Rattle.model_rule.specs.Rule.{Rule}
+use Rattle.theory_board.specs.Invariant.{Invariant}
+use Rattle.theory_board.specs.Operations.{operation-invariant}
+use Rattle.theory_board.specs.Opening.{opened-invariant}
+use Rattle.theory_agreement.specs.Conclusions.{invariant-rule}
+
+-- What is known of a session that the machine came to: it is sound, has its n and limit still, and keeps the invariant.
+pub record Reached (W n L : ℕ) (s : Session) (h : List Event) : Type 0 where
+  pub sound : soundAt W s ≡ true
+  pub size : s .n ≡ n
+  pub rounds : s .limit ≡ L
+  pub invariant : Invariant W s h
+
+module _ {W n L : ℕ} (wide : 1 ≤ W) where
+  -- One operation, accepted or refused.
+  pub operation-reached : {s : Session} {h : List Event} (f : Input) → Reached W n L s h →
+      Reached W n L (perform W s (f .counts) (f .operation) .session) (events W s f ++ h)
+  unfolding perform answered
+  operation-reached {s} {h} f i = go (refusal (tests s (f .counts) (f .operation))) refl
+    where
+      o : Operation
+      o = f .operation
+
+      c : Counts
+      c = f .counts
+
+      go : (k : ℕ) → refusal (tests s c o) ≡ k →
+          let a = stepped k s (after W s o) c (countsAfter s c o) in
+          Reached W n L (a .session) (ifAccepted (a .code) (eventsOf (processAt s (processOf o)) (s .decision) o) ++ h)
+      go zero e =
+          let a = accepted s c o e in
+          let same = after-same W s o in
+          record {
+            sound = after-sound W wide s c o (i .sound) a;
+            size = same .0 ∙ i .size;
+            rounds = same .1 ∙ i .rounds;
+            invariant = operation-invariant (i .invariant) (i .sound) c o a;
+          }
+      go (suc k) e = i
+
+  -- A list of operations.
+  pub machine-reached : {start : Session} → Reached W n L start [] → (fs : List Input) →
+      Reached W n L (machine W start fs) (past W start fs)
+  machine-reached i [] = i
+  machine-reached i (f ∷ fs) = operation-reached f (machine-reached i fs)
+
+-- A session just opened.
+pub opened-reached : (W n L : ℕ) → 1 ≤ n → n ≤ maxProcesses → W ≤ L → L ≤ maxRounds → Reached W n L (opened n L) []
+unfolding opened
+opened-reached W n L some few wide low =
+    record {
+      sound = opened-sound W n L some few wide low;
+      size = refl;
+      rounds = refl;
+      invariant = opened-invariant W n L few low;
+    }
+
+-- The rule of every session that the machine reached.
+pub reached-rule : {W n L : ℕ} {s : Session} {h : List Event} → 2 ≤ W → 4 * n ≤ W * W → Reached W n L s h → Rule s h
+reached-rule wide square i = invariant-rule (i .invariant) wide (rw (i .size) square)
+
+-- The claim, for all windows at once: of every list of operations from a session just opened.
+abbrev pub MachineRule : Type 0
+MachineRule =
+    (W n L : ℕ)
+    → 2 ≤ W
+    → 4 * n ≤ W * W
+    → 1 ≤ n
+    → n ≤ maxProcesses
+    → W ≤ L
+    → L ≤ maxRounds
+    → (fs : List Input)
+    → Rule (machine W (opened n L) fs) (past W (opened n L) fs)
+
+pub machine-rule : MachineRule
+machine-rule W n L wide square some few fits low fs =
+    reached-rule wide square (machine-reached (omega arith) (opened-reached W n L some few fits low) fs)

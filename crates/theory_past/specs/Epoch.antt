@@ -1,0 +1,76 @@
+-- The highest written round, the registers, and what happened in which epoch of a past: the epoch of an event is the highest written
+-- round just after it.
+use Prim.Native.Nat.{ℕ, _+_, _≤_, _<_, max}
+use mathlib.Core.Path.{_≡_}
+use mathlib.Core.Bool.{Bool, true, false, cond}
+use mathlib.Core.List.{List, [], _∷_}
+use mathlib.Core.Logic.{_⊎_}
+use lib.Dec.{eqb}
+use Rattle.model_rule.specs.Event.{Event, proposal, write, flag, commit, decision, Past}
+
+-- The highest round that was written to; 0 for none.
+abbrev pub top : List Event → ℕ
+top [] = 0
+top (proposal v ∷ h) = top h
+top (write p r v ∷ h) = max r (top h)
+top (flag j ∷ h) = top h
+top (commit r v ∷ h) = top h
+top (decision p v ∷ h) = top h
+
+-- What register j holds: the value of the newest write to it; 0 for none.
+abbrev pub last : List Event → ℕ → ℕ
+last [] j = 0
+last (proposal v ∷ h) j = last h j
+last (write p r v ∷ h) j = cond (eqb r j) v (last h j)
+last (flag i ∷ h) j = last h j
+last (commit r v ∷ h) j = last h j
+last (decision p v ∷ h) j = last h j
+
+-- Whether round j is marked: it was flagged.
+abbrev pub isMarked : List Event → ℕ → Bool
+isMarked [] j = false
+isMarked (proposal v ∷ h) j = isMarked h j
+isMarked (write p r v ∷ h) j = isMarked h j
+isMarked (flag i ∷ h) j = cond (eqb i j) true (isMarked h j)
+isMarked (commit r v ∷ h) j = isMarked h j
+isMarked (decision p v ∷ h) j = isMarked h j
+
+-- Process p wrote v to register r, in epoch e.
+pub record Wrote (p r v e : ℕ) (h : List Event) : Type 0 where
+  pub before : List Event
+  pub past : Past (write p r v ∷ before) h
+  pub epoch : max r (top before) ≡ e
+
+-- Some process wrote v to register r in epoch e.
+pub record WrittenIn (r v e : ℕ) (h : List Event) : Type 0 where
+  pub process : ℕ
+  pub wrote : Wrote process r v e h
+
+-- Round j was flagged in epoch e.
+pub record Flagged (j e : ℕ) (h : List Event) : Type 0 where
+  pub before : List Event
+  pub past : Past (flag j ∷ before) h
+  pub epoch : top before ≡ e
+
+-- At some moment of epoch i register j held v.
+pub record Held (i j v : ℕ) (h : List Event) : Type 0 where
+  pub moment : List Event
+  pub past : Past moment h
+  pub epoch : top moment ≡ i
+  pub holds : last moment j ≡ v
+
+-- Round j was flagged in an epoch up to i.
+pub record Contested (i j : ℕ) (h : List Event) : Type 0 where
+  pub epoch : ℕ
+  pub flagged : Flagged j epoch h
+  pub early : epoch ≤ i
+
+-- Round j was compared with v in epoch i: it held v, or it was flagged.
+abbrev pub Compared : (i j v : ℕ) → List Event → Type 0
+Compared i j v h = Contested i j h ⊎ Held i j v h
+
+-- Round i was walked with the estimate v while no round above it was written: v was written to register i in epoch i, and
+-- each of the W rounds up to i was compared with v in epoch i.
+pub record Passed (W i v : ℕ) (h : List Event) : Type 0 where
+  pub written : WrittenIn i v i h
+  pub compared : (j : ℕ) → 1 ≤ j → j ≤ i → i < j + W → Compared i j v h

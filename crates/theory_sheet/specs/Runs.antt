@@ -1,0 +1,160 @@
+-- A run of a sheet is the public operations, one after another, and the machine after the entries that were carried out.
+use Prim.Native.Nat.{ℕ, suc, zero, _+_, _≤_}
+use native.Mathlib.Omega.{arith}
+use mathlib.Core.Path.{_≡_, refl, sym, _∙_, ap}
+use mathlib.Core.Bool.{cond}
+use mathlib.Core.List.{List, [], _∷_}
+use lib.ListN.{length, take}
+use lib.Dec.{eqb}
+use borrow.Author.Tests.{eq-eqb}
+use Rattle.base.specs.Bools.{cond-cases}
+use Rattle.model.specs.declared.Session.{Session}
+use Rattle.model.specs.declared.Counts.{Counts}
+use Rattle.model.specs.declared.Operation.{Operation}
+use Rattle.model.specs.declared.Ending.{Ending}
+use Rattle.model.specs.declared.Ending.the-variants.{Finished, Refused, BudgetEnded}
+use Rattle.model.specs.declared.Process.{Process}
+use Rattle.model.specs.declared.Ran.{Ran}
+use Rattle.model.specs.Window.{window}
+use Rattle.model.specs.Board.{opened, noCounts, serverLimits}
+use Rattle.model.specs.Machine.{perform}
+use Rattle.model.specs.Public.{operate}
+use Rattle.model.specs.Sound.{sound}
+use Rattle.model.specs.Refusal.{refusal, openTests}
+use Rattle.model.specs.Sheet.{processCount, roundLimit, entries, sheetTests, sheetRefusal}
+use Rattle.model.specs.Export.{decidedBytes, endingBuffer, exportBuffer}
+use Rattle.model.specs.Runner.{ran, runBy, runFrom, runWithin, run}
+use Rattle.model_laws.specs.Windows.{window-least, window-square}
+use Rattle.model_laws.specs.Accepted.{none-holds}
+use Rattle.model_laws.specs.Operations.{open-accepted}
+use Rattle.model_rule.specs.Event.{Event}
+use Rattle.model_rule.specs.Calls.{Input, machine, past}
+use Rattle.model_rule.specs.Rule.{Rule}
+use Rattle.theory_agreement.specs.Machine.{Reached, operation-reached, machine-reached, opened-reached, reached-rule}
+use Rattle.theory_agreement.specs.Theorem.{operate-reached, never-unsound}
+
+-- ---- the public operations
+
+module _ {n L : ℕ} (wide : 1 ≤ window n) where
+  -- Entry after entry, from a session that the machine reached.
+  operate-runs : {s : Session} {h : List Event} (b k : ℕ) (c : Counts) (es : List Operation) → Reached (window n) n L s h →
+      runBy operate b k s c es ≡ runFrom (window n) b k s c es
+  unfolding runBy sound
+  operate-runs b k c [] i = refl
+  operate-runs zero k c (e ∷ es) i = refl
+  operate-runs {s} (suc b) k c (e ∷ es) i =
+      let f : Input = record { operation = e; counts = c } in
+      let a = perform (window n) s c e in
+      rw (operate-reached i f)
+      (ap (λ (r : Ran). cond (eqb (a .code) 0) r (ran k s c (Refused (a .code) k)))
+      (operate-runs b (suc k) (a .counts) es (operation-reached wide f i)))
+
+  -- No entry is refused with 3.
+  never-three-runs : {s : Session} {h : List Event} (b k : ℕ) (c : Counts) (es : List Operation) (j : ℕ) → Reached (window n) n L s h →
+      runFrom (window n) b k s c es .ending ≡ Refused 3 j → ⊥
+  unfolding runBy
+  never-three-runs b k c [] j i e = let z : _≡_ {A = ℕ} 0 1 = cc in omega arith
+  never-three-runs zero k c (e ∷ es) j i t = let z : _≡_ {A = ℕ} 0 1 = cc in omega arith
+  never-three-runs {s} (suc b) k c (e ∷ es) j i t =
+      let f : Input = record { operation = e; counts = c } in
+      let a = perform (window n) s c e in
+      cond-cases (λ (r : Ran). r .ending ≡ Refused 3 j → ⊥) (eqb (a .code) 0)
+      (λ z. never-three-runs b (suc k) (a .counts) es j (operation-reached wide f i))
+      (λ z u. never-unsound i f (cc))
+      t
+
+-- ---- the machine
+
+-- The operations, oldest first, each with the counts that the one before left, on top of what the machine was fed before.
+abbrev pub fed : (W : ℕ) → Session → Counts → List Operation → List Input → List Input
+fed W start c [] fs = fs
+fed W start c (o ∷ os) fs =
+    fed W start (perform W (machine W start fs) c o .counts) os (record { operation = o; counts = c } ∷ fs)
+
+-- Of a run after k entries: how many more were carried out, that its session is the machine's after them, and that a session was made.
+record Carried (W : ℕ) (start : Session) (fs : List Input) (c : Counts) (es : List Operation) (k : ℕ) (r : Ran) : Type 0 where
+  pub count : ℕ
+  pub carried : r .carried ≡ k + count
+  pub session : r .session ≡ machine W start (fed W start c (take count es) fs)
+  pub made : (qs : List Process) (b : List ℕ) → endingBuffer (r .ending) qs b ≡ decidedBytes qs
+
+-- No entry more.
+carried-none : {W : ℕ} {start : Session} {fs : List Input} (c : Counts) (es : List Operation) (k : ℕ) (e : Ending) →
+    ((qs : List Process) (b : List ℕ) → endingBuffer e qs b ≡ decidedBytes qs) →
+    Carried W start fs c es k (ran k (machine W start fs) c e)
+carried-none c es k e made = record { count = 0; carried = omega arith; session = refl; made = made }
+
+run-carried : (W : ℕ) (start : Session) (fs : List Input) (b k : ℕ) (c : Counts) (es : List Operation) →
+    Carried W start fs c es k (runFrom W b k (machine W start fs) c es)
+unfolding runBy
+run-carried W start fs b k c [] = carried-none c [] k Finished (λ qs b. refl)
+run-carried W start fs zero k c (e ∷ es) = carried-none c (e ∷ es) k BudgetEnded (λ qs b. refl)
+run-carried W start fs (suc b) k c (e ∷ es) =
+    let a = perform W (machine W start fs) c e in
+    cond-cases (Carried W start fs c (e ∷ es) k) (eqb (a .code) 0)
+    (λ z.
+    let r = run-carried W start (record { operation = e; counts = c } ∷ fs) b (suc k) (a .counts) es in
+    record { count = suc (r .count); carried = omega (arith, r .carried); session = r .session; made = r .made })
+    (λ z. carried-none c (e ∷ es) k (Refused (a .code) k) (λ qs b. refl))
+
+-- ---- a sheet
+
+-- The machine of a sheet: its window and its session just opened.
+abbrev pub windowOf : (sheet : List ℕ) → ℕ
+windowOf t = window (processCount t)
+
+abbrev pub openedBy : (sheet : List ℕ) → Session
+openedBy t = opened (processCount t) (roundLimit t)
+
+-- What it was fed: the entries that were carried out, newest first, each with the counts that the one before left.
+abbrev pub runInputs : (sheet : List ℕ) (budget : ℕ) → List Input
+runInputs t budget = fed (windowOf t) (openedBy t) noCounts (take (run t budget .carried) (entries t)) []
+
+module _ (t : List ℕ) (budget : ℕ) (ok : sheetRefusal serverLimits t ≡ 0) where
+  -- An accepted sheet is run by the machine, from the session that it opens.
+  run-accepted : run t budget ≡ runFrom (windowOf t) budget 0 (openedBy t) noCounts (entries t)
+  unfolding run runWithin
+  run-accepted = rw ok
+
+  -- The header's n and L open a session.
+  pub sheet-opens : refusal (openTests serverLimits (processCount t) (roundLimit t)) ≡ 0
+  unfolding sheetRefusal
+  sheet-opens = let a = none-holds (sheetTests serverLimits t) (omega arith) ok in rw (a .1 .0, a .1 .1 .0)
+
+  sheet-reached : (1 ≤ processCount t) × Reached (windowOf t) (processCount t) (roundLimit t) (openedBy t) []
+  sheet-reached =
+      let a = open-accepted serverLimits (processCount t) (roundLimit t) sheet-opens in
+      (a .0, opened-reached (windowOf t) (processCount t) (roundLimit t) (a .0) (a .1) (a .2) (a .3))
+
+  wide : 1 ≤ windowOf t
+  wide = omega (arith, window-least (processCount t) (sheet-reached .0))
+
+  -- The public operations, one after another, give the same as the machine, up to the budget or the first refused entry.
+  pub run-public : runBy operate budget 0 (openedBy t) noCounts (entries t) ≡ run t budget
+  run-public = operate-runs wide budget 0 noCounts (entries t) (sheet-reached .1) ∙ sym run-accepted
+
+  -- No entry is refused with 3.
+  pub run-never-three : (k : ℕ) → run t budget .ending ≡ Refused 3 k → ⊥
+  run-never-three k e = never-three-runs wide budget 0 noCounts (entries t) k (sheet-reached .1) (rw run-accepted at e)
+
+  -- The session that a run leaves is the machine's, after the entries that were carried out.
+  run-follows : Carried (windowOf t) (openedBy t) [] noCounts (entries t) 0 (run t budget)
+  run-follows = rw run-accepted (run-carried (windowOf t) (openedBy t) [] budget 0 noCounts (entries t))
+
+  pub run-machine : run t budget .session ≡ machine (windowOf t) (openedBy t) (runInputs t budget)
+  run-machine =
+      let m = run-follows in
+      let e : run t budget .carried ≡ m .count = omega (arith, m .carried) in
+      rw e (m .session)
+
+  -- So the rule holds of it.
+  pub run-rule : Rule (run t budget .session) (past (windowOf t) (openedBy t) (runInputs t budget))
+  run-rule =
+      rw run-machine
+      (reached-rule (window-least (processCount t) (sheet-reached .0)) (window-square (processCount t))
+      (machine-reached wide (sheet-reached .1) (runInputs t budget)))
+
+  -- And the bytes that the C entry writes are those of its processes.
+  pub run-bytes : (b : List ℕ) → length b ≡ 256 → exportBuffer t budget b ≡ decidedBytes (run t budget .session .processes)
+  unfolding exportBuffer
+  run-bytes b size = rw (eq-eqb (length b) 256 size) (run-follows .made (run t budget .session .processes) b)

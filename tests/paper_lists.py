@@ -1,0 +1,148 @@
+#!/usr/bin/env python3
+"""Plays random lists by the rules of docs/PAPER-CASES.md and compares each line with the separately written program's trace.
+
+    paper_lists.py [LISTS [SEED]]
+
+Every rule and every refusal must be met, and the windows must be the program's for every n.
+"""
+import random
+import subprocess
+import sys
+from collections import Counter
+from pathlib import Path
+
+ROOT = Path(__file__).resolve().parent.parent
+PROGRAM = ROOT / "target" / "reference" / "reference"
+sys.dont_write_bytecode = True
+sys.path.append(str(ROOT / "examples"))
+import sheet
+from paper_play import Play
+from paper_rules import MOST_SEATS, REFUSALS, RULES, window
+
+LISTS, SEED = 3000, 1
+MOST_TURNS = 130
+
+
+class Composer:
+    """Makes up a list of turns while it is played, most of them legal."""
+
+    def __init__(self, chance):
+        self.chance, n = chance, chance.randint(1, 6)
+        self.play = Play(n, window(n) + chance.choice([0, 0, 1, 2]))
+        self.turns, self.lines = [], []
+        self.burst, self.seat = chance.choice([1, 2, 5, 30]), 0
+        self.odds = chance.choice([0, 0.02, 0.1]), chance.choice([0, 0, 0.01]), chance.choice([0, 0, 0.05, 0.4])
+        self.asleep = chance.randrange(n) if chance.random() < 0.5 else None
+
+    def next_seat(self):
+        """Now and then another seat. One that is asleep stays at put until another one checks, so that it writes late."""
+        if self.chance.random() * self.burst < 1:
+            self.seat = self.chance.randrange(self.play.n)
+        if self.asleep is not None and self.play.seats[self.asleep].head == "put":
+            checked = self.play.seats[self.seat].head == "check-value" and self.chance.random() < 0.2
+            if checked:
+                self.seat, self.asleep = self.asleep, None
+            elif self.seat == self.asleep:
+                self.seat = (self.seat + 1) % self.play.n
+
+    def words(self):
+        """Some turn of the seat whose turn it is."""
+        self.next_seat()
+        look, crash, no = self.odds
+        if self.play.seats[self.seat].head == "out":
+            return f"propose {self.seat} {self.chance.randint(1, 3)}"
+        dice = self.chance.random()
+        if dice < look:
+            return f"look {self.seat}"
+        if dice < look + crash:
+            return f"crash {self.seat}"
+        return f"work {self.seat} {'no' if self.chance.random() < no else 'yes'}"
+
+    def any_words(self):
+        """Any turn at all, of a seat that may not be there."""
+        seat, kind = self.chance.randint(0, self.play.n), self.chance.choice(["propose", "work", "look", "crash"])
+        rest = {"propose": [self.chance.randint(0, 1)], "work": [self.chance.choice(["yes", "no"])]}.get(kind, [])
+        return " ".join(map(str, [kind, seat, *rest]))
+
+    def add(self, words):
+        """Plays one turn and keeps the line that the trace should have."""
+        register = self.play.turn(words)
+        line = f"{len(self.turns):5} | {words:24} | {register}"
+        if not register.startswith("refused"):
+            seat, counts = self.play.seats[int(words.split()[1])], " ".join(map(str, self.play.counts))
+            line = f"{len(self.turns):5} | {words:24} | {register:25} | {str(seat):40} | {counts}"
+        self.turns.append(words)
+        self.lines.append(line)
+
+    def compose(self):
+        """The whole list: legal turns, then any turns, to the first refused one."""
+        for _ in range(self.chance.randrange(MOST_TURNS)):
+            words = self.words()
+            if self.play.legal(words):
+                self.add(words)
+        while not self.play.refusals and self.chance.random() < 0.8:
+            self.add(self.any_words())
+        return self
+
+    def sheet(self):
+        """The list's bytes."""
+        entries = b"".join(sheet.entry(words.split()) for words in self.turns)
+        return sheet.sheet(self.play.n, self.play.limit, [entries])
+
+
+def traces(sheets):
+    """The program's trace of each sheet."""
+    data = b"".join(len(one).to_bytes(2, "little") + one for one in sheets)
+    run = subprocess.run([PROGRAM, "traces"], input=data, capture_output=True, check=True)
+    found = [[]]
+    for line in run.stdout.decode().splitlines():
+        if line:
+            found[-1].append(line)
+        else:
+            found.append([])
+    return found[:-1]
+
+
+def compare(lists):
+    """Fails at the first line that differs."""
+    for number, (one, expected) in enumerate(zip(lists, traces([one.sheet() for one in lists]), strict=True)):
+        for ours, theirs in zip(one.lines + ["the end"], expected + ["the end"]):
+            if ours != theirs:
+                turns = "\n".join([f"n {one.play.n}", f"L {one.play.limit}", *one.turns])
+                sys.exit(f"paper lists: list {number}\n{turns}\nby the rules {ours}\nby the trace {theirs}")
+
+
+def check_used(lists):
+    """Fails if a rule or a refusal was never met."""
+    rules = Counter(rule for one in lists for rule in one.play.used)
+    refusals = Counter(refusal for one in lists for refusal in one.play.refusals)
+    for rule in range(1, sum(len(row[4]) for row in RULES) + 1):
+        if not rules[rule]:
+            sys.exit(f"paper lists: rule {rule} was never used")
+    for place, row in enumerate(REFUSALS):
+        if not refusals[place]:
+            sys.exit(f"paper lists: this refusal was never met: {row}")
+    return len(rules), len(refusals), min(rules.values())
+
+
+def check_windows():
+    """Fails unless W is the least L that the program opens, for every n."""
+    sizes = [(n, window(n) + less) for n in range(1, MOST_SEATS + 1) for less in (0, -1)]
+    for (n, limit), lines in zip(sizes, traces([sheet.sheet(n, limit, []) for n, limit in sizes]), strict=True):
+        if lines != ["sheet refused 2"] * (limit < window(n)):
+            sys.exit(f"paper lists: n {n}, L {limit}, W {window(n)}: {lines}")
+
+
+def main():
+    count, seed = [*map(int, sys.argv[1:]), *[LISTS, SEED][len(sys.argv) - 1:]]
+    chance = random.Random(seed)
+    lists = [Composer(chance).compose() for _ in range(count)]
+    compare(lists)
+    rules, refusals, least = check_used(lists)
+    check_windows()
+    turns = sum(len(one.turns) for one in lists)
+    print(f"paper lists: {count} lists from seed {seed}, {turns} turns as traced; {rules} rules, each {least} times or more; {refusals} refusals")
+
+
+if __name__ == "__main__":
+    main()

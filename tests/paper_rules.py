@@ -1,0 +1,110 @@
+"""The rules of docs/PAPER-CASES.md, each written once.
+
+paper_cases.py makes the page's tables of these rows and holds the picture docs/walk.svg to them; paper_lists.py plays random
+lists by them, in these very words (paper_play.py knows what each word does), beside the separately written program.
+
+In the rows r is the seat's round, k or i the number that stands with its stance, n the number of seats, L the round limit and
+W the window.
+"""
+
+STANCES = [
+    "out",
+    "gate",
+    "put",
+    "seek k",
+    "take k",
+    "compare i",
+    "flag i",
+    "check-mark i",
+    "check-value i",
+    "commit",
+    "spent",
+    "crashed",
+    "decided",
+]
+
+# Stands at, turn, if, does, and for each thing that may be found: what the seat then stands at. Of the rows for a stance and a
+# turn the first one that fits is taken, and of what is found the first one that fits. "go on" is no stance: it is followed in
+# the same turn.
+RULES = [
+    ("out", "propose", "", "", [("", "gate; the number proposed becomes the own value")]),
+    ("gate", "work", "hint no", "", [("", "gate")]),
+    ("gate", "work", "hint yes, r is L", "", [("", "spent")]),
+    (
+        "gate",
+        "work",
+        "otherwise",
+        "add 1 to r; read T[r]",
+        [("blank", "put"), ("filled, r is L", "take L"), ("filled, r is below L", "seek r + 1")],
+    ),
+    ("put", "work", "", "write the own value to T[r]", [("", "compare 0")]),
+    (
+        "seek k",
+        "work",
+        "",
+        "read T[k]",
+        [("blank", "take k − 1"), ("filled, k is L", "take L"), ("filled, k is below L", "seek k + 1")],
+    ),
+    ("take k", "work", "", "read T[k]; it becomes the own value; r becomes k", [("", "compare 0")]),
+    ("compare i", "work", "", "read T[r − i]", [("the own value", "go on"), ("another value", "flag i")]),
+    ("flag i", "work", "", "mark C[r − i]", [("", "go on")]),
+    (
+        "go on",
+        "work",
+        "",
+        "",
+        [
+            ("i + 1 is below r and i + 1 is below W", "compare i + 1"),
+            ("otherwise, r is W or more", "check-mark 0"),
+            ("otherwise, r is below W", "gate"),
+        ],
+    ),
+    ("check-mark i", "work", "", "read C[r − i]", [("marked", "gate"), ("unmarked", "check-value i")]),
+    (
+        "check-value i",
+        "work",
+        "",
+        "read T[r − i]",
+        [
+            ("another value", "gate"),
+            ("the own value, i + 1 is below W", "check-mark i + 1"),
+            ("the own value, i + 1 is W", "commit"),
+        ],
+    ),
+    ("commit", "work", "", "write the own value to D", [("", "gate")]),
+    (
+        "gate to commit, spent",
+        "look",
+        "",
+        "read D",
+        [("blank", "as before"), ("filled", "decided; it becomes the own value")],
+    ),
+    ("gate to commit, spent", "crash", "", "", [("", "crashed")]),
+]
+
+# Number, turns, if: tried from top to bottom, before the rules.
+REFUSALS = [
+    (4, "propose, work, look, crash", "the seat's number is n or more"),
+    (5, "propose", "the number proposed is 0"),
+    (6, "propose", "the seat is not out"),
+    (7, "work, look, crash", "the seat is out"),
+    (8, "work, look, crash", "the seat is crashed"),
+    (8, "work, look, crash", "the seat is decided"),
+    (9, "work", "the seat is spent"),
+]
+
+# Count, what makes it grow by 1, a remark.
+COUNTS = [
+    ("reads", "read", "of T, C or D, at work or in a look"),
+    ("writes", "write or mark", "to T, C or D"),
+    ("contested", "mark", "also where the round was marked before"),
+]
+
+MOST_SEATS = 64
+WINDOW = "2 times the root of n, rounded up to a whole number, plus 1"
+
+
+def window(n):
+    """W for n seats, as WINDOW says it."""
+    root = next(root for root in range(n + 1) if root * root >= n)
+    return 2 * root + 1
