@@ -1,63 +1,94 @@
--- Document 01, "Turn sheets": "A reader that stays attached to the sheet's bytes and its place hands the entries out."
--- A place names the next run to be opened, and which bytes of the current run, from `at` up to `end`, are still to be
--- handed out.
-use Prim.Native.Nat.{ℕ, suc, zero, _+_, _-_, _/_, _≤_}
+-- Document 01, "Turn sheets": "A reader that stays attached to the sheet's bytes and its place hands the entries out." The place is one
+-- number.
+use Prim.Native.Nat.{ℕ, suc, zero, _+_, _-_, _*_, _/_, _%_, _≤_, _<_}
 use mathlib.Core.Path.{_≡_}
 use mathlib.Core.Bool.{Bool, false, cond}
 use mathlib.Core.List.{List, [], _∷_, _++_}
 use lib.Dec.{leb}
 use Rattle.model.specs.declared.Operation.{Operation}
 use Rattle.model.specs.Sheet.{Run, runAt, runCount, runsFrom, entryAt, entriesAt, entriesOf}
-use Rattle.sheet_place_laws.specs.declared.Place.{Place}
 use Rattle.sheet_place_laws.specs.declared.Handed.{Handed}
 use Rattle.sheet_place_laws.specs.declared.Handed.the-variants.{Next, End}
 
--- "An entry has 6 bytes": whether one is left between `at` and `end`.
-abbrev pub hasEntry : Place → Bool
-hasEntry p = leb 6 (p .end - p .at)
+-- ---- what a place says, and how it is one number
 
--- Run i, opened: its bytes are to be handed out, and i + 1 is the next run.
-abbrev pub openedRun : (i : ℕ) → Run → Place
-openedRun i x = record { run = i + 1; at = x .offset; end = x .offset + x .size }
+-- The next run to be opened, the offset of the next entry, and how many entries of the current run are still to be handed out.
+pub record Position : Type 0 where
+  pub run : ℕ
+  pub at : ℕ
+  pub left : ℕ
 
--- No byte of a run is left, and run i is the next.
-abbrev pub between : (i : ℕ) → Place
-between i = record { run = i; at = 0; end = 0 }
+-- The offset in the lowest 16 bits, the entries left in the 16 above them, the run above these.
+abbrev pub encode : Position → ℕ
+encode q = q .at + 65536 * q .left + 4294967296 * q .run
+
+abbrev pub decode : ℕ → Position
+decode p = record { run = p / 4294967296; at = p % 65536; left = p / 65536 % 65536 }
+
+-- Whether the entries left end within the bytes that a sheet can have: then they fit their 16 bits.
+abbrev pub Within : Position → Type 0
+Within q = q .at + 6 * q .left ≤ 65535
+
+-- ---- positions
+
+-- Whether an entry of the current run is left.
+abbrev pub hasEntry : Position → Bool
+hasEntry q = leb 1 (q .left)
+
+-- Run i, opened: its entries, "6 bytes" each, are to be handed out, and i + 1 is the next run.
+abbrev pub openedRun : (i : ℕ) → Run → Position
+openedRun i x = record { run = i + 1; at = x .offset; left = x .size / 6 }
+
+-- No entry of a run is left, and run i is the next.
+abbrev pub between : (i : ℕ) → Position
+between i = record { run = i; at = 0; left = 0 }
 
 -- The first of the runs i, i + 1, .., as many as told, that has an entry, opened. ("Length 0 is allowed.")
-unfoldable pub openFrom : List ℕ → (i count : ℕ) → Place
+unfoldable pub openFrom : List ℕ → (i count : ℕ) → Position
 openFrom s i zero = between i
 openFrom s i (suc k) = cond (leb 6 (runAt s i .size)) (openedRun i (runAt s i)) (openFrom s (i + 1) k)
 
--- The place itself where its run has an entry left, else the next run that has one, opened.
-unfoldable pub settled : List ℕ → Place → Place
-settled s p = cond (hasEntry p) p (openFrom s (p .run) (runCount s - p .run))
-
--- Where a reader starts.
-unfoldable pub begin : List ℕ → Place
-begin s = settled s (between 0)
-
--- What a place hands out.
-unfoldable pub handed : List ℕ → Place → Handed
-handed s p = cond (hasEntry p) (Next (entryAt s (p .at))) End
+-- The position itself where its run has an entry left, else the next run that has one, opened.
+unfoldable pub settled : List ℕ → Position → Position
+settled s q = cond (hasEntry q) q (openFrom s (q .run) (runCount s - q .run))
 
 -- The same run, behind the next entry.
-abbrev pub passed : Place → Place
-passed p = cond (hasEntry p) (record { run = p .run; at = p .at + 6; end = p .end }) p
+abbrev pub passed : Position → Position
+passed q = cond (hasEntry q) (record { run = q .run; at = q .at + 6; left = q .left - 1 }) q
+
+-- The entries from a position on: those left of its run, and those of the runs still to be opened.
+unfoldable pub restFrom : List ℕ → Position → List Operation
+restFrom s q = entriesAt s (q .at) (q .left) ++ entriesOf s (runsFrom s (q .run) (runCount s - q .run))
+
+-- ---- places
+
+-- Where a reader starts.
+unfoldable pub begin : List ℕ → ℕ
+begin s = encode (settled s (between 0))
+
+-- What a place hands out.
+unfoldable pub handed : List ℕ → ℕ → Handed
+handed s p = cond (hasEntry (decode p)) (Next (entryAt s (decode p .at))) End
 
 -- The place behind the entry that this one hands out.
-unfoldable pub advanced : List ℕ → Place → Place
-advanced s p = settled s (passed p)
+unfoldable pub advanced : List ℕ → ℕ → ℕ
+advanced s p = encode (settled s (passed (decode p)))
 
--- The entries from a place on: those left of its run, and those of the runs still to be opened.
-unfoldable pub rest : List ℕ → Place → List Operation
-rest s p = entriesAt s (p .at) ((p .end - p .at) / 6) ++ entriesOf s (runsFrom s (p .run) (runCount s - p .run))
+-- The entries from a place on.
+unfoldable pub rest : List ℕ → ℕ → List Operation
+rest s p = restFrom s (decode p)
 
 -- What was handed out, and the entries after it; none where no entry is left.
 abbrev pub before : Handed → List Operation → List Operation
 before (Next e) es = e ∷ es
 before End es = []
 
--- A place at which a reader can stand: where its run has no entry left, no run is left.
-pub record Proper (s : List ℕ) (p : Place) : Type 0 where
-  pub last : hasEntry p ≡ false → runCount s ≤ p .run
+-- "Ends within the sheet", which has 65,535 bytes at most: so it is with every run of an accepted sheet.
+pub record Inside (s : List ℕ) : Type 0 where
+  pub ends : (i : ℕ) → i < runCount s → runAt s i .offset + runAt s i .size ≤ 65535
+
+-- A place at which a reader of such a sheet can stand: where its run has no entry left, no run is left.
+pub record Proper (s : List ℕ) (p : ℕ) : Type 0 where
+  pub inside : Inside s
+  pub within : Within (decode p)
+  pub last : hasEntry (decode p) ≡ false → runCount s ≤ decode p .run

@@ -1,14 +1,13 @@
 // A reader that stays attached to a sheet's bytes and its place. 01, "Turn sheets": "A reader that stays attached to the
 // sheet's bytes and its place hands the entries out." Each function takes the reader apart and leaves the work to
-// `places`; for every caller outside there are the functions of `reader`.
+// `sheet_place`; for every caller outside there are the functions of `sheet_reader`.
 ghost use mathlib.Core.Path.{_≡_};
 ghost use Rattle.sheet_reader_held.specs.Reading.{attached, handedBy, movedOn};
 use sheet_place_laws::Handed;
-use sheet_place_laws::Place;
 
 pub struct Reader<'a> {
     pub sheet: &'a [u8],
-    pub place: Place,
+    pub place: usize,
 }
 
 // At the first entry's place.

@@ -1,20 +1,30 @@
--- `sheet_place::advance` meets its contract: by whether the run has two entries left; 6 more bytes then still lie before the
--- end of the run, so the sum fits. Assumes nothing.
-use native.Mathlib.Omega.{arith}
-use borrow.Author.Needs.{needs}
+-- `sheet_place::advance` meets its contract: by whether the run has two entries left. Assumes nothing.
+use mathlib.Core.Path.{sym, _∙_}
 use Rattle.sheet_place.specs.Steps.{next-within, next-run}
+use borrow.Author.Needs.{needs}
 use Rattle.sheet_place.proofs.advance.Statement.{statement}
 use Rattle.sheet_place.proofs.advance.Tie as tie
 
+sub-result : tie.Need-sub-result
+sub-result c = search needs
+
+add-result : tie.Need-add-result
+add-result c = search needs
+
 returns : tie.Need-returns
 returns c =
-    let p = c .before .before .before .before .args .place in
-    rw (next-within _ p (omega (arith, c .before .before .left .ensures, c .before .if1 .taken)))
+    let p = c .before .before .args .place in
+    sym (next-within _ p (c .if1 .taken))
+
+open-from-requires : tie.Need-open-from-requires
+open-from-requires c κs = search needs
 
 returns-2 : tie.Need-returns-2
 returns-2 c =
-    let p = c .before .before .before .before .args .place in
-    rw (c .open-from .ensures, next-run _ p (omega (arith, c .before .before .left .ensures, c .before .if1 .left)))
+    let p = c .before .before .before .args .place in
+    c .open-from .ensures ∙ sym (next-run _ p (c .before .if1 .left))
 
 pub advance-spec : {M : Type 1} → statement M
-advance-spec = tie.close (tie.spec (λ c κs. search needs) (λ c. search needs) returns (λ c κs. search needs) returns-2)
+advance-spec =
+    tie.close
+    (tie.spec sub-result add-result returns open-from-requires returns-2)

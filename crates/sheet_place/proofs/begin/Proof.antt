@@ -1,13 +1,17 @@
--- `sheet_place::begin` meets its contract: no run is open at the start, so the first run with an entry is
--- opened. Assumes nothing.
-use borrow.Author.Needs.{needs}
+-- `sheet_place::begin` meets its contract: no run is open at the start, so the first run with an entry is opened. Assumes nothing.
 use Rattle.sheet_place_laws.specs.Places.{begin, settled}
+use borrow.Author.Needs.{needs}
 use Rattle.sheet_place.proofs.begin.Statement.{statement}
 use Rattle.sheet_place.proofs.begin.Tie as tie
+
+open-from-requires : tie.Need-open-from-requires
+open-from-requires c κs = search needs
 
 returns : tie.Need-returns
 unfolding begin settled
 returns c = c .open-from .ensures
 
 pub begin-spec : {M : Type 1} → statement M
-begin-spec = tie.close (tie.spec (λ c κs. search needs) returns)
+begin-spec =
+    tie.close
+    (tie.spec open-from-requires returns)

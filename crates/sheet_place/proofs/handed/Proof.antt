@@ -1,17 +1,22 @@
 -- `sheet_place::handed` meets its contract: by whether the run has an entry left. Assumes nothing.
 use borrow.Author.Tests.{le-leb, lt-leb}
-use borrow.Author.Needs.{needs}
 use Rattle.sheet_place_laws.specs.Places.{handed}
+use borrow.Author.Needs.{needs}
 use Rattle.sheet_place.proofs.handed.Statement.{statement}
 use Rattle.sheet_place.proofs.handed.Tie as tie
 
+entry-at-requires : tie.Need-entry-at-requires
+entry-at-requires c κs = search needs
+
 returns : tie.Need-returns
 unfolding handed
-returns c = rw (← c .before .before .left .ensures, le-leb 6 _ (c .before .if1 .taken), c .entry-at .ensures)
+returns c = rw (le-leb 1 _ (c .before .if1 .taken), c .entry-at .ensures)
 
 returns-2 : tie.Need-returns-2
 unfolding handed
-returns-2 c = rw (← c .before .left .ensures, lt-leb 6 _ (c .if1 .left))
+returns-2 c = rw (lt-leb 1 _ (c .if1 .left))
 
 pub handed-spec : {M : Type 1} → statement M
-handed-spec = tie.close (tie.spec (λ c κs. search needs) (λ c κs. search needs) returns returns-2)
+handed-spec =
+    tie.close
+    (tie.spec entry-at-requires returns returns-2)

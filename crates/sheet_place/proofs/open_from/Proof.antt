@@ -1,48 +1,76 @@
--- `sheet_place::open_from` meets its contract: the invariant: what is asked for is the first run from i on that
--- has an entry. The measure is the count of runs left. Assumes nothing.
-use Prim.Native.Nat.{_-_}
-use mathlib.Core.Path.{_≡_, _∙_, sym}
-use borrow.Author.Needs.{needs}
+-- `sheet_place::open_from` meets its contract. The loop's invariant: what is asked for is the first run from i on that has an entry,
+-- and i fits. The measure is the count of runs left. Assumes nothing.
+use Prim.Native.Nat.{_-_, _<_}
+use native.Mathlib.Omega.{arith}
+use mathlib.Core.Path.{_≡_, _∙_, sym, ap}
 use Rattle.model.specs.Sheet.{runCount}
-use Rattle.sheet_place_laws.specs.Places.{openFrom}
+use Rattle.sheet_place_laws.specs.Places.{encode, openFrom}
 use Rattle.sheet_place.specs.Steps.{open-here, open-on, open-none}
+use borrow.Author.Needs.{needs}
 use Rattle.sheet_place.proofs.open_from.Statement.{statement}
 use Rattle.sheet_place.proofs.open_from.Tie as tie
 
 abbrev Inv-loop : tie.InvT-loop
-Inv-loop s first count i₀ i = openFrom s first (runCount s - first) ≡ openFrom s i (count - i)
+Inv-loop s first count i₀ i =
+    (openFrom s first (runCount s - first) ≡ openFrom s i (count - i)) × (i < 4294967296) × (count < 256)
 
 abbrev μ-loop : tie.MeasureT-loop
 μ-loop s first count i₀ i = count - i
 
+byte-requires : tie.Need-byte-requires Inv-loop μ-loop
+byte-requires c κs = search needs
+
+cast-count : tie.Need-cast-count Inv-loop μ-loop
+cast-count c = search needs
+
 loop-holds : tie.Need-loop-holds Inv-loop μ-loop
-loop-holds c = rw (c .byte .ensures)
+loop-holds c = (rw (c .byte .ensures), c .before .before .pre, omega (arith, c .byte .ok))
+
+run-at-requires : tie.Need-run-at-requires Inv-loop μ-loop
+run-at-requires c κs = search needs
+
+mul-result : tie.Need-mul-result Inv-loop μ-loop
+mul-result c = search needs
+
+add-result : tie.Need-add-result Inv-loop μ-loop
+add-result c = search needs
+
+add-result-2 : tie.Need-add-result-2 Inv-loop μ-loop
+add-result-2 c = search needs
+
+mul-result-2 : tie.Need-mul-result-2 Inv-loop μ-loop
+mul-result-2 c = search needs
+
+add-result-3 : tie.Need-add-result-3 Inv-loop μ-loop
+add-result-3 c = search needs
 
 returns : tie.Need-returns Inv-loop μ-loop
 returns c =
-    let at = c .before .before .before in
+    let at = c .before .before .before .before in
     sym
-    (at .before .before .loop .inv
-    ∙ open-here (at .run-at .ensures) _ (at .before .loop-test .taken) (c .before .if1 .taken))
+    (ap encode (at .before .before .loop .inv .0)
+    ∙ open-here (at .run-at .ensures) _ (at .before .loop-test .taken) (c .before .before .if1 .taken))
+
+add-i : tie.Need-add-i Inv-loop μ-loop
+add-i c = search needs
+
+loop-less : tie.Need-loop-less Inv-loop μ-loop
+loop-less c = search needs
 
 loop-again : tie.Need-loop-again Inv-loop μ-loop
 loop-again c =
-    c .before .before .before .before .loop .inv
-    ∙ open-on (c .before .before .run-at .ensures) _ (c .before .before .before .loop-test .taken) (c .if1 .left)
+    let at = c .before .before in
+    let inv = at .before .before .loop .inv in
+    (inv .0 ∙ open-on (at .run-at .ensures) _ (at .before .loop-test .taken) (c .if1 .left), omega (arith, inv .2), inv .2)
+
+mul-result-3 : tie.Need-mul-result-3 Inv-loop μ-loop
+mul-result-3 c = search needs
 
 returns-2 : tie.Need-returns-2 Inv-loop μ-loop
-returns-2 c = sym (c .before .loop .inv ∙ open-none _ _ _ (c .loop-test .left))
+returns-2 c = sym (ap encode (c .before .loop .inv .0) ∙ open-none _ _ _ (c .loop-test .left))
 
 pub open-from-spec : {M : Type 1} → statement M
 open-from-spec =
     tie.close
-    (tie.spec
-    Inv-loop
-    μ-loop
-    (λ c κs. search needs) (λ c. search needs)
-    loop-holds
-    (λ c κs. search needs) (λ c. search needs) (λ c. search needs)
-    returns
-    (λ c. search needs) (λ c. search needs)
-    loop-again
-    returns-2)
+    (tie.spec Inv-loop μ-loop byte-requires cast-count loop-holds run-at-requires mul-result add-result
+    add-result-2 mul-result-2 add-result-3 returns add-i loop-less loop-again mul-result-3 returns-2)
