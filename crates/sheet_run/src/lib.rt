@@ -5,7 +5,7 @@ ghost use Prim.Native.Nat.{_<_};
 ghost use Rattle.model.specs.Board.{noCounts};
 ghost use Rattle.model.specs.Runner.{ran as ranOf, runFrom, run as runOf};
 ghost use Rattle.model.specs.Sheet.{entries};
-ghost use Rattle.sheet_run_laws.specs.Carried.{Opened};
+ghost use Rattle.sheet_run_laws.specs.Carried.{Begun};
 use model::Counts;
 use model::Ending;
 use model::Operation;
@@ -49,7 +49,7 @@ fn no_counts() -> Counts
 
 // 01, "Turn sheets": the entries one after another, on a session just opened, up to the budget or the first refused entry.
 fn carry(sheet: &[u8], budget: usize, window: usize, mut s: Session, mut c: Counts) -> Ran
-    requires { ⌜ Opened window s ⌝ }
+    requires { ⌜ Begun (now sheet) window s ⌝ }
     ensures { λ r. ⌜ r ≡ runFrom window budget 0 s c (entries (now (sheet .entry))) ⌝ }
 {
     let mut k: usize = 0;

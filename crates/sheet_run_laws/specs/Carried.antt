@@ -29,9 +29,9 @@ use Rattle.model_laws.specs.Answers.{accepted-counts}
 use Rattle.model_laws.specs.Operations.{opened-sound, open-accepted, after-sound}
 use Rattle.model_laws.specs.Sounds.{sound-facts}
 use Rattle.model_laws.specs.Windows.{window-least}
-use Rattle.sheet_place_laws.specs.declared.Place.{Place}
 use Rattle.sheet_place_laws.specs.declared.Handed.the-variants.{Next, End}
-use Rattle.sheet_place_laws.specs.Places.{handed, advanced, rest, Proper}
+use Rattle.sheet_place_laws.specs.Places.{handed, advanced, rest, Inside, Proper}
+use Rattle.sheet_place_laws.specs.Accepted.{accepted-inside}
 use Rattle.sheet_place_laws.specs.PlaceLaws.{advanced-proper, rest-next, rest-end}
 use Rattle.sheet_run_laws.specs.Entries.{haltOf, entryRefusal, entry-refusal, number-refusal}
 
@@ -39,6 +39,11 @@ use Rattle.sheet_run_laws.specs.Entries.{haltOf, entryRefusal, entry-ref
 pub record Opened (W : ℕ) (s : Session) : Type 0 where
   pub wide : 1 ≤ W
   pub sound : soundAt W s ≡ true
+
+-- What a run starts from: such a session, and a sheet whose runs lie inside it.
+pub record Begun (t : List ℕ) (W : ℕ) (s : Session) : Type 0 where
+  pub opened : Opened W s
+  pub inside : Inside t
 
 -- ---- the start of a run
 
@@ -50,15 +55,19 @@ sheet-accepted t e =
     leb-true 4 (length t) (and-left _ _ (and-left _ _ (and-left _ _ header)))
 
 pub sheet-opens : (t : List ℕ) {W : ℕ} {s : Session} → sheetRefusal serverLimits t ≡ 0 → W ≡ window (processCount t) →
-    s ≡ opened (processCount t) (roundLimit t) → Opened W s
+    s ≡ opened (processCount t) (roundLimit t) → Begun t W s
 unfolding sheetRefusal opened
 sheet-opens t e ew es =
+    let inside = accepted-inside serverLimits t e in
     let a = none-holds (sheetTests serverLimits t) (omega arith) e in
     let f = open-accepted serverLimits (processCount t) (roundLimit t) (rw (a .1 .0, a .1 .1 .0)) in
     rw (ew, es)
     (record {
-      wide = omega (arith, window-least (processCount t) (f .0));
-      sound = opened-sound _ (processCount t) (roundLimit t) (f .0) (f .1) (f .2) (f .3);
+      opened = record {
+        wide = omega (arith, window-least (processCount t) (f .0));
+        sound = opened-sound _ (processCount t) (roundLimit t) (f .0) (f .1) (f .2) (f .3);
+      };
+      inside = inside;
     })
 
 -- "no session made": a refused sheet.
@@ -117,19 +126,19 @@ module _ {s : Session} {c : Counts} {e : Operation} {p : ℕ} where
   tallied f eb ed = ed ∙ rw (eb, f .named) (accepted-counts (s .limit) (processAt s (processOf e)) c e (entered-accepted f .own))
 
 -- What the loop keeps: the answer is that of the run from here on, with k entries carried out; the session is sound.
-pub record Carrying (answer : Ran) (t : List ℕ) (budget W : ℕ) (s : Session) (c : Counts) (k : ℕ) (place : Place) : Type 0 where
+pub record Carrying (answer : Ran) (t : List ℕ) (budget W : ℕ) (s : Session) (c : Counts) (k : ℕ) (place : ℕ) : Type 0 where
   pub same : answer ≡ runFrom W (budget - k) k s c (rest t place)
   pub proper : Proper t place
   pub within : k ≤ budget
   pub opened : Opened W s
 
 -- The same by other names of the session, the counts and the place.
-carrying-at : {answer : Ran} {t : List ℕ} {budget W k : ℕ} {s s′ : Session} {c c′ : Counts} {place place′ : Place} →
+carrying-at : {answer : Ran} {t : List ℕ} {budget W k : ℕ} {s s′ : Session} {c c′ : Counts} {place place′ : ℕ} →
     s ≡ s′ → c ≡ c′ → place ≡ place′ → Carrying answer t budget W s c k place → Carrying answer t budget W s′ c′ k place′
 carrying-at {answer} {t} {budget} {W} {k} es ec ep h =
     subst₃ (λ s c place. Carrying answer t budget W s c k place) es ec ep h
 
-module _ {answer : Ran} {t : List ℕ} {budget W : ℕ} {s : Session} {c : Counts} {k : ℕ} {place : Place}
+module _ {answer : Ran} {t : List ℕ} {budget W : ℕ} {s : Session} {c : Counts} {k : ℕ} {place : ℕ}
     (h : Carrying answer t budget W s c k place) where
   -- "It ends finished when none is left".
   pub ends : handed t place ≡ End → answer ≡ ran k s c Finished
@@ -142,7 +151,7 @@ module _ {answer : Ran} {t : List ℕ} {budget W : ℕ} {s : Session} {c : Count
 
   module _ {e : Operation} (next : handed t place ≡ Next e) where
     -- One entry fewer is left behind it.
-    pub shorter : {next-place : Place} → next-place ≡ advanced t place → length (rest t next-place) < length (rest t place)
+    pub shorter : {next-place : ℕ} → next-place ≡ advanced t place → length (rest t next-place) < length (rest t place)
     shorter ep = rw (ep, rest-next t place (h .proper) next) (omega arith)
 
     -- "budget ended after as many entries as the budget allows with more left".
@@ -171,7 +180,7 @@ module _ {answer : Ran} {t : List ℕ} {budget W : ℕ} {s : Session} {c : Count
           (λ z. omega arith)
 
       -- An accepted entry: what the code leaves is what the one form has, and one more is carried out.
-      pub goes-on : {p : ℕ} {s₁ : Session} {d : Counts} {next-place : Place} →
+      pub goes-on : {p : ℕ} {s₁ : Session} {d : Counts} {next-place : ℕ} →
           Entered s c e p 0 →
           s₁ ≡ after W s e →
           d ≡ countsAfter s c e →
@@ -181,7 +190,7 @@ module _ {answer : Ran} {t : List ℕ} {budget W : ℕ} {s : Session} {c : Count
           carrying-at (sym es) (sym ed) (sym ep)
           (record {
             same = here ∙ one-more W _ k s c e _ (sym (entered-code f)) ∙ rw (add-one k);
-            proper = advanced-proper t place;
+            proper = advanced-proper t place (h .proper);
             within = omega arith;
             opened = record {
               wide = h .opened .wide;

@@ -105,10 +105,10 @@ other-entered c =
 loop-holds : tie.Need-loop-holds Inv-loop μ-loop
 loop-holds c =
     record {
-      same = rw (c .first-place .ensures, sub-zero, begin-rest);
-      proper = rw (c .first-place .ensures) (begin-proper _);
+      same = rw (c .first-place .ensures, sub-zero, begin-rest _ (c .before .before .pre .inside));
+      proper = rw (c .first-place .ensures) (begin-proper _ (c .before .before .pre .inside));
       within = omega arith;
-      opened = c .before .before .pre;
+      opened = c .before .before .pre .opened;
     }
 
 -- Finished.
