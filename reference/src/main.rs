@@ -9,16 +9,18 @@
 //! - `reference entry BUDGET` prints `code CODE`, the C entry's answer, and a
 //!   line `seat S decided VALUE` for each place of the buffer that is not 0
 //!   (01, "Turn sheets").
+//! - `reference run BUDGET` prints one line: the C entry's number, the entries
+//!   carried out, and the reads, writes and contested writes.
 
 use std::io::{self, Read, Write};
 use std::process::ExitCode;
 
 use janus_reference::runner::BUFFER;
 use janus_reference::sheet::MAX_BYTES;
-use janus_reference::{entry, report, trace, traces};
+use janus_reference::{entry, report, run, trace, traces, Counts, Sheet};
 
 const USAGE: &str =
-    "usage: reference report | trace | traces | entry BUDGET   (sheet on standard input)";
+    "usage: reference report | trace | traces | entry BUDGET | run BUDGET   (sheet on standard input)";
 
 fn main() -> ExitCode {
     let arguments: Vec<String> = std::env::args().skip(1).collect();
@@ -30,6 +32,7 @@ fn main() -> ExitCode {
         ["trace"] => (one, |sheet, _| trace(sheet)),
         ["traces"] => (u64::MAX, |sheets, _| traces(sheets)),
         ["entry", _] => (one, entry_text),
+        ["run", _] => (one, run_text),
         _ => return fail(USAGE),
     };
     let Ok(budget) = words.get(1).map_or(Ok(0), |word| word.parse()) else {
@@ -63,4 +66,17 @@ fn entry_text(sheet: &[u8], budget: u64) -> String {
         }
     }
     text
+}
+
+fn run_text(bytes: &[u8], budget: u64) -> String {
+    let mut counts = Counts::default();
+    let (code, carried_out) = match Sheet::read(bytes) {
+        Ok(sheet) => {
+            let ending = run(&sheet, budget, &mut sheet.open(), &mut counts);
+            (ending.code(), ending.carried_out())
+        }
+        Err(refusal) => (refusal.code(), 0),
+    };
+    let tally = [counts.reads, counts.writes, counts.contested].map(|count| count.to_string());
+    format!("{code} {carried_out} {}\n", tally.join(" "))
 }

@@ -1,0 +1,7 @@
+#!/usr/bin/env bash
+# The program use_run beside the separately written one, line by line (tests/run.py).
+set -euo pipefail
+cd "$(dirname "$0")/.."
+rt check use_run | tail -n 1
+reference/build.sh >/dev/null
+python3 tests/run.py target/bin/use_run target/reference/reference
