@@ -1,5 +1,5 @@
 -- Places in a sheet, and laws about them.
 pub mod Places
 pub mod PlaceLaws
-pub mod Accepted
+pub mod WellFormed
 pub mod Most

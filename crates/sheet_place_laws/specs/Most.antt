@@ -10,7 +10,7 @@ use borrow.Author.Tests.{leb-true}
 use Rattle.base.specs.Bools.{and-left, and-right}
 use Rattle.model.specs.declared.Limits.{Limits}
 use Rattle.model.specs.Sheet.{Run, runCount, runsFrom, runs, headerEnd, inOrder, entriesAt, entriesOf, entries, sheetRefusal}
-use Rattle.sheet_place_laws.specs.Accepted.{accepted}
+use Rattle.sheet_place_laws.specs.WellFormed.{accepted-formed}
 
 length-entriesAt : (s : List ℕ) (i k : ℕ) → length (entriesAt s i k) ≡ k
 length-entriesAt s i zero = refl
@@ -39,5 +39,5 @@ most-after s (suc k) l m = omega arith
 pub most-entries : (most : Limits) (s : List ℕ) → sheetRefusal most s ≡ 0 → length (entries s) ≤ 10921
 unfolding entries
 most-entries most s h =
-    let a = accepted most s h in
-    most-after s (runCount s) (a .small) (most-of s (headerEnd s) (length s) (runs s) (a .header) (a .ordered))
+    let a = accepted-formed most s h in
+    most-after s (runCount s) (a .few) (most-of s (headerEnd s) (length s) (runs s) (a .header) (a .ordered))
