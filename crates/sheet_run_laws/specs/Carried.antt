@@ -31,7 +31,7 @@ use Rattle.model_laws.specs.Sounds.{sound-facts}
 use Rattle.model_laws.specs.Windows.{window-least}
 use Rattle.sheet_place_laws.specs.declared.Handed.the-variants.{Next, End}
 use Rattle.sheet_place_laws.specs.Places.{handed, advanced, rest, Inside, Proper}
-use Rattle.sheet_place_laws.specs.Accepted.{accepted-inside}
+use Rattle.sheet_place_laws.specs.WellFormed.{accepted-inside}
 use Rattle.sheet_place_laws.specs.PlaceLaws.{advanced-proper, rest-next, rest-end}
 use Rattle.sheet_run_laws.specs.Entries.{haltOf, entryRefusal, entry-refusal, number-refusal}
 
