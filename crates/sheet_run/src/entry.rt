@@ -3,11 +3,12 @@ ghost use mathlib.Core.Path.{_≡_};
 ghost use mathlib.Core.Bool.{_||_};
 ghost use lib.Dec.{leb};
 ghost use Rattle.model.specs.Refusal.{processOf};
-ghost use Rattle.sheet_run_laws.specs.Entries.{haltOf, Other};
+ghost use Rattle.sheet_run_laws.specs.Entries.{haltOf, entryRefusal, changesOf, movedTo, otherAccess};
 use model::Access;
 use model::Counts;
 use model::Ending;
 use model::Operation;
+use model::Phase;
 use model::Process;
 
 // The process that the entry names.
@@ -41,52 +42,55 @@ pub(crate) fn halt(budget: usize, k: usize) -> Ending
     }
 }
 
-// What an entry that is no work turn comes to: the number of its refusal, 0 for none; whether the record of its process changes, and to what; the
-// counts.
-pub(crate) struct Outcome {
-    pub code: u32,
-    pub changes: bool,
-    pub process: Process,
-    pub counts: Counts,
-}
-
-fn comes_to(code: u32, changes: bool, process: Process, counts: Counts) -> Outcome
-    ensures { λ r. ⌜ r ≡ record { code = code; changes = changes; process = process; counts = counts } ⌝ }
+// Of an entry that is no work turn, its own refusal: "each entry 13 first, then its operation's own order"; 0 for none.
+pub(crate) fn refusal_of(phase: Phase, c: Counts, e: Operation) -> u32
+    ensures { λ r. ⌜ r ≡ entryRefusal phase c e ⌝ }
 {
-    Outcome {
-        code: code,
-        changes: changes,
-        process: process,
-        counts: counts,
+    match e {
+        Operation::Propose(_, v) => part_refusals::propose_refusal(v, phase),
+        Operation::Step(_, _) => part_refusals::step_refusal(phase, c),
+        Operation::Learn(_) => part_refusals::learn_refusal(phase, c),
+        Operation::Crash(_) => part_refusals::crash_refusal(phase),
+        Operation::Malformed => 13,
     }
 }
 
-// 01, "One turn at a time", proposal, look and crash, and "each entry 13 first, then its operation's own order". A look at a blank D changes no record,
-// and one that stays is not stored again. (A work turn has a path of its own in the loop; what is said of it here is not used.)
-pub(crate) fn other(q: Process, decision: u32, c: Counts, e: Operation) -> Outcome
-    ensures { λ r. ⌜ Other (q .phase) q decision c e (r .code) (r .changes) (r .process) (r .counts) ⌝ }
+// Whether it changes the record of its process: a look at a blank D does not. (A record that stays is not stored again.)
+pub(crate) fn changes(decision: u32, e: Operation) -> bool
+    ensures { λ r. ⌜ r ≡ changesOf decision e ⌝ }
 {
-    let phase = q.phase;
     match e {
-        Operation::Propose(_, v) => comes_to(
-            part_refusals::propose_refusal(v, phase),
-            true,
-            part_moves::proposed(q, v),
-            c,
-        ),
-        Operation::Step(_, _) => comes_to(part_refusals::step_refusal(phase, c), false, q, c),
-        Operation::Learn(_) => comes_to(
-            part_refusals::learn_refusal(phase, c),
-            decision != 0,
-            part_moves::learnt(q, decision),
-            part_counts::counted(Access::ReadDecision, c),
-        ),
-        Operation::Crash(_) => comes_to(
-            part_refusals::crash_refusal(phase),
-            true,
-            part_moves::crashed(q),
-            c,
-        ),
-        Operation::Malformed => comes_to(13, false, q, c),
+        Operation::Propose(_, _) => true,
+        Operation::Step(_, _) => false,
+        Operation::Learn(_) => decision != 0,
+        Operation::Crash(_) => true,
+        Operation::Malformed => false,
+    }
+}
+
+// 01, "One turn at a time", proposal, look and crash: what the process becomes where it changes. (The answer for the two entries that change
+// none here, a work turn and a malformed one, is not used.)
+pub(crate) fn becomes(q: Process, decision: u32, e: Operation) -> Process
+    ensures { λ r. ⌜ r ≡ movedTo q decision e ⌝ }
+{
+    match e {
+        Operation::Propose(_, v) => part_moves::proposed(q, v),
+        Operation::Step(_, _) => part_moves::crashed(q),
+        Operation::Learn(_) => part_moves::learnt(q, decision),
+        Operation::Crash(_) => part_moves::crashed(q),
+        Operation::Malformed => part_moves::crashed(q),
+    }
+}
+
+// The one register operation of an entry that is no work turn: a look reads D.
+pub(crate) fn access_of(e: Operation) -> Access
+    ensures { λ r. ⌜ r ≡ otherAccess e ⌝ }
+{
+    match e {
+        Operation::Propose(_, _) => Access::Nothing,
+        Operation::Step(_, _) => Access::Nothing,
+        Operation::Learn(_) => Access::ReadDecision,
+        Operation::Crash(_) => Access::Nothing,
+        Operation::Malformed => Access::Nothing,
     }
 }

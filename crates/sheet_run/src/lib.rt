@@ -55,8 +55,8 @@ fn carry(sheet: &[u8], budget: usize, window: usize, mut s: Session, mut c: Coun
             return ran(k, s, c, entry::halt(budget, k));
         }
         let q = s.processes[p];
+        let phase = q.phase;
         if let Operation::Step(_, leader) = e {
-            let phase = q.phase;
             let code = part_refusals::step_refusal(phase, c);
             if code != 0 {
                 return ran(k, s, c, Ending::Refused(code, k));
@@ -67,15 +67,14 @@ fn carry(sheet: &[u8], budget: usize, window: usize, mut s: Session, mut c: Coun
             s.processes[p] = part_next::next(window, s.limit, q, leader, x);
             c = part_counts::counted(a, c);
         } else {
-            let o = entry::other(q, s.decision, c, e);
-            if o.code != 0 {
-                return ran(k, s, c, Ending::Refused(o.code, k));
+            let code = entry::refusal_of(phase, c, e);
+            if code != 0 {
+                return ran(k, s, c, Ending::Refused(code, k));
             }
-            if o.changes {
-                let process = o.process;
-                s.processes[p] = process;
+            if entry::changes(s.decision, e) {
+                s.processes[p] = entry::becomes(q, s.decision, e);
             }
-            c = o.counts;
+            c = part_counts::counted(entry::access_of(e), c);
         }
         k += 1;
         place = sheet_reader::place_after(sheet, place);

@@ -47,13 +47,7 @@ pub record Begun (t : List ℕ) (W : ℕ) (s : Session) : Type 0 where
 
 -- ---- the start of a run
 
--- An accepted sheet has its header, and opens a sound session.
-pub sheet-accepted : (t : List ℕ) → sheetRefusal serverLimits t ≡ 0 → 4 ≤ length t
-unfolding sheetRefusal
-sheet-accepted t e =
-    let header = not-false _ (none-holds (sheetTests serverLimits t) (omega arith) e .0) in
-    leb-true 4 (length t) (and-left _ _ (and-left _ _ (and-left _ _ header)))
-
+-- An accepted sheet opens a sound session.
 pub sheet-opens : (t : List ℕ) {W : ℕ} {s : Session} → sheetRefusal serverLimits t ≡ 0 → W ≡ window (processCount t) →
     s ≡ opened (processCount t) (roundLimit t) → Begun t W s
 unfolding sheetRefusal opened

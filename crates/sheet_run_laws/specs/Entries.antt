@@ -21,11 +21,10 @@ use Rattle.model.specs.declared.Operation.the-variants.{Propose, Step, Learn, C
 use Rattle.model.specs.declared.Ending.{Ending}
 use Rattle.model.specs.declared.Ending.the-variants.{BudgetEnded, Refused}
 use Rattle.model.specs.Board.{processAt, with, withProcess, idle}
-use Rattle.model.specs.Step.{access, next, counted, learnt, found, written, turn, process}
-use Rattle.model.specs.Refusal.{refusal, ownTests, processOf, isMalformed, tests, proposeTests, stepTests, learnTests, crashTests, full}
+use Rattle.model.specs.Step.{access, next, learnt, found, written, turn, process}
+use Rattle.model.specs.Refusal.{refusal, ownTests, processOf, isMalformed, tests, stepTests}
 use Rattle.model.specs.Machine.{accessOf, becomes, after}
 use Rattle.model.specs.Sound.{soundAt}
-use Rattle.base.specs.Bools.{cond-same}
 use Rattle.model_laws.specs.Operations.{access-in-arrays}
 use Rattle.part_registers.specs.Registers.{valueIn, markIn, valuesAfter, marksAfter, decisionAfter, worked-is}
 
@@ -55,48 +54,21 @@ changesOf D (Learn p) = not (eqb D 0)
 changesOf D (Crash p) = true
 changesOf D Malformed = false
 
--- What the code makes of an entry, which is what the machine makes of it if it is no work turn: the refusal, whether the record changes and to what,
--- the counts. (Counts that are full stay, and refuse a look.)
-pub record Other (φ : Phase) (q : Process) (D : ℕ) (c : Counts) (o : Operation) (code : ℕ) (changes : Bool) (process : Process) (counts : Counts) : Type 0 where
-  pub refuses : code ≡ entryRefusal φ c o
-  pub stores : changes ≡ changesOf D o
-  pub moves : isStep o ≡ false → changesOf D o ≡ true → (W L : ℕ) → process ≡ becomes W L q o D
-  pub tallies : isStep o ≡ false → (L : ℕ) → counts ≡ cond (full c) c (counted (accessOf L q o) c)
+-- To what, where it does. (Where it does not, any record will do.)
+abbrev pub movedTo : Process → (D : ℕ) → Operation → Process
+movedTo q D (Propose p v) = process Waiting (q .round) v
+movedTo q D (Step p leader) = process Crashed (q .round) (q .estimate)
+movedTo q D (Learn p) = learnt q D
+movedTo q D (Crash p) = process Crashed (q .round) (q .estimate)
+movedTo q D Malformed = process Crashed (q .round) (q .estimate)
 
--- The code's answers, kind by kind.
-module _ (q : Process) (D : ℕ) (c : Counts) {o : Operation} {k : ℕ} {r : Process} where
-  pub other-propose : {p v : ℕ} → o ≡ Propose p v → k ≡ refusal (proposeTests (q .phase) v) → r ≡ process Waiting (q .round) v →
-      Other (q .phase) q D c o k true r c
-  unfolding becomes accessOf counted
-  other-propose told ek er =
-      rw told (record { refuses = ek; stores = refl; moves = λ a b W L. er; tallies = λ a L. sym (cond-same (full c) c) })
-
-  pub other-step : {p : ℕ} {leader : Bool} → o ≡ Step p leader → k ≡ refusal (stepTests (q .phase) c) → Other (q .phase) q D c o k false r c
-  other-step told ek =
-      rw told
-      (record { refuses = ek; stores = refl; moves = λ a. absurd (true≢false a); tallies = λ a. absurd (true≢false a) })
-
-  pub other-learn : {p : ℕ} {d : Counts} → o ≡ Learn p → k ≡ refusal (learnTests (q .phase) c) → r ≡ learnt q D →
-      d ≡ cond (full c) c (counted ReadDecision c) → Other (q .phase) q D c o k (not (eqb D 0)) r d
-  unfolding becomes accessOf
-  other-learn told ek er ed = rw told (record { refuses = ek; stores = refl; moves = λ a b W L. er; tallies = λ a L. ed })
-
-  pub other-crash : {p : ℕ} → o ≡ Crash p → k ≡ refusal (crashTests (q .phase)) → r ≡ process Crashed (q .round) (q .estimate) →
-      Other (q .phase) q D c o k true r c
-  unfolding becomes accessOf counted
-  other-crash told ek er =
-      rw told (record { refuses = ek; stores = refl; moves = λ a b W L. er; tallies = λ a L. sym (cond-same (full c) c) })
-
-  pub other-malformed : o ≡ Malformed → k ≡ 13 → Other (q .phase) q D c o k false r c
-  unfolding becomes accessOf counted
-  other-malformed told ek =
-      rw told
-      (record {
-        refuses = ek;
-        stores = refl;
-        moves = λ a b. absurd (true≢false (sym b));
-        tallies = λ a L. sym (cond-same (full c) c);
-      })
+-- The one register operation.
+abbrev pub otherAccess : Operation → Access
+otherAccess (Propose p v) = Nothing
+otherAccess (Step p leader) = Nothing
+otherAccess (Learn p) = ReadDecision
+otherAccess (Crash p) = Nothing
+otherAccess Malformed = Nothing
 
 -- ---- the refusal
 
@@ -143,28 +115,32 @@ step-leaves W s p leader {m = m} t told named ea er ex ev em ey eq =
 
 -- ---- what an entry that is no work turn leaves
 
--- It writes no register, and reads D or nothing.
-module _ (W : ℕ) (s : Session) where
-  other-after : (o : Operation) → isStep o ≡ false →
-      after W s o ≡ withProcess s (processOf o) (becomes W (s .limit) (processAt s (processOf o)) o (s .decision))
-  unfolding after accessOf becomes turn written found
-  other-after (Propose p v) not-step = refl
-  other-after (Step p leader) not-step = absurd (true≢false not-step)
-  other-after (Learn p) not-step = refl
-  other-after (Crash p) not-step = refl
-  other-after Malformed not-step = refl
-
+module _ (W : ℕ) (s : Session) (p : ℕ) where
   -- Where the record changes.
-  pub other-changes : (p : ℕ) (o : Operation) {q : Process} → isStep o ≡ false → p ≡ processOf o →
-      q ≡ becomes W (s .limit) (processAt s p) o (s .decision) → withProcess s p q ≡ after W s o
-  other-changes p o not-step named eq = rw (other-after o not-step, eq, named)
+  pub other-changes : (o : Operation) {q : Process} → isStep o ≡ false → p ≡ processOf o →
+      changesOf (s .decision) o ≡ true → q ≡ movedTo (processAt s p) (s .decision) o → withProcess s p q ≡ after W s o
+  unfolding after accessOf becomes turn written found
+  other-changes (Propose m v) not-step named h eq = rw (eq, named)
+  other-changes (Step m leader) not-step named h eq = absurd (true≢false not-step)
+  other-changes (Learn m) not-step named h eq = rw (eq, named)
+  other-changes (Crash m) not-step named h eq = rw (eq, named)
+  other-changes Malformed not-step named h eq = absurd (true≢false (sym h))
 
   -- And where it does not: a look at a blank D.
-  pub other-stays : (c : Counts) (φ : Phase) (o : Operation) → isStep o ≡ false →
-      changesOf (s .decision) o ≡ false → entryRefusal φ c o ≡ 0 → s ≡ after W s o
+  pub other-stays : (c : Counts) (o : Operation) → isStep o ≡ false →
+      changesOf (s .decision) o ≡ false → entryRefusal (processAt s p .phase) c o ≡ 0 → s ≡ after W s o
   unfolding after accessOf becomes turn written found learnt
-  other-stays c φ (Propose m v) not-step h ok = absurd (true≢false h)
-  other-stays c φ (Step m leader) not-step h ok = absurd (true≢false not-step)
-  other-stays c φ (Learn m) not-step h ok = rw (not-false (eqb (s .decision) 0) h, set-getD (s .processes) m idle)
-  other-stays c φ (Crash m) not-step h ok = absurd (true≢false h)
-  other-stays c φ Malformed not-step h ok = absurd (omega arith)
+  other-stays c (Propose m v) not-step h ok = absurd (true≢false h)
+  other-stays c (Step m leader) not-step h ok = absurd (true≢false not-step)
+  other-stays c (Learn m) not-step h ok = rw (not-false (eqb (s .decision) 0) h, set-getD (s .processes) m idle)
+  other-stays c (Crash m) not-step h ok = absurd (true≢false h)
+  other-stays c Malformed not-step h ok = absurd (omega arith)
+
+-- Its register operation.
+pub other-access : (L : ℕ) (q : Process) (o : Operation) → isStep o ≡ false → otherAccess o ≡ accessOf L q o
+unfolding accessOf
+other-access L q (Propose m v) not-step = refl
+other-access L q (Step m leader) not-step = absurd (true≢false not-step)
+other-access L q (Learn m) not-step = refl
+other-access L q (Crash m) not-step = refl
+other-access L q Malformed not-step = refl

@@ -20,7 +20,7 @@ use Rattle.model.specs.Sheet.{entries}
 use Rattle.sheet_place_laws.specs.declared.Handed.the-variants.{Next}
 use Rattle.sheet_place_laws.specs.Places.{handed, rest}
 use Rattle.sheet_place_laws.specs.PlaceLaws.{begin-rest, begin-proper}
-use Rattle.sheet_run_laws.specs.Entries.{isStep, step-refusal, step-access, step-leaves, other-changes, other-stays}
+use Rattle.sheet_run_laws.specs.Entries.{isStep, step-refusal, step-access, step-leaves, other-changes, other-stays, other-access}
 use Rattle.sheet_run_laws.specs.Carried.{Carrying, Entered, entered-none, tallied}
 use Rattle.sheet_run_laws.specs.Carried.{ends, row-low, shorter, halted, due, refused, goes-on}
 use Rattle.sheet_run.proofs.carry.Statement.{statement}
@@ -81,9 +81,6 @@ step-entered c =
 abbrev stored-at : tie.After-next Inv-loop μ-loop → Here
 stored-at c = c .before .before .before .before .before .before .before .before .before .before .before .before .before
 
-abbrev changed-at : tie.After-process Inv-loop μ-loop → Here
-changed-at c = c .before .before .before .before .before .before .before
-
 -- Any other entry.
 other-tag : (e : Operation) → OneOf (0 ∷ 2 ∷ 3 ∷ 4 ∷ []) (Declared.tagOf Operations.the-type e) → isStep e ≡ false
 other-tag (Propose p v) h = refl
@@ -92,15 +89,15 @@ other-tag (Learn p) h = refl
 other-tag (Crash p) h = refl
 other-tag Malformed h = refl
 
-other-entered : (c : tie.After-other Inv-loop μ-loop) →
+other-entered : (c : tie.After-refusal-of Inv-loop μ-loop) →
     let h = c .before .before .before in
-    Entered (loop-of h .loop .s) (loop-of h .loop .c) (entry-of (h .before .before)) (process-of h) (c .other .result .code)
+    Entered (loop-of h .loop .s) (loop-of h .loop .c) (entry-of (h .before .before)) (process-of h) (c .refusal-of .result)
 other-entered c =
     let h = c .before .before .before in
     record {
       named = h .before .before .process-of .ensures;
       below = due-of h .1;
-      code = c .other .ensures .refuses;
+      code = c .refusal-of .ensures;
     }
 
 -- ---- the needs
@@ -141,9 +138,9 @@ returns-3 c =
 returns-4 : tie.Need-returns-4 Inv-loop μ-loop
 returns-4 c =
     let f = c .before .before in
-    let h = f .before .before .before .before in
+    let h = f .before .before .before in
     c .ran4 .ensures
-    ∙ sym (refused (loop-of h .loop .inv) (next-of (h .before .before)) (due-of h .0) (other-entered (f .before)) (c .before .if3 .taken))
+    ∙ sym (refused (loop-of h .loop .inv) (next-of (h .before .before)) (due-of h .0) (other-entered f) (c .before .if3 .taken))
 
 add-k : tie.Need-add-k Inv-loop μ-loop
 add-k c = let h = c .before .before in omega (arith, due-of h .0, start-of h .fits .budget)
@@ -183,15 +180,14 @@ loop-again c =
     (λ w.
     let e = entry-of (h .before .before) in
     let other = other-tag e (w .0 .keys2) in
-    let o = w .1 .ensures in
-    let f = entered-none (other-entered (record { before = record { before = j .before; match2 = w .0 }; other = w .1 })) (w .3 .left) in
+    let f = entered-none (other-entered (record { before = record { before = j .before; match2 = w .0 }; refusal-of = w .1 })) (w .2 .left) in
     on f
-    (w .7
+    (w .8
     ∙ ⊎-elim
-    (λ v. v .2 ∙ other-changes W (l .s) (process-of h) e other (f .named) (o .moves other (sym (o .stores) ∙ v .0 .taken) W (l .s .limit)))
-    (λ v. v .1 ∙ other-stays W (l .s) (l .c) _ e other (sym (o .stores) ∙ v .0 .left) (sym (f .code)))
+    (λ v. v .2 ∙ other-changes W (l .s) (process-of h) e other (f .named) (sym (w .3 .ensures) ∙ v .0 .taken) (v .1 .ensures))
+    (λ v. v .1 ∙ other-stays W (l .s) (process-of h) (l .c) e other (sym (w .3 .ensures) ∙ v .0 .left) (sym (f .code)))
     (w .4 .came))
-    (w .6 ∙ tallied f refl (o .tallies other (l .s .limit)))
+    (w .7 ∙ tallied f (w .5 .ensures ∙ other-access (l .s .limit) (processAt (l .s) (process-of h)) e other) (w .6 .ensures))
     (c .place-after .ensures))
     (j .match2 .came)
 
@@ -207,5 +203,8 @@ carry-spec =
     (λ c κs. search needs) (λ c κs. search needs) (λ c κs. search needs) (λ c κs. search needs) (λ c κs. search needs)
     (λ c. omega (arith, low (stored-at c))) (λ c. low (stored-at c)) (λ c κs. search needs)
     (λ c κs. search needs) (λ c κs. search needs) returns-4
-    (λ c. omega (arith, low (changed-at c))) (λ c. low (changed-at c))
+    (λ c κs. search needs) (λ c κs. search needs)
+    (λ c. omega (arith, low (c .before .before .before .before .before .before .before)))
+    (λ c. low (c .before .before .before .before .before .before .before))
+    (λ c κs. search needs) (λ c κs. search needs)
     add-k (λ c κs. search needs) loop-less loop-again)
