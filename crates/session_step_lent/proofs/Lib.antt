@@ -1,1 +1,3 @@
+pub mod ByValue
+pub mod Counted
 pub mod Lent
