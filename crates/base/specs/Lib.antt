@@ -1,2 +1,3 @@
 -- General lemmas that name nothing of this project.
 pub mod Bools
+pub mod Arrays

@@ -3,28 +3,28 @@ ghost use mathlib.Core.Path.{_≡_};
 ghost use Prim.Native.Nat.{_-_, _≤_};
 ghost use mathlib.Core.List.{_++_};
 ghost use lib.ListN.{length, replicate};
-ghost use Rattle.model.specs.Report.{report as reportOf};
+ghost use Rattle.model_report.specs.Report.{report as reportOf};
+ghost use Rattle.use_text.specs.Page.{pageSize};
+use use_text::Bytes;
 
 mod lines;
-mod page;
-mod seats;
 
 // A report: the first `len` of the bytes, with zeros behind them. The longest fits.
 pub struct Text {
-    pub bytes: [u8; 5120],
+    pub bytes: Bytes,
     pub len: usize,
 }
 
 // The report of a sheet that is run "with a budget of 10,921".
 pub fn report(sheet: &[u8]) -> Text
-    ensures { λ r. ⌜ (r .len ≡ length (reportOf (now (sheet .entry)))) × (r .len ≤ 5120) ⌝ }
-    ensures { λ r. ⌜ r .bytes ≡ reportOf (now (sheet .entry)) ++ replicate (5120 - r .len) 0 ⌝ }
+    ensures { λ r. ⌜ (r .len ≡ length (reportOf (now (sheet .entry)))) × (r .len ≤ pageSize) ⌝ }
+    ensures { λ r. ⌜ r .bytes ≡ reportOf (now (sheet .entry)) ++ replicate (pageSize - r .len) 0 ⌝ }
 {
     let ran = sheet_run::run(sheet, 10921);
     let ending = ran.ending;
     let session = ran.session;
     let counts = ran.counts;
-    let mut bytes = [0u8; 5120];
+    let mut bytes = [0u8; use_text::SIZE];
     let at = lines::put_outcome(&mut bytes, 0, ending, ran.carried);
     let len = lines::put_more(&mut bytes, at, ending, session, counts);
     Text { bytes, len }

@@ -4,8 +4,8 @@ use native.Mathlib.Omega.{arith}
 use mathlib.Core.Path.{_≡_, refl, sym, _∙_}
 use mathlib.Core.Logic.{⊎-elim}
 use lib.ListN.{length, drop}
-use Rattle.model.specs.Report.{highestFrom}
-use Rattle.use_report_text.specs.Lines.{highest-filled, highest-blank, highest-done}
+use Rattle.model.specs.Board.{highestFrom}
+use Rattle.use_report_laws.specs.Highest.{highest-filled, highest-blank, highest-done}
 use Rattle.use_report_text.proofs.lines.highest.Statement.{statement}
 use Rattle.use_report_text.proofs.lines.highest.Tie as tie
 

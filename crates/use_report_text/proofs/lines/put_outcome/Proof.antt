@@ -1,26 +1,42 @@
 -- `use_report_text::lines::put_outcome` meets its contract: each arm is told the ending. Assumes nothing.
-use native.Mathlib.Omega.{arith}
 use borrow.Author.Needs.{needs}
-use Rattle.use_report_text.specs.Put.{after, within, same}
-use Rattle.use_report_text.specs.Lines.{outcome-finished}
+use Rattle.use_text.specs.Page.{same}
+use Rattle.use_report_laws.specs.Cases.{outcome-finished}
 use Rattle.use_report_text.proofs.lines.put_outcome.Statement.{statement}
 use Rattle.use_report_text.proofs.lines.put_outcome.Tie as tie
+
+refused : tie.Need-returns
+refused c = rw (c .before .before .before .before .before .ending .given .1) (c .put-line .ensures)
+
+rejected : tie.Need-returns-2
+rejected c = rw (c .before .before .before .before .before .ending2 .given .1) (c .put-line2 .ensures)
+
+-- The last arm stands for two endings.
+finished : tie.Need-returns-3
+finished c =
+    let arm = c .before .before .before .before in
+    same (outcome-finished (arm .before .args .ending) _ (arm .match .keys3)) (c .put-line3 .ensures)
 
 pub put-outcome-spec : {M : Type 1} → statement M
 put-outcome-spec =
     tie.close
     (tie.spec
-    (λ c. search needs) (λ c. search needs) (λ c. search needs) (λ c κs. search needs) (λ c. search needs) (λ c κs. search needs) (λ c. search needs) (λ c κs. search needs)
-    (λ c. search needs) (λ c. search needs) (λ c. search needs) (λ c κs. search needs) (λ c. search needs) (λ c κs. search needs)
-    (λ c. search needs) (λ c κs. search needs) (λ c. search needs) (λ c κs. search needs)
-    (λ c. let index = c .before .before .before in
-    let code = index .before .before .before in
-    rw (code .before .before .before .before .ending .given .1)
-    (within (after (after (code .put-one .ensures) (index .put-one2 .ensures)) (c .put-words .ensures)) (omega arith)))
-    (λ c. let code = c .before .before .before in
-    rw (code .before .before .before .before .ending2 .given .1)
-    (within (after (code .put-one3 .ensures) (c .put-words2 .ensures)) (omega arith)))
-    (λ c. let carried = c .before .before .before in
-    let m = carried .before .before .before in
-    same (outcome-finished (m .before .args .ending) _ (m .match .keys3))
-    (within (after (carried .put-one4 .ensures) (c .put-words3 .ensures)) (omega arith))))
+    -- refused: the ending, the words, the code, the numbers, the call
+    (search needs)
+    (search needs)
+    (search needs)
+    (search needs)
+    (search needs)
+    -- rejected: the same
+    (search needs)
+    (search needs)
+    (search needs)
+    (search needs)
+    (search needs)
+    -- any other: the words, the number, the call
+    (search needs)
+    (search needs)
+    (search needs)
+    refused
+    rejected
+    finished)

@@ -1,0 +1,59 @@
+-- `use_text::put_words` meets its contract. The loop's invariant: the first i bytes of the words are put. Assumes nothing.
+use Prim.Native.Nat.{_-_, _≤_}
+use native.Mathlib.Omega.{arith}
+use mathlib.Core.Path.{_≡_, refl}
+use borrow.Author.Needs.{needs}
+use lib.ListN.{length, take}
+use lib.Seq.{take-all}
+use Rattle.use_text.specs.Page.{Put, nothing, same, words-more}
+use Rattle.use_text.proofs.put_words.Statement.{statement}
+use Rattle.use_text.proofs.put_words.Tie as tie
+
+abbrev Inv-loop : tie.InvT-loop
+Inv-loop out₀ at words next₀ i₀ i-end out next i =
+    (i-end ≡ length words)
+    × (i ≤ length words)
+    × Put out₀ at (take i words) out next
+
+abbrev μ-loop : tie.MeasureT-loop
+μ-loop out₀ at words next₀ i₀ i-end out next i = length words - i
+
+loop-holds : tie.Need-loop-holds Inv-loop μ-loop
+loop-holds c = (refl, omega arith, nothing _ _)
+
+shared-slice-read-put-byte : tie.Need-shared-slice-read-put-byte Inv-loop μ-loop
+shared-slice-read-put-byte c = omega arith
+
+put-byte-requires : tie.Need-put-byte-requires Inv-loop μ-loop
+put-byte-requires c κs = search needs
+
+add-i : tie.Need-add-i Inv-loop μ-loop
+add-i c = omega arith
+
+loop-less : tie.Need-loop-less Inv-loop μ-loop
+loop-less c = omega arith
+
+loop-again : tie.Need-loop-again Inv-loop μ-loop
+loop-again c =
+    let l = c .before .before .before .before .loop in
+    let words = c .before .before .before .before .before .before .args .words .now in
+    (refl, omega arith, words-more words (l .i) (omega arith) (l .inv .2) (c .put-byte .ensures))
+
+returns : tie.Need-returns Inv-loop μ-loop
+returns c =
+    let l = c .before .loop in
+    same (take-all (l .i) (c .before .before .before .args .words .now) (omega arith)) (l .inv .2)
+
+pub put-words-spec : {M : Type 1} → statement M
+put-words-spec =
+    tie.close
+    (tie.spec
+    Inv-loop
+    μ-loop
+    loop-holds
+    shared-slice-read-put-byte
+    put-byte-requires
+    add-i
+    loop-less
+    loop-again
+    returns)
