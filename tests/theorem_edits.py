@@ -1,10 +1,11 @@
 #!/usr/bin/env python3
-"""Edits of the machine's definition of which the agreement rule is false.
+"""Edits of the machine's definition of which the agreement rule is false, and of a contract on which it rests.
 
 Each file of tests/theorem-edits names a file, a text of it and another text, the crate to check after the change, and the file
 and lemma at which the check must refuse it first. It also has a list of calls: the processes and rounds of the opening, the
 proposals of process 0, 1, .., and the steps, `p*k` for k steps of process p; and what they commit and write. From these a proof
-that the rule is false of the changed machine is made, and that must be accepted. All of it runs in a copy of the repository.
+that the rule is false of the changed machine is made, and that must be accepted. An edit of a contract names a crate in place of the
+list, which must still be proved: the function meets the changed contract. All of it runs in a copy of the repository.
 """
 import os
 import re
@@ -80,12 +81,16 @@ def fault_of(path):
         if text.count(edit["old"]) != 1:
             return f"'{edit['old']}' stands {text.count(edit['old'])} times in {edit['file']}"
         target.write_text(text.replace(edit["old"], edit["new"]), encoding="utf-8")
+        if "proved" in edit and check(copy, edit["proved"]).returncode != 0:
+            return f"{edit['proved']} is not proved with it"
         run = check(copy, edit["check"])
         if run.returncode == 0:
             return "it was proved"
         seen = first_error(run.stdout + run.stderr)
         if seen != edit["refused"]:
             return f"refused first at {seen}, not at {edit['refused']}"
+        if "proved" in edit:
+            return None
         write_refutation(copy, edit)
         run = check(copy, "refuted")
         return None if run.returncode == 0 else f"its list of calls refutes nothing: {first_error(run.stdout + run.stderr)}"
@@ -98,7 +103,7 @@ def main():
         faults = list(pool.map(fault_of, edits))
     for path, fault in zip(edits, faults):
         failed += fault is not None
-        print(f"theorem edit {path.stem}: {'refused, and the rule refuted' if fault is None else 'FAILED: ' + fault}", flush=True)
+        print(f"theorem edit {path.stem}: {'refused as it must be' if fault is None else 'FAILED: ' + fault}", flush=True)
     print(f"theorem edits: {len(edits) - failed} refused, {failed} not")
     sys.exit(1 if failed or not edits else 0)
 
