@@ -8,3 +8,6 @@ pub mod Keeps
 pub mod Sounds
 pub mod Operations
 pub mod Answers
+pub mod Passes
+pub mod SoundTests
+pub mod SoundRecords
