@@ -11,3 +11,5 @@ pub mod Answers
 pub mod Passes
 pub mod SoundTests
 pub mod SoundRecords
+pub mod Listings
+pub mod ListedRounds
