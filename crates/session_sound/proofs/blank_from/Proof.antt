@@ -5,7 +5,7 @@ use mathlib.Core.Path.{_≡_, refl}
 use mathlib.Core.Bool.{Bool, false, not}
 use borrow.Author.Needs.{needs}
 use lib.Dec.{eqb}
-use Rattle.session_sound.proofs.Pass.{both, both-more, both-stop, both-ends}
+use Rattle.model_laws.specs.Passes.{both, both-more, both-stop, both-ends}
 use Rattle.session_sound.proofs.blank_from.Statement.{statement}
 use Rattle.session_sound.proofs.blank_from.Tie as tie
 

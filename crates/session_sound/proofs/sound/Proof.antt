@@ -8,9 +8,9 @@ use borrow.Author.Tests.{not-false}
 use lib.ListN.{length}
 use Rattle.model.specs.Board.{idle}
 use Rattle.model.specs.Sound.{soundProcess, sound}
-use Rattle.session_sound.proofs.Sized.{length-mapped}
-use Rattle.session_sound.proofs.Pass.{rest, more, stop, ends}
-use Rattle.session_sound.proofs.Clauses.{outside, few, processes-fail, rounds-fail, records-left}
+use Rattle.base.specs.Arrays.{length-mapped}
+use Rattle.model_laws.specs.Passes.{rest, more, stop, ends}
+use Rattle.model_laws.specs.SoundTests.{outside, few, processes-fail, rounds-fail, records-left}
 use Rattle.session_sound.proofs.sound.Statement.{statement}
 use Rattle.session_sound.proofs.sound.Tie as tie
 

@@ -7,7 +7,7 @@ use native.Mathlib.Nat.{le-antisymm}
 use native.Mathlib.Numerals.{add-one-le}
 use native.Mathlib.Omega.{arith}
 use lib.ListN.{length, getD, set, take, drop, length-set}
-use Rattle.session_values.specs.Rounds.{copy-more}
+use Rattle.model_laws.specs.ListedRounds.{copy-more}
 use Rattle.session_values.proofs.copy.Statement.{statement}
 use Rattle.session_values.proofs.copy.Tie as tie
 

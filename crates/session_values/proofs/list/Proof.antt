@@ -8,8 +8,8 @@ use native.Mathlib.Nat.{le-antisymm}
 use native.Mathlib.Omega.{arith}
 use lib.ListN.{length, getD, take, length-set}
 use Rattle.model.specs.ReadOut.{holds, ListsOnce}
-use Rattle.session_values.specs.Distinct.{none-once}
-use Rattle.session_values.specs.Rounds.{round-old, round-new, old-blank, old-earlier, not-earlier, not-old}
+use Rattle.model_laws.specs.Listings.{none-once}
+use Rattle.model_laws.specs.ListedRounds.{round-old, round-new, old-blank, old-earlier, not-earlier, not-old}
 use Rattle.session_values.proofs.list.Statement.{statement}
 use Rattle.session_values.proofs.list.Tie as tie
 
