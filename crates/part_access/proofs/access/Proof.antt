@@ -103,40 +103,6 @@ decided c =
 pub access-spec : {M : Type 1} → statement M
 access-spec =
     tie.close
-    (tie.spec
-    -- idle
-    (search needs)
-    -- waiting: told, gate_access
-    (search needs)
-    (search needs)
-    -- write, scan, adopt
-    (search needs)
-    (search needs)
-    (search needs)
-    -- compare, flag, check-mark, check-value: told, minus
-    (search needs)
-    (search needs)
-    (search needs)
-    (search needs)
-    (search needs)
-    (search needs)
-    (search needs)
-    (search needs)
-    -- commit, exhausted, crashed, decided
-    (search needs)
-    (search needs)
-    (search needs)
-    (search needs)
-    idle
-    waiting
-    write
-    scan
-    adopt
-    compare
-    flag
-    check-mark
-    check-value
-    commit
-    exhausted
-    crashed
-    decided)
+    (tie.spec (search needs) (search needs) (search needs) (search needs) (search needs) (search needs) (search needs) (search needs) (search needs)
+    (search needs) (search needs) (search needs) (search needs) (search needs) (search needs) (search needs) (search needs) (search needs) idle
+    waiting write scan adopt compare flag check-mark check-value commit exhausted crashed decided)

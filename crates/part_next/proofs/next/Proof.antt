@@ -109,61 +109,8 @@ decided c =
 pub next-spec : {M : Type 1} → statement M
 next-spec =
     tie.close
-    (tie.spec
-    -- idle: told, process
-    (search needs)
-    (search needs)
-    -- waiting: told, lead, process
-    (search needs)
-    (search needs)
-    (search needs)
-    -- write: told, process
-    (search needs)
-    (search needs)
-    -- scan: told, scan, process
-    (search needs)
-    (search needs)
-    (search needs)
-    -- adopt: told, adopted, process
-    (search needs)
-    (search needs)
-    (search needs)
-    -- compare: told, compare, process
-    (search needs)
-    (search needs)
-    (search needs)
-    -- flag: told, go_on, process
-    (search needs)
-    (search needs)
-    (search needs)
-    -- check-mark: told, check_mark, process
-    (search needs)
-    (search needs)
-    (search needs)
-    -- check-value: told, check_value, process
-    (search needs)
-    (search needs)
-    (search needs)
-    -- commit, exhausted, crashed, decided: told, process
-    (search needs)
-    (search needs)
-    (search needs)
-    (search needs)
-    (search needs)
-    (search needs)
-    (search needs)
-    (search needs)
-    idle
-    waiting-yes
-    waiting-no
-    write
-    scan
-    adopt
-    compare
-    flag
-    check-mark
-    check-value
-    commit
-    exhausted
-    crashed
-    decided)
+    (tie.spec (search needs) (search needs) (search needs) (search needs) (search needs) (search needs) (search needs) (search needs) (search needs)
+    (search needs) (search needs) (search needs) (search needs) (search needs) (search needs) (search needs) (search needs) (search needs)
+    (search needs) (search needs) (search needs) (search needs) (search needs) (search needs) (search needs) (search needs) (search needs)
+    (search needs) (search needs) (search needs) (search needs) (search needs) (search needs) idle waiting-yes waiting-no write scan adopt compare
+    flag check-mark check-value commit exhausted crashed decided)

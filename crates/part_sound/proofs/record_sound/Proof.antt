@@ -106,55 +106,7 @@ decided c =
 pub record-sound-spec : {M : Type 1} → statement M
 record-sound-spec =
     tie.close
-    (tie.spec
-    -- idle
-    (search needs)
-    -- waiting
-    (search needs)
-    (search needs)
-    -- write
-    (search needs)
-    (search needs)
-    -- scan
-    (search needs)
-    (search needs)
-    -- adopt
-    (search needs)
-    (search needs)
-    -- compare
-    (search needs)
-    (search needs)
-    -- flag
-    (search needs)
-    (search needs)
-    -- check-mark
-    (search needs)
-    (search needs)
-    -- check-value
-    (search needs)
-    (search needs)
-    -- commit
-    (search needs)
-    (search needs)
-    -- exhausted
-    (search needs)
-    (search needs)
-    -- crashed
-    (search needs)
-    (search needs)
-    -- decided
-    (search needs)
-    (search needs)
-    idle
-    waiting
-    write
-    scan
-    adopt
-    compare
-    flag
-    check-mark
-    check-value
-    commit
-    exhausted
-    crashed
-    decided)
+    (tie.spec (search needs) (search needs) (search needs) (search needs) (search needs) (search needs) (search needs) (search needs) (search needs)
+    (search needs) (search needs) (search needs) (search needs) (search needs) (search needs) (search needs) (search needs) (search needs)
+    (search needs) (search needs) (search needs) (search needs) (search needs) (search needs) (search needs) idle waiting write scan adopt compare
+    flag check-mark check-value commit exhausted crashed decided)

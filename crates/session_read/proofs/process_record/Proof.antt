@@ -65,12 +65,4 @@ index c =
 pub process-record-spec : {M : Type 1} → statement M
 process-record-spec =
     tie.close
-    (tie.spec
-    (search needs)
-    (search needs)
-    damaged
-    (search needs)
-    none
-    (λ c. omega (arith, index c))
-    (λ c. omega (arith, index c))
-    told)
+    (tie.spec (search needs) (search needs) damaged (search needs) none (λ c. omega (arith, index c)) (λ c. omega (arith, index c)) told)

@@ -59,9 +59,6 @@ returns-4 c =
 pub sound-spec : {M : Type 1} → statement M
 sound-spec =
     tie.close
-    (tie.spec Inv-loop μ-loop
-    (λ c. processes-fail _ (c .if1 .taken))
-    (λ c. omega (arith, few (c .before .args .t1) (not-false _ (c .if1 .left))))
-    (λ c κs. search needs) (λ c κs. search needs) returns-2 loop-holds
-    (λ c. omega arith) (λ c. omega arith) (λ c κs. search needs) returns-3 (λ c. omega arith) (λ c. omega arith)
-    loop-again returns-4)
+    (tie.spec Inv-loop μ-loop (λ c. processes-fail _ (c .if1 .taken)) (λ c. omega (arith, few (c .before .args .t1) (not-false _ (c .if1 .left))))
+    (λ c κs. search needs) (λ c κs. search needs) returns-2 loop-holds (λ c. omega arith) (λ c. omega arith) (λ c κs. search needs) returns-3
+    (λ c. omega arith) (λ c. omega arith) loop-again returns-4)

@@ -5,9 +5,6 @@ use borrow.Author.Needs.{needs}
 use Rattle.sheet_place.proofs.handed.Statement.{statement}
 use Rattle.sheet_place.proofs.handed.Tie as tie
 
-entry-at-requires : tie.Need-entry-at-requires
-entry-at-requires c κs = search needs
-
 returns : tie.Need-returns
 unfolding handed
 returns c = rw (le-leb 1 _ (c .before .if1 .taken), c .entry-at .ensures)
@@ -19,4 +16,4 @@ returns-2 c = rw (lt-leb 1 _ (c .if1 .left))
 pub handed-spec : {M : Type 1} → statement M
 handed-spec =
     tie.close
-    (tie.spec entry-at-requires returns returns-2)
+    (tie.spec (λ c κs. search needs) returns returns-2)

@@ -14,14 +14,5 @@ within c = omega (arith, simp length-append at (ap length (c .before .report .en
 pub main-spec : {M : Type 1} → statement M
 main-spec =
     tie.close
-    (tie.spec
-    (λ c κs. search needs)
-    (λ c. search needs)
-    (λ c κs. search needs)
-    (λ c. search needs)
-    (λ c. search needs)
-    (λ c κs. search needs)
-    within
-    (λ c. sym (length-take-le _ _ (within (c .before))))
-    (λ c κs. search needs)
-    (λ c. search needs))
+    (tie.spec (λ c κs. search needs) (λ c. search needs) (λ c κs. search needs) (λ c. search needs) (λ c. search needs) (λ c κs. search needs) within
+    (λ c. sym (length-take-le _ _ (within (c .before)))) (λ c κs. search needs) (λ c. search needs))

@@ -10,10 +10,4 @@ returns c = rw (← c .before .before .before .before .highest .ensures) (c .put
 pub put-board-spec : {M : Type 1} → statement M
 put-board-spec =
     tie.close
-    (tie.spec
-    (search needs)
-    (search needs)
-    (search needs)
-    (search needs)
-    (search needs)
-    returns)
+    (tie.spec (search needs) (search needs) (search needs) (search needs) (search needs) returns)

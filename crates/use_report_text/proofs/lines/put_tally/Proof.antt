@@ -10,11 +10,4 @@ returns c = c .put-line .ensures
 pub put-tally-spec : {M : Type 1} → statement M
 put-tally-spec =
     tie.close
-    (tie.spec
-    (search needs)
-    (search needs)
-    (search needs)
-    (search needs)
-    (search needs)
-    (search needs)
-    returns)
+    (tie.spec (search needs) (search needs) (search needs) (search needs) (search needs) (search needs) returns)
