@@ -22,87 +22,66 @@ answer s = let a = s .args in accessed (a .limit) (a .q) (a .leader)
 
 idle : tie.Need-returns
 unfolding accessAt
-idle c =
-    let t = c in
-    answer (t .before .before) (t .enum-told .given .1) refl
+idle c = answer (c .before .before) (c .enum-told .given .1) refl
 
 waiting : tie.Need-returns-2
 unfolding accessAt
-waiting c =
-    let t = c .before in
-    answer (t .before .before) (t .enum-told2 .given .1) (c .gate-access .ensures)
+waiting c = answer (c .before .before .before) (c .before .enum-told2 .given .1) (c .gate-access .ensures)
 
 write : tie.Need-returns-3
 unfolding accessAt
-write c =
-    let t = c in
-    answer (t .before .before) (t .enum-told3 .given .1) refl
+write c = answer (c .before .before) (c .enum-told3 .given .1) refl
 
 scan : tie.Need-returns-4
 unfolding accessAt
-scan c =
-    let t = c .before in
-    answer (t .before .before) (t .phase .given .1) refl
+scan c = answer (c .before .before .before) (c .before .phase .given .1) refl
 
 adopt : tie.Need-returns-5
 unfolding accessAt
-adopt c =
-    let t = c .before in
-    answer (t .before .before) (t .phase2 .given .1) refl
+adopt c = answer (c .before .before .before) (c .before .phase2 .given .1) refl
 
 compare : tie.Need-returns-6
 unfolding accessAt
-compare c =
-    let t = c .before .before in
-    answer (t .before .before) (t .phase3 .given .1) (ap ReadValue (c .minus .ensures))
+compare c = answer (c .before .before .before .before) (c .before .before .phase3 .given .1) (ap ReadValue (c .minus .ensures))
 
 flag : tie.Need-returns-7
 unfolding accessAt
-flag c =
-    let t = c .before .before in
-    answer (t .before .before) (t .phase4 .given .1) (ap SetMark (c .minus2 .ensures))
+flag c = answer (c .before .before .before .before) (c .before .before .phase4 .given .1) (ap SetMark (c .minus2 .ensures))
 
 check-mark : tie.Need-returns-8
 unfolding accessAt
-check-mark c =
-    let t = c .before .before in
-    answer (t .before .before) (t .phase5 .given .1) (ap ReadMark (c .minus3 .ensures))
+check-mark c = answer (c .before .before .before .before) (c .before .before .phase5 .given .1) (ap ReadMark (c .minus3 .ensures))
 
 check-value : tie.Need-returns-9
 unfolding accessAt
-check-value c =
-    let t = c .before .before in
-    answer (t .before .before) (t .phase6 .given .1) (ap ReadValue (c .minus4 .ensures))
+check-value c = answer (c .before .before .before .before) (c .before .before .phase6 .given .1) (ap ReadValue (c .minus4 .ensures))
 
 commit : tie.Need-returns-10
 unfolding accessAt
-commit c =
-    let t = c in
-    answer (t .before .before) (t .enum-told4 .given .1) refl
+commit c = answer (c .before .before) (c .enum-told4 .given .1) refl
 
 exhausted : tie.Need-returns-11
 unfolding accessAt
-exhausted c =
-    let t = c in
-    answer (t .before .before) (t .enum-told5 .given .1) refl
+exhausted c = answer (c .before .before) (c .enum-told5 .given .1) refl
 
 crashed : tie.Need-returns-12
 unfolding accessAt
-crashed c =
-    let t = c in
-    answer (t .before .before) (t .enum-told6 .given .1) refl
+crashed c = answer (c .before .before) (c .enum-told6 .given .1) refl
 
 decided : tie.Need-returns-13
 unfolding accessAt
-decided c =
-    let t = c in
-    answer (t .before .before) (t .enum-told7 .given .1) refl
+decided c = answer (c .before .before) (c .enum-told7 .given .1) refl
 
 -- ---- in the order of the code: of each arm what it is told of the phase and what its callee asks, then the answers
 
 pub access-spec : {M : Type 1} → statement M
 access-spec =
     tie.close
-    (tie.spec (search needs) (search needs) (search needs) (search needs) (search needs) (search needs) (search needs) (search needs) (search needs)
-    (search needs) (search needs) (search needs) (search needs) (search needs) (search needs) (search needs) (search needs) (search needs) idle
-    waiting write scan adopt compare flag check-mark check-value commit exhausted crashed decided)
+    (tie.spec
+    (search needs)  -- idle
+    (search needs) (search needs)  -- waiting: told, gate_access
+    (search needs) (search needs) (search needs)  -- write, scan, adopt
+    (search needs) (search needs) (search needs) (search needs) (search needs) (search needs) (search needs) (search needs)  -- compare, flag, check-mark, check-value: told, minus
+    (search needs) (search needs) (search needs) (search needs)  -- commit, exhausted, crashed, decided
+    idle waiting write scan adopt compare flag
+    check-mark check-value commit exhausted crashed decided)

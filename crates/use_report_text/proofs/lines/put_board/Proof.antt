@@ -8,6 +8,4 @@ returns c = rw (← c .before .before .before .before .highest .ensures) (c .put
 
 -- In the order of the code: the highest round, the words, the decision, the numbers, the call.
 pub put-board-spec : {M : Type 1} → statement M
-put-board-spec =
-    tie.close
-    (tie.spec (search needs) (search needs) (search needs) (search needs) (search needs) returns)
+put-board-spec = tie.close (tie.spec (search needs) (search needs) (search needs) (search needs) (search needs) returns)
