@@ -1,11 +1,12 @@
-// The C entry (01, "Turn sheets", last paragraph): a sheet, a budget and a buffer of exactly 256 bytes. include/janus.h
-// declares it.
+// The functions for callers in C, which include/janus.h declares: the runner (01, "Turn sheets", last paragraph) with a sheet, a
+// budget and a buffer of exactly 256 bytes, and the board report.
 ghost use mathlib.Core.Path.{_≡_};
 ghost use lib.ListN.{length};
 ghost use Rattle.model.specs.Export.{decidedBytes, exportCode, exportBuffer};
 use model::Ending;
 use model::Phase;
 use model::Session;
+pub use janus_report::janus_report;
 
 // The bytes of the decided values, four to a process, for all 64; 0 where there is none.
 fn put_decided(s: Session, buffer: &mut [u8])
