@@ -3,10 +3,10 @@
 ghost use mathlib.Core.Path.{_≡_};
 ghost use lib.ListN.{length};
 ghost use Rattle.model.specs.Export.{decidedBytes, exportCode, exportBuffer};
+ghost use Rattle.model_report.specs.ReportExport.{reportCode, reportBuffer};
 use model::Ending;
 use model::Phase;
 use model::Session;
-pub use janus_report::janus_report;
 
 // The bytes of the decided values, four to a process, for all 64; 0 where there is none.
 fn put_decided(s: Session, buffer: &mut [u8])
@@ -46,4 +46,14 @@ pub extern "C" fn janus_run(sheet: &[u8], budget: usize, buffer: &mut [u8]) -> u
     };
     put_decided(ran.session, buffer);
     code
+}
+
+// Runs a sheet and writes the board report's text to the buffer, from its first byte on: the text's size, which is 16 or more; or 15 and
+// nothing changed, where the buffer is shorter than the text.
+#[no_mangle]
+pub extern "C" fn janus_report(sheet: &[u8], buffer: &mut [u8]) -> usize
+    ensures code { λ r. ⌜ r ≡ reportCode (now (sheet .entry)) (now (buffer .entry)) ⌝ }
+    ensures writes { λ _. ⌜ now (buffer .exit) ≡ reportBuffer (now (sheet .entry)) (now (buffer .entry)) ⌝ }
+{
+    janus_report::put_report(sheet, buffer)
 }

@@ -1,4 +1,4 @@
-// The board report for callers in C (01, "The board report"). include/janus.h declares it.
+// The board report (01, "The board report"), written to a lent buffer.
 ghost use mathlib.Core.Path.{_≡_};
 ghost use Prim.Native.Nat.{_≤_};
 ghost use lib.ListN.{length, take, drop};
@@ -20,8 +20,7 @@ fn copy(from: &[u8], n: usize, buffer: &mut [u8])
 
 // Runs a sheet and writes the report's text to the lent buffer, from its first byte on; answers the text's size. 15 and nothing
 // changed where the buffer is shorter than the text.
-#[no_mangle]
-pub extern "C" fn janus_report(sheet: &[u8], buffer: &mut [u8]) -> usize
+pub fn put_report(sheet: &[u8], buffer: &mut [u8]) -> usize
     ensures code { λ r. ⌜ r ≡ reportCode (now (sheet .entry)) (now (buffer .entry)) ⌝ }
     ensures writes { λ _. ⌜ now (buffer .exit) ≡ reportBuffer (now (sheet .entry)) (now (buffer .entry)) ⌝ }
 {

@@ -1,9 +1,9 @@
--- `janus_report::janus_report` meets its contract: by whether the buffer is shorter than the text. Assumes nothing.
+-- `janus_report::put_report` meets its contract: by whether the buffer is shorter than the text. Assumes nothing.
 use mathlib.Core.Path.{_∙_}
 use Rattle.janus_report.specs.Written.{too-short, written}
 use borrow.Author.Needs.{needs}
-use Rattle.janus_report.proofs.janus_report.Statement.{statement}
-use Rattle.janus_report.proofs.janus_report.Tie as tie
+use Rattle.janus_report.proofs.put_report.Statement.{statement}
+use Rattle.janus_report.proofs.put_report.Tie as tie
 
 report-requires : tie.Need-report-requires
 report-requires c κs = search needs
@@ -27,7 +27,7 @@ copy-requires c κs = search needs
 same-length : tie.Need-same-length
 same-length c = search needs
 
-pub janus-report-spec : {M : Type 1} → statement M
-janus-report-spec =
+pub put-report-spec : {M : Type 1} → statement M
+put-report-spec =
     tie.close
     (tie.spec report-requires returns copy-requires same-length returns-2)
