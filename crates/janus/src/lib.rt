@@ -1,8 +1,9 @@
-// The C entry (01, "Turn sheets", last paragraph): a sheet, a budget and a buffer of exactly 256 bytes. include/janus.h
-// declares it.
+// The functions for callers in C, which include/janus.h declares: the runner (01, "Turn sheets", last paragraph) with a sheet, a
+// budget and a buffer of exactly 256 bytes, and the board report.
 ghost use mathlib.Core.Path.{_≡_};
 ghost use lib.ListN.{length};
 ghost use Rattle.model.specs.Export.{decidedBytes, exportCode, exportBuffer};
+ghost use Rattle.model_report.specs.ReportExport.{reportCode, reportBuffer};
 use model::Ending;
 use model::Phase;
 use model::Session;
@@ -45,4 +46,14 @@ pub extern "C" fn janus_run(sheet: &[u8], budget: usize, buffer: &mut [u8]) -> u
     };
     put_decided(ran.session, buffer);
     code
+}
+
+// Runs a sheet and writes the board report's text to the buffer, from its first byte on: the text's size, which is 16 or more; or 15 and
+// nothing changed, where the buffer is shorter than the text.
+#[no_mangle]
+pub extern "C" fn janus_report(sheet: &[u8], buffer: &mut [u8]) -> usize
+    ensures code { λ r. ⌜ r ≡ reportCode (now (sheet .entry)) (now (buffer .entry)) ⌝ }
+    ensures writes { λ _. ⌜ now (buffer .exit) ≡ reportBuffer (now (sheet .entry)) (now (buffer .entry)) ⌝ }
+{
+    janus_report::put_report(sheet, buffer)
 }

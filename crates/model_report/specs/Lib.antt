@@ -1,2 +1,3 @@
 -- The definition of the board report.
 pub mod Report
+pub mod ReportExport

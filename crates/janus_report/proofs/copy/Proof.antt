@@ -1,0 +1,64 @@
+-- `janus_report::copy` meets its contract. The loop's invariant: i bytes are copied, and the rest is as it was. Assumes nothing.
+use Prim.Native.Nat.{_-_, _≤_}
+use native.Mathlib.Omega.{arith}
+use mathlib.Core.Path.{_≡_, refl, _∙_}
+use mathlib.Core.List.{_++_}
+use lib.ListN.{length, take, drop, length-set}
+use denote.Ref.{now}
+use Rattle.janus_report.specs.Copied.{copied-more}
+use borrow.Author.Needs.{needs}
+use Rattle.janus_report.proofs.copy.Statement.{statement}
+use Rattle.janus_report.proofs.copy.Tie as tie
+
+abbrev Inv-loop : tie.InvT-loop
+Inv-loop from n buffer₀ i₀ buffer i =
+    (i ≤ n)
+    × (n ≤ length from)
+    × (n ≤ length buffer₀)
+    × (length buffer ≡ length buffer₀)
+    × (buffer ≡ take i from ++ drop i buffer₀)
+
+abbrev μ-loop : tie.MeasureT-loop
+μ-loop from n buffer₀ i₀ buffer i = n - i
+
+loop-holds : tie.Need-loop-holds Inv-loop μ-loop
+loop-holds c = (omega arith, c .pre .0, c .pre .1, refl, refl)
+
+shared-slice-read-buffer : tie.Need-shared-slice-read-buffer Inv-loop μ-loop
+shared-slice-read-buffer c = search needs
+
+slice-write-buffer : tie.Need-slice-write-buffer Inv-loop μ-loop
+slice-write-buffer c = search needs
+
+add-i : tie.Need-add-i Inv-loop μ-loop
+add-i c = search needs
+
+loop-less : tie.Need-loop-less Inv-loop μ-loop
+loop-less c = search needs
+
+loop-again : tie.Need-loop-again Inv-loop μ-loop
+loop-again c =
+    let l = c .before .before in
+    let a = l .before .args in
+    let inv = l .loop .inv in (
+      omega arith,
+      inv .1,
+      inv .2,
+      simp length-set (inv .3),
+      rw (inv .4) (copied-more (now (a .from)) (now (a .buffer)) (l .loop .i) (omega arith) (omega arith)),
+    )
+
+same-length : tie.Need-same-length Inv-loop μ-loop
+same-length c = search needs
+
+returns : tie.Need-returns Inv-loop μ-loop
+returns c =
+    let inv = c .before .loop .inv in
+    let e : c .before .loop .i ≡ c .before .before .args .n = omega arith in
+    inv .4 ∙ rw e
+
+pub copy-spec : {M : Type 1} → statement M
+copy-spec =
+    tie.close
+    (tie.spec Inv-loop μ-loop loop-holds shared-slice-read-buffer slice-write-buffer add-i loop-less
+    loop-again same-length returns)

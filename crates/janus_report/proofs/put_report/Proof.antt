@@ -1,0 +1,33 @@
+-- `janus_report::put_report` meets its contract: by whether the buffer is shorter than the text. Assumes nothing.
+use mathlib.Core.Path.{_∙_}
+use Rattle.janus_report.specs.Written.{too-short, written}
+use borrow.Author.Needs.{needs}
+use Rattle.janus_report.proofs.put_report.Statement.{statement}
+use Rattle.janus_report.proofs.put_report.Tie as tie
+
+report-requires : tie.Need-report-requires
+report-requires c κs = search needs
+
+returns : tie.Need-returns
+returns c =
+    let t = c .before in
+    too-short _ _ (t .report .ensures .0 .0) (c .if1 .taken)
+
+returns-2 : tie.Need-returns-2
+returns-2 c =
+    let done = c .before .before in
+    let e = done .before .before .before .before .before in
+    let t = e .before .report .ensures in
+    let w = written _ _ (t .0 .0) _ (t .1) (e .if1 .left) in
+    (w .0, done .copy .ensures ∙ w .1)
+
+copy-requires : tie.Need-copy-requires
+copy-requires c κs = search needs
+
+same-length : tie.Need-same-length
+same-length c = search needs
+
+pub put-report-spec : {M : Type 1} → statement M
+put-report-spec =
+    tie.close
+    (tie.spec report-requires returns copy-requires same-length returns-2)

@@ -1,0 +1,20 @@
+-- The board report for callers in C: what they get for a sheet and a buffer. "15: lent buffer of wrong length, buffer unchanged" (document 01,
+-- "Numbers returned"): here one that is shorter than the text.
+use Prim.Native.Nat.{ℕ}
+use mathlib.Core.Bool.{Bool, cond}
+use mathlib.Core.List.{List, _++_}
+use lib.ListN.{length, drop}
+use lib.Dec.{leb}
+use Rattle.model_report.specs.Report.{report}
+
+-- Whether the text fits.
+abbrev pub fits : (text buffer : List ℕ) → Bool
+fits t b = leb (length t) (length b)
+
+-- The text's size, or 15.
+unfoldable pub reportCode : (sheet buffer : List ℕ) → ℕ
+reportCode s b = cond (fits (report s) b) (length (report s)) 15
+
+-- The text from the first byte on, and the other bytes as they were.
+unfoldable pub reportBuffer : (sheet buffer : List ℕ) → List ℕ
+reportBuffer s b = cond (fits (report s) b) (report s ++ drop (length (report s)) b) b
