@@ -19,7 +19,7 @@ use base.Fml.{Fml, ftrue, fsep, fat, froom, fdies}
 use prog.Wp.{Heap, Env, Spot, spotOf, noLocal}
 use ghost.Atoms.{Atoms, sem}
 use contract.Lifetimes.{Lfts}
-use types.Kit.{Given, Goal, Item, Seq, Step, step, ‵, raw, mean, ⋆, nth, del, pull, unpull, _$_, _∵_, !, qed, move, use0, use1, drop, fsplit, fjoin, allocs, passes, frees, done}
+use types.Kit.{Given, Goal, Item, Seq, Step, step, ‵, raw, mean, ⋆, nth, del, pull, unpull, _$_, _∵_, !, qed, move, use1, drop, fsplit, fjoin, allocs, passes, frees, done}
 use types.Run.{Reads, Walks as Steps, Finds, Opds, look, init, forget, stop, from, load, and-then, alloc1, pass1, free1}
 use denote.Exit.{Exit, unchanged, Kept, yes, Last, left}
 use denote.RattleType.{RattleType, Denots, flat, owns}
@@ -30,7 +30,7 @@ use denote.Steps.{owned, nothing}
 use denote.Struct.Struct.{Plains, layout}
 use denote.Struct.Declared.{Declared, fields, shape, row as row-of}
 use denote.Struct.Laws as LL
-use denote.Triple.End.{Kepts, all, Fins}
+use denote.Triple.End.{all, Fins, lastsOf}
 use denote.Triple.Walked.{Stay, Stays, stay-dropped, fitsOf, hasOf, Goes, AllGo, goes-dropped}
 
 pub record Value : Type 2 where
@@ -62,10 +62,10 @@ abbrev pub truth : Value
 truth = record { row = Boolean; ty = tyBool; one = refl; val = vbool; tells = bool-tells; lawful = bool-lawful; makes = bool-makes; still = λ k. refl }
 
 -- nothing is bound of it at exit, and nothing is said
-abbrev unbound : (P : Value) (x : P .row .Denot) → Last (P .row .exit yes) x
+abbrev pub unbound : (P : Value) (x : P .row .Denot) → Last (P .row .exit yes) x
 unbound P x = subst (λ (e : Exit (P .row .Denot)). Last e x) (sym (P .still yes)) tt
 
-unsaid : (P : Value) (x : P .row .Denot) (w : Last (P .row .exit yes) x) → left (P .row .exit yes) x w ≡ ftrue
+pub unsaid : (P : Value) (x : P .row .Denot) (w : Last (P .row .exit yes) x) → left (P .row .exit yes) x w ≡ ftrue
 unsaid P x = subst (λ (e : Exit (P .row .Denot)). (w : Last e x) → left e x w ≡ ftrue) (sym (P .still yes)) (λ w. refl)
 
 abbrev pub slots : {n : ℕ} → List Value → Slot n → List (Slot n)
@@ -134,11 +134,26 @@ module _ {M : Type 1} (𝓤 : URA M) (H : Heap 𝓤) (A : Atoms 𝓤) (W : Given
   handed [] a = fst∗ 𝓤 _ (emp 𝓤)
   handed (P ∷ Ps) a = via 𝓤 (sem 𝓤 H A (Owns κs s sp Ps (a .1))) (snd∗ 𝓤 (sem 𝓤 H A (P .row .own (a .0) (P .val (a .0) ∷ []))) _) (handed Ps (a .1))
 
-  pub asked : {m : ℕ} (κs′ : Lfts m) (s′ : Slot m) (sp′ : s′ .row κs′ .Denot → List Val) (y : s′ .row κs′ .Denot) → ent 𝓤 (emp 𝓤) (sem 𝓤 H A (s′ .row κs′ .own y (sp′ y)))
-      → (Ps : List Value) (a : Args κs s Ps) → Ares κs s sp Ps a → ent 𝓤 (emp 𝓤) (sem 𝓤 H A (Owns κs′ s′ sp′ Ps (with-last κs s κs′ s′ Ps a y)))
-  asked κs′ s′ sp′ y own [] a are = qed W [] ∵ nothing ! $ use0 W (‵ (s′ .row κs′ .own y (sp′ y))) own $ fjoin ! $ done !
-  asked κs′ s′ sp′ y own (P ∷ Ps) a are = qed W [] ∵ use0 W (‵ (Owns κs′ s′ sp′ Ps (with-last κs s κs′ s′ Ps (a .1) y))) (asked κs′ s′ sp′ y own Ps (a .1) (are .1)) $
+  pub asked : {m : ℕ} (κs′ : Lfts m) (s′ : Slot m) (sp′ : s′ .row κs′ .Denot → List Val) (y : s′ .row κs′ .Denot) (F : SProp 𝓤) → ent 𝓤 F (sem 𝓤 H A (s′ .row κs′ .own y (sp′ y)))
+      → (Ps : List Value) (a : Args κs s Ps) → Ares κs s sp Ps a → ent 𝓤 F (sem 𝓤 H A (Owns κs′ s′ sp′ Ps (with-last κs s κs′ s′ Ps a y)))
+  asked κs′ s′ sp′ y F own [] a are = qed W (raw F ∷ []) ∵ use1 W (‵ (s′ .row κs′ .own y (sp′ y))) own $ nothing ! $ move ! (1 ∷ 0 ∷ []) $ fjoin ! $ done !
+  asked κs′ s′ sp′ y F own (P ∷ Ps) a are = qed W (raw F ∷ []) ∵ use1 W (‵ (Owns κs′ s′ sp′ Ps (with-last κs s κs′ s′ Ps (a .1) y))) (asked κs′ s′ sp′ y F own Ps (a .1) (are .1)) $
       owned ! (P .row) (Is (P .row)) (P .makes 𝓤 H A W) (a .0) (P .val (a .0) ∷ []) (are .0) $ fjoin ! $ done !
+
+  -- what is known of the last one, and what is said of it at exit
+  pub last-is : (Ps : List Value) (a : Args κs s Ps) → Ares κs s sp Ps a → Is (s .row κs) (last κs s Ps a) (sp (last κs s Ps a))
+  last-is [] a are = are .0
+  last-is (P ∷ Ps) a are = last-is Ps (a .1) (are .1)
+
+  module _ {m : ℕ} (κs′ : Lfts m) (s′ : Slot m) (y : s′ .row κs′ .Denot) where
+    abbrev pub last-end : (Ps : List Value) (a : Args κs s Ps) → Fins κs′ (slots Ps s′) (all yes (slots Ps s′)) (with-last κs s κs′ s′ Ps a y) → Last (s′ .row κs′ .exit yes) y
+    last-end [] a ws = ws .0
+    last-end (P ∷ Ps) a ws = last-end Ps (a .1) (ws .1)
+
+    pub last-said : (Ps : List Value) (a : Args κs s Ps) (ws : Fins κs′ (slots Ps s′) (all yes (slots Ps s′)) (with-last κs s κs′ s′ Ps a y))
+        → ent 𝓤 (sem 𝓤 H A (lastsOf κs′ (slots Ps s′) (all yes (slots Ps s′)) (with-last κs s κs′ s′ Ps a y) ws)) (sem 𝓤 H A (left (s′ .row κs′ .exit yes) y (last-end Ps a ws)))
+    last-said [] a ws = fst∗ 𝓤 _ (emp 𝓤)
+    last-said (P ∷ Ps) a ws = via 𝓤 _ (snd∗ 𝓤 (sem 𝓤 H A (left (P .row .exit yes) (a .0) (ws .0))) _) (last-said Ps (a .1) (ws .1))
 
 -- ---- their locals
 abbrev pub Blocks : List Value → Type 0

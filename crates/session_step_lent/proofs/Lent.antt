@@ -51,7 +51,7 @@ use denote.Triple.Walked.{Stay, Stays, hasOf, stay-ref, goes-ref, Walks, walkOf,
 use Rattle.session_step_lent.proofs.ByValue.{Value, slots, Args, last, spells, tellss, vals, Ares, Owns, with-last, stayed, goes, lasts, fits, has, handed, asked, Blocks, locals, Rooms, Cells, after, copies, frame-of, beyond, at, allocates, passes-all, loads-at, frees-all}
 
 -- the machine values of a struct's fields, and that field k of a struct has a place in it, for each k of a list
-abbrev parts : (S : Declared) → LL.Laws S → S .D → Vals
+abbrev pub parts : (S : Declared) → LL.Laws S → S .D → Vals
 parts S laws x = ofList (flat (fields S) (valss (fields S) (LL.spells (S .parts) laws) (S .to x)))
 
 -- what is known of the fields of a struct that is held
@@ -93,7 +93,7 @@ fields-of i [] = []
 fields-of i (k ∷ ks) = copy (place i (field k ∷ [])) ∷ fields-of i ks
 
 module _ {M : Type 1} {𝓤 : URA M} {H : Heap 𝓤} {A : Atoms 𝓤} {K : Type 0} {W : Given 𝓤 H A} {Γ : List (Item 𝓤)} {E : Env 𝓤 H} (S : Declared) (laws : LL.Laws S) (x : S .D) (i : ℕ) {b : ℕ} (n : ℕ) where
-  reads : K → spotOf 𝓤 H E i ≡ (layout (shape S), b, zero) → nth 𝓤 H A n Γ ≡ ‵ (fat fullShare (layout (shape S)) b zero (LL.val S laws x))
+  pub reads : K → spotOf 𝓤 H E i ≡ (layout (shape S), b, zero) → nth 𝓤 H A n Γ ≡ ‵ (fat fullShare (layout (shape S)) b zero (LL.val S laws x))
       → (k : ℕ) {τ : Ty} {d : ℕ} → fieldAt zero (toTys (mirs (fields S))) k ≡ some (τ, d) → Opd K W Γ E (copy (place i (field k ∷ []))) (getV (parts S laws x) k)
   reads t spot is k {τ} {d} placed = load t (at t spot (fld t placed (stop t))) (look-in t n (sub t k placed (subst (λ (j : Item 𝓤). Part K W j fullShare (layout (shape S)) b zero (LL.val S laws x) (λ u. ‵ (fat fullShare (layout (shape S)) b zero u))) (sym is) (whole t))))
 
@@ -102,8 +102,15 @@ module _ {M : Type 1} {𝓤 : URA M} {H : Heap 𝓤} {A : Atoms 𝓤} {K : Type 
   reads-all t spot is [] ps = no-more t
   reads-all t spot is (k ∷ ks) ps = and-then t (reads t spot is k (ps .0 .1)) (reads-all t spot is ks (ps .1))
 
+-- a call has returned the value v of x: v is written out
+pub value-of : {M : Type 1} {𝓤 : URA M} {H : Heap 𝓤} {A : Atoms 𝓤} {K : Type 0} {W : Given 𝓤 H A} {Γ : List (Item 𝓤)} → K → {C : Calls 𝓤 H} {Λ : Loops 𝓤 H} {E : Env 𝓤 H} {d : Place} {rest : Code} {q : Post 𝓤 H} (S : Declared) (laws : LL.Laws S) (x : S .D) (v : Val)
+    → (Is (row S) x (LL.vals S laws x) → Seq K W Γ (lands C Λ E d (LL.val S laws x) rest q)) → Seq K W (‵ (row S .own x (v ∷ [])) ∷ Γ) (lands C Λ E d v rest q)
+value-of {𝓤 = 𝓤} {H = H} {A = A} {K = K} {W = W} {Γ = Γ} t {C} {Λ} {E} {d} {rest} {q} S laws x v k = facts t (row S) (Is (row S)) (shows 𝓤 H A (row S)) x (v ∷ []) (λ is.
+    let same : v ∷ [] ≡ LL.vals S laws x = LL.tells S laws x (v ∷ []) is in
+    subst (λ (u : Val). Seq K W Γ (lands C Λ E d u rest q)) (sym (ap only same)) (k (subst (λ (vs : List Val). Is (row S) x vs) same is)))
+
 module _ (T : Lending) where
-  abbrev lent : T .L .D → List Val
+  abbrev pub lent : T .L .D → List Val
   lent = LL.vals (T .L) (T .L-laws)
 
   abbrev given-back : T .R .D → Val
@@ -177,16 +184,13 @@ module _ (T : Lending) where
     closed t z c d b o is = step (λ s. owned t (row (T .L)) (Is (row (T .L))) (LL.makes (T .L) (T .L-pure) 𝓤 H A) d (lent d) is $ move t (1 ∷ 0 ∷ []) $ closes t z (row (T .L)) d (lent d) b o $ s)
 
   module _ {M : Type 1} {𝓤 : URA M} {H : Heap 𝓤} {A : Atoms 𝓤} {K : Type 0} {W : Given 𝓤 H A} {Γ : List (Item 𝓤)} where
-    -- g has returned v, and says of its answer that it is `found`: v is the machine value of `found`. Q is what g says of its answer and of its parameters at exit
+    -- g has returned v, and says of its answer that it is `found`. Q is what g says of its answer and of its parameters at exit
     answered : K → {C : Calls 𝓤 H} {Λ : Loops 𝓤 H} {E : Env 𝓤 H} {d : Place} {rest : Code} {q : Post 𝓤 H} (Q : T .N .D → SProp 𝓤) (found : T .N .D) → ((x : T .N .D) → ent 𝓤 (Q x) (fact 𝓤 (x ≡ found))) → (v : Val)
         → (Is (row (T .N)) found (LL.vals (T .N) (T .N-laws) found) → Seq K W Γ (lands C Λ E d (LL.val (T .N) (T .N-laws) found) rest q))
         → Seq K W (raw (H .⇛ (ex 𝓤 (λ (x : T .N .D). sep 𝓤 (sep 𝓤 (emp 𝓤) (sem 𝓤 H A (row (T .N) .own x (v ∷ [])))) (Q x)))) ∷ Γ) (lands C Λ E d v rest q)
     answered t {C} {Λ} {E} {d} {rest} {q} Q found tells v k =
-        use1 W (later (someone (λ (x : T .N .D). (‵ ftrue ⊛ ‵ (row (T .N) .own x (v ∷ []))) ⊛ raw (Q x)))) (id⊢ 𝓤 _) $ await t tt $
-        pick t (λ x. split t $ move t (1 ∷ []) $ use1 W (raw (fact 𝓤 (x ≡ found))) (tells x) $ heard t (x ≡ found) (λ e. split t $ drop t $ facts t (row (T .N)) (Is (row (T .N))) (shows 𝓤 H A (row (T .N))) x (v ∷ []) (λ is.
-        let was : Is (row (T .N)) found (v ∷ []) = subst (λ (y : T .N .D). Is (row (T .N)) y (v ∷ [])) e is in
-        let same : v ∷ [] ≡ LL.vals (T .N) (T .N-laws) found = LL.tells (T .N) (T .N-laws) found (v ∷ []) was in
-        subst (λ (u : Val). Seq K W Γ (lands C Λ E d u rest q)) (sym (ap only same)) (k (subst (λ (vs : List Val). Is (row (T .N)) found vs) same was)))))
+        use1 W (later (someone (λ (x : T .N .D). (‵ ftrue ⊛ ‵ (row (T .N) .own x (v ∷ []))) ⊛ raw (Q x)))) (id⊢ 𝓤 _) $ await t tt $ pick t (λ x. split t $ move t (1 ∷ []) $ use1 W (raw (fact 𝓤 (x ≡ found))) (tells x) $ heard t (x ≡ found) (λ e. split t $ drop t $
+        subst (λ (z : T .N .D). Seq K W (‵ (row (T .N) .own z (v ∷ [])) ∷ Γ) (lands C Λ E d v rest q)) (sym e) (value-of t (T .N) (T .N-laws) found v k)))
 
   module _ {M : Type 1} (𝓤 : URA M) (H : Heap 𝓤) (A : Atoms 𝓤) (W : Given 𝓤 H A) (Ps : List Value) (c : Clauses 𝓤 (ended Ps)) (cc : Clauses 𝓤 (called Ps)) (answer : Args tt bare Ps → T .N .D) where
     abbrev callee : Contract 𝓤
@@ -246,7 +250,7 @@ module _ (T : Lending) where
         pre : Is (row (T .L)) (x .now) (lent (x .now)) → ent 𝓤 (emp 𝓤) (callee .pre to)
         pre is =
             let mine : ent 𝓤 (emp 𝓤) (sem 𝓤 H A (row (T .L) .own (x .now) (lent (x .now)))) = LL.makes (T .L) (T .L-pure) 𝓤 H A (x .now) (lent (x .now)) is in
-            qed W [] ∵ use0 W (raw (cc tt e .requires (ghost e))) (asks e) $ use0 W (‵ (Owns tt bare lent Ps e)) (asked 𝓤 H A W κs reference ptr-vals tt bare lent (x .now) mine Ps a are) $ nothing ! $ join ! $ done !
+            qed W [] ∵ use0 W (raw (cc tt e .requires (ghost e))) (asks e) $ use0 W (‵ (Owns tt bare lent Ps e)) (asked 𝓤 H A W κs reference ptr-vals tt bare lent (x .now) (emp 𝓤) mine Ps a are) $ nothing ! $ join ! $ done !
 
         heard-of : (z : T .N .D) → ent 𝓤 (ensured 𝓤 H A (called Ps) cc tt e (ghost e) z) (fact 𝓤 (z ≡ found κs a))
         heard-of z = exE 𝓤 _ (λ ws. via 𝓤 _ (snd∗ 𝓤 (sem 𝓤 H A (lastsOf tt (slots Ps bare) (all yes (slots Ps bare)) e ws)) _) (says e z (atExit (called Ps) tt e ws)))
