@@ -7,11 +7,10 @@ use mathlib.Core.Bool.{Bool, true, false, cond, _||_, true≢false}
 use mathlib.Core.List.{List, _∷_}
 use lib.ListN.{length}
 use lib.Dec.{leb}
-use borrow.Author.Tests.{ne-eqb, not-false, leb-true, leb-false}
+use borrow.Author.Tests.{ne-eqb, leb-true, leb-false}
 use Rattle.model.specs.declared.Access.{Access}
 use Rattle.model.specs.declared.Session.{Session}
 use Rattle.model.specs.declared.Counts.{Counts}
-use Rattle.model.specs.declared.Limits.{Limits}
 use Rattle.model.specs.declared.Operation.{Operation}
 use Rattle.model.specs.declared.Ending.the-variants.{Finished, Refused, BudgetEnded, Rejected}
 use Rattle.model.specs.declared.Ran.{Ran}
@@ -23,7 +22,6 @@ use Rattle.model.specs.Machine.{accessOf, after, countsAfter, answered, perform
 use Rattle.model.specs.Sound.{soundAt}
 use Rattle.model.specs.Runner.{ran, runBy, runFrom, runWithin, run}
 use Rattle.model.specs.Sheet.{processCount, roundLimit, entries, sheetTests, sheetRefusal}
-use Rattle.base.specs.Bools.{and-left}
 use Rattle.model_laws.specs.Accepted.{none-holds, Accepted, accepted}
 use Rattle.model_laws.specs.Answers.{accepted-counts}
 use Rattle.model_laws.specs.Operations.{opened-sound, open-accepted, after-sound}

@@ -5,7 +5,7 @@ use mathlib.Core.Bool.{Bool, true, false, not, _&&_}
 use native.Mathlib.Omega.{arith}
 use lib.Dec.{leb}
 use borrow.Author.Needs.{needs}
-use borrow.Author.Tests.{leb-true, not-true, not-false}
+use borrow.Author.Tests.{leb-true, not-false}
 use Rattle.base.specs.Bools.{and-left, and-right}
 use Rattle.model.specs.declared.Session.{Session}
 use Rattle.model.specs.declared.RegisterAnswer.{RegisterAnswer}

@@ -1,5 +1,4 @@
 -- `sheet_run::run` meets its contract: an accepted sheet opens a sound session. Assumes nothing.
-use Prim.Native.Nat.{ℕ}
 use mathlib.Core.Path.{_≡_, sym, _∙_, ap, ap₂}
 use borrow.Author.Needs.{needs}
 use Rattle.model.specs.Window.{window}
