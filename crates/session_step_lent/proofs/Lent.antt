@@ -1,7 +1,7 @@
 -- The walk of a function that lends on: `f(x, .., lent: &mut L) -> R { let answer = g(x, .., *lent); *lent = answer.held; R { .. answer .. } }`, over any number of parameters before the reference,
 -- any plain struct L that is lent, any answer N of the function g that takes it by value, and any result R that is made of the answer's other fields.
---     Lending         the three structs, and which fields of the answer are L and which make R, in order
---     ended, called    the signatures of f and of g.        code      f's MIR
+--     Lending      the three structs, and which fields of the answer are L and which make R, in order
+--     ended, called        the signatures of f and of g.        code      f's MIR
 --     lends        f meets its contract, where g meets its own and that says which answer it gives
 -- `lends` assumes nothing; the rest assumes `Given`.
 use mathlib.Core.Path.{_≡_, refl, sym, ap, subst}
@@ -14,26 +14,25 @@ use mir.Syntax.{named, mut, tyRef, Ty, Name, Fn, place, copy, field, deref, rvOp
 use mir.Val.{Val, Vals, vptr, vstruct, ofList}
 use mir.Fields.{getV}
 use base.Logic.{SProp, ent, sep, ex, emp, via, id⊢, fst∗, snd∗, exE}
-use base.Fml.{GName, Lft, Share, Fml, ftrue, fsep, flft, fobs, fauth, fbor, fobor, fat, fdies, froom}
-use prog.Memory.{Memory, fieldAt}
+use base.Fml.{GName, Lft, Share, Fml, ftrue, flft, fobs, fauth, fbor, fobor, fat}
+use prog.Memory.{fieldAt}
 use prog.Model.{Model}
 use prog.Routine.{Routine, Env as Names}
-use prog.Wp.{Heap, Env, Calls, Loops, Tables, Closed, WpFn, spotOf, noLocal}
+use prog.Wp.{Heap, Env, Calls, Loops, Tables, Closed, WpFn, spotOf}
 use ghost.Atoms.{Atoms, sem}
 use contract.Lifetimes.{Lfts, Shares, AllOutlive}
-use contract.Monad.{fact, Fun}
+use contract.Monad.{fact}
 use contract.Running.{GhostRules, Running, givenOf, tables, tablesOf}
 use sound.WpLaws.{FmC, fmOf, WpFn-mono}
-use types.Kit.{Given, Goal, Post, lands, Soaks, Item, Seq, Step, step, ‵, raw, _⊛_, some as someone, later, ⋆, nth, pull, unpull, _$_, _∵_, !, qed, by, move, drop, use0, use1, split, join, pick, fsplit, fsplit3, fjoin, fjoin3, feqI, suffices, group, await, done}
+use types.Kit.{Given, Goal, Post, lands, Soaks, Item, Seq, Step, step, ‵, raw, _⊛_, some as someone, later, ⋆, nth, _$_, _∵_, !, qed, by, move, drop, use0, use1, split, join, pick, fsplit3, fjoin3, feqI, suffices, group, await, done}
 use types.Run.{Opd, Opds, Rv, look, look-raw, init, store-raw, forget, stop, hop, fld, from, load, of-opd, and-then, no-more, assigns, land, returns, enter, alloc1, alloc0, params1, pass1, pass0, free1, free0}
 use types.Part.{Part, whole, sub, look-in, agg}
 use types.SemTy.{Body}
 use denote.Exit.{yes}
-use denote.RattleType.{RattleType}
 use denote.Laws.{Is, shows, valss}
 use denote.Memory.{mem, cellAt, pointee}
-use denote.Ref.{MutRef, RefT, ptr-vals, mut-tells}
-use denote.Signature.{Slot, Signature, plain, mutRefTo, typesAt}
+use denote.Ref.{RefT, ptr-vals, mut-tells}
+use denote.Signature.{Slot, plain, mutRefTo, typesAt}
 use denote.Steps.{only, opens, closes, owned, facts, heard, nothing}
 use denote.Struct.Steps.{spelt}
 use denote.Struct.Struct.{Plains, AreAll, layout, toTys}
@@ -41,14 +40,14 @@ use denote.RattleType.{mirs, flat}
 use denote.Struct.Declared.{Declared, fields, shape, row}
 use denote.Struct.Laws as LL
 use denote.Triple.Call.{calls-at}
-use denote.Triple.Clauses.{Ended, Clauses, Lasts, AtExit, atExit, ensured, closing}
+use denote.Triple.Clauses.{Ended, Clauses, AtExit, atExit, ensured, closing}
 use denote.Triple.End.{all, lastsOf}
 use denote.Triple.Entry.{onEntry}
 use denote.Triple.Spec.{Meets, tripleOf}
 use denote.Triple.Statement.{Contract, Triple}
 use denote.Triple.Table.{entered, cited}
-use denote.Triple.Walked.{Stay, Stays, hasOf, stay-ref, goes-ref, Walks, walkOf, walked, ends-at, walk-meets}
-use Rattle.session_step_lent.proofs.ByValue.{Value, slots, Args, last, spells, tellss, vals, Ares, Owns, with-last, stayed, goes, lasts, fits, has, handed, asked, Blocks, locals, Rooms, Cells, after, copies, frame-of, beyond, at, allocates, passes-all, loads-at, frees-all}
+use denote.Triple.Walked.{Stay, Stays, hasOf, stay-ref, goes-ref, walkOf, walked, ends-at, walk-meets}
+use Rattle.session_step_lent.proofs.ByValue.{Value, slots, Args, last, spells, tellss, vals, Ares, Owns, with-last, stayed, goes, lasts, fits, has, handed, asked, locals, after, copies, beyond, at, allocates, passes-all, loads-at, frees-all}
 
 -- the machine values of a struct's fields, and that field k of a struct has a place in it, for each k of a list
 abbrev pub parts : (S : Declared) → LL.Laws S → S .D → Vals
