@@ -2,7 +2,7 @@
 --     Value            a type of plain data with one machine value.        struct, uint, truth      a declared struct's, an unsigned integer's, and that of `bool`
 --     slots Ps s       the slots of a signature that has Ps by value and s last.        last, with-last      the value at s, and the values with another one there
 --     stayed, goes, lasts, fits, has       of those by value nothing is kept at exit, and of s what h says
---     Rooms, Cells     the locals of those by value, empty and filled, as one entry of a context.        allocates, passes, loads, frees      the rules of `Types/Run.antt` for them
+--     Rooms, Cells     the locals of those by value, empty and filled, as one entry of a context.        allocates, passes-all, loads-at, frees-all      the rules of `Types/Run.antt` for them
 --     at               a place whose local is known by an equation
 -- The rules assume `Given`. All else assumes nothing.
 use mathlib.Core.Path.{_≡_, refl, sym, ap, subst}

@@ -1,7 +1,7 @@
 -- The walk of a function that lends on: `f(x, .., lent: &mut L) -> R { let answer = g(x, .., *lent); *lent = answer.held; R { .. answer .. } }`, over any number of parameters before the reference,
 -- any plain struct L that is lent, any answer N of the function g that takes it by value, and any result R that is made of the answer's other fields.
---     Lending         the three structs, and which fields of the answer are L and which make R, in order
---     ended, called    the signatures of f and of g.        code      f's MIR
+--     Lending      the three structs, and which fields of the answer are L and which make R, in order
+--     ended, called        the signatures of f and of g.        code      f's MIR
 --     lends        f meets its contract, where g meets its own and that says which answer it gives
 -- `lends` assumes nothing; the rest assumes `Given`.
 use mathlib.Core.Path.{_≡_, refl, sym, ap, subst}
