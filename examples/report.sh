@@ -3,7 +3,7 @@
 #
 # usage: examples/report.sh [SHEET]      examples/two_decide.sheet where left out
 set -euo pipefail
-program=board_report
+program=use_report
 root=$(cd "$(dirname "$0")/.." && pwd)
 sheet=${1:-$root/examples/two_decide.sheet}
 

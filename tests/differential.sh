@@ -5,7 +5,7 @@
 #
 # usage: tests/differential.sh [SHEETS [SEED]]      as long as one likes; 100,000 sheets from seed 1 in the gate
 set -euo pipefail
-report=board_report
+report=use_report
 sheets=${1-100000}
 seed=${2-1}
 

@@ -3,7 +3,7 @@
 # cases on sheets.
 set -euo pipefail
 cd "$(dirname "$0")/.."
-crate=board_report
+crate=use_report
 program=target/bin/$crate
 reference/build.sh >/dev/null
 out=target/tests
@@ -32,4 +32,12 @@ same "no entries" < <(printf '\1\0\3\0')
 same "a sheet of 65,536 bytes" < <(head -c 65536 /dev/zero)
 [[ $(cat "$out/ours.txt") == "sheet refused 10" ]]
 (head -c 60 examples/solo.sheet; sleep 0.2; tail -c +61 examples/solo.sheet) | "$program" | cmp - "crates/$crate/stdout"
+says() { # the words on standard error; what was printed is in ours.txt
+    [[ $(cat "$out/said.txt") == "report: $1" ]] || { echo "report: it should say '$1'"; exit 1; }
+}
+"$program" <examples >"$out/ours.txt" 2>"$out/said.txt"
+says "standard input cannot be read"
+[[ ! -s $out/ours.txt ]]
+"$program" <examples/solo.sheet >/dev/full 2>"$out/said.txt"
+says "standard output cannot be written"
 echo "report: $count sheets as the separate program has them, and one that comes in pieces"

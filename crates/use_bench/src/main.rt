@@ -87,16 +87,11 @@ fn told(operation: u8, count: u32, start: Session) -> u32 {
     wrapping_add_u32(sum, buffer[7])
 }
 
-// A 32-bit number, low byte first.
-fn joined(a: u8, b: u8, c: u8, d: u8) -> u32 {
-    a as u32 + b as u32 * 256 + c as u32 * 65536 + d as u32 * 16777216
-}
-
 fn main() {
     let mut asked = [0u8; 5];
     io::read_full(0, &mut asked);
     let operation = asked[0];
-    let count = joined(asked[1], asked[2], asked[3], asked[4]);
+    let count = part_bytes::word32(&asked, 1);
     let start = proposed();
     let number = if operation < 6 {
         changed(operation, count, start)

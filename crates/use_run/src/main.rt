@@ -1,7 +1,6 @@
 // A sheet run under a budget (01, "Turn sheets": the runner). Standard input: the budget, 32 bits, low byte first, and then the sheet. Standard
 // output, one line: the C entry's number, the entries carried out, and the reads, the writes and the contested writes.
 ghost use mathlib.Core.Path.{_≡_};
-ghost use Prim.Native.Nat.{_+_, _*_};
 ghost use Rattle.model.specs.Export.{endingCode};
 use model::Ending;
 
@@ -17,13 +16,6 @@ fn code(ending: Ending) -> u32
     }
 }
 
-// A number of four bytes, low byte first.
-fn number(a: u8, b: u8, c: u8, d: u8) -> usize
-    ensures { λ r. ⌜ r ≡ a + 256 * b + 65536 * (c + 256 * d) ⌝ }
-{
-    a as usize + 256 * b as usize + 65536 * (c as usize + 256 * d as usize)
-}
-
 // A number of the line, and what stands behind it.
 fn print(n: u64, behind: &[u8]) {
     io::print_decimal(1, n);
@@ -33,7 +25,7 @@ fn print(n: u64, behind: &[u8]) {
 fn main() {
     let mut bytes = [0u8; 4];
     io::read_full(0, &mut bytes);
-    let budget = number(bytes[0], bytes[1], bytes[2], bytes[3]);
+    let budget = part_bytes::word32(&bytes, 0) as usize;
     // A sheet of 65,535 bytes is the longest; one more that is read shows that it is longer.
     let mut sheet = io::large_buffer();
     let n = io::read_full(0, &mut sheet);
