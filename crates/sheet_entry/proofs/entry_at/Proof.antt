@@ -7,8 +7,8 @@ use borrow.Author.Needs.{needs}
 use Rattle.sheet_entry.proofs.entry_at.Statement.{statement}
 use Rattle.sheet_entry.proofs.entry_at.Tie as tie
 
-sub-if2 : tie.Need-sub-if2
-sub-if2 c = search needs
+add-if1 : tie.Need-add-if1
+add-if1 c = search needs
 
 add-low : tie.Need-add-low
 add-low c = search needs
@@ -58,7 +58,7 @@ entry-of-requires-2 c κs = search needs
 returns-2 : tie.Need-returns-2
 returns-2 c =
     let a = c .before .before .before .before .args in
-    c .entry-of2 .ensures ∙ sym (entry-beyond (now (a .s)) (a .at) (c .before .if3 .taken))
+    c .entry-of2 .ensures ∙ sym (entry-beyond (now (a .s)) (a .offset) (c .before .if2 .taken))
 
 shared-slice-read-entry-of-3 : tie.Need-shared-slice-read-entry-of-3
 shared-slice-read-entry-of-3 c = search needs
@@ -84,7 +84,7 @@ returns-3 c = rw (c .entry-of3 .ensures, c .before .word32 .ensures, c .before .
 pub entry-at-spec : {M : Type 1} → statement M
 entry-at-spec =
     tie.close
-    (tie.spec sub-if2 add-low add-high shared-slice-read-number32 add-number32 shared-slice-read-number32-2
+    (tie.spec add-if1 add-low add-high shared-slice-read-number32 add-number32 shared-slice-read-number32-2
     shared-slice-read-number32-3 add-number32-2 shared-slice-read-number32-4 number32-requires
     shared-slice-read-entry-of add-entry-of shared-slice-read-entry-of-2 entry-of-requires returns
     entry-of-requires-2 returns-2 shared-slice-read-entry-of-3 add-byte byte-requires add-word32
