@@ -4,14 +4,14 @@
 set -euo pipefail
 cd "$(dirname "$0")/.."
 rt staticlib janus | tail -n 1
-rt check operation_calls | tail -n 1
+rt check use_bench | tail -n 1
 reference/build.sh
 out=target/bench
 mkdir -p "$out"
 rustc --edition 2021 -O -D warnings --crate-name bench --extern janus_reference=target/reference/libjanus_reference.rlib \
     -L native=target/staticlib -l static=janus bench/bench.rs -o "$out/bench"
 "$out/bench"
-"$out/bench" operations target/bin/operation_calls
+"$out/bench" operations target/bin/use_bench
 command -v valgrind >/dev/null || exit 0
 
 instructions() { # the words of `bench count`

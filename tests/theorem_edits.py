@@ -1,8 +1,11 @@
 #!/usr/bin/env python3
-"""Edits of the machine's definition that the theorem's proof must refuse.
+"""Edits of the machine's definition of which the agreement rule is false, and of a contract on which it rests.
 
 Each file of tests/theorem-edits names a file, a text of it and another text, the crate to check after the change, and the file
-and lemma at which the check must refuse it first. The check runs in a copy of the repository.
+and lemma at which the check must refuse it first. It also has a list of calls: the processes and rounds of the opening, the
+proposals of process 0, 1, .., and the steps, `p*k` for k steps of process p; and what they commit and write. From these a proof
+that the rule is false of the changed machine is made, and that must be accepted. An edit of a contract names a crate in place of the
+list, which must still be proved: the function meets the changed contract. All of it runs in a copy of the repository.
 """
 import os
 import re
@@ -14,6 +17,7 @@ from concurrent.futures import ThreadPoolExecutor
 from pathlib import Path
 
 ROOT = Path(__file__).resolve().parent.parent
+EDITS = ROOT / "tests" / "theorem-edits"
 
 
 def read_edit(path):
@@ -29,6 +33,10 @@ def copy_repository(to):
     shutil.copytree(ROOT, to, ignore=shutil.ignore_patterns(".git", "must-fail"), symlinks=True)
 
 
+def check(copy, crate):
+    return subprocess.run(["rt", "check", crate], cwd=copy, capture_output=True, text=True)
+
+
 def first_error(output):
     for line in output.splitlines():
         found = re.search(r"(crates/\S+?\.antt):\d+:\d+: (?:error: )?`([^`]+)`", line)
@@ -37,7 +45,33 @@ def first_error(output):
     return "no error"
 
 
-def refused_as_said(path):
+def moves(edit):
+    """The calls as the proof has them, newest first."""
+    calls = [f"proposes {p} {v}" for p, v in enumerate(edit["proposals"].split())]
+    for part in edit["steps"].split():
+        p, _, times = part.partition("*")
+        calls += [f"works {p}"] * int(times or 1)
+    return " ∷ ".join(calls[::-1] + ["[]"])
+
+
+def write_refutation(copy, edit):
+    v, R = re.fullmatch(r"(\d+) in round (\d+)", edit["commits"]).groups()
+    u, r = re.fullmatch(r"(\d+) in round (\d+)", edit["writes"]).groups()
+    values = {"moves": moves(edit), "n": edit["processes"], "L": edit["rounds"], "R": R, "v": v, "r": r, "u": u}
+    text = (EDITS / "refuted.template").read_text(encoding="utf-8")
+    for key, value in values.items():
+        text = text.replace(f"@{key}@", value)
+    crate = copy / "crates" / "refuted"
+    (crate / "src").mkdir(parents=True)
+    (crate / "specs").mkdir()
+    (crate / "src" / "lib.rt").write_text("// No code.\n", encoding="utf-8")
+    (crate / "specs" / "Lib.antt").write_text(text, encoding="utf-8")
+    with open(copy / "crates.txt", "a", encoding="utf-8") as crates:
+        crates.write("refuted: base model model_rule\n")
+
+
+def fault_of(path):
+    """What is wrong with an edit; None where the check refuses it as said and the rule is refuted."""
     edit = read_edit(path)
     with tempfile.TemporaryDirectory() as folder:
         copy = Path(folder) / "copy"
@@ -47,21 +81,29 @@ def refused_as_said(path):
         if text.count(edit["old"]) != 1:
             return f"'{edit['old']}' stands {text.count(edit['old'])} times in {edit['file']}"
         target.write_text(text.replace(edit["old"], edit["new"]), encoding="utf-8")
-        run = subprocess.run(["rt", "check", edit["check"]], cwd=copy, capture_output=True, text=True)
-        seen = first_error(run.stdout + run.stderr)
+        if "proved" in edit and check(copy, edit["proved"]).returncode != 0:
+            return f"{edit['proved']} is not proved with it"
+        run = check(copy, edit["check"])
         if run.returncode == 0:
             return "it was proved"
-        return None if seen == edit["refused"] else f"refused first at {seen}, not at {edit['refused']}"
+        seen = first_error(run.stdout + run.stderr)
+        if seen != edit["refused"]:
+            return f"refused first at {seen}, not at {edit['refused']}"
+        if "proved" in edit:
+            return None
+        write_refutation(copy, edit)
+        run = check(copy, "refuted")
+        return None if run.returncode == 0 else f"its list of calls refutes nothing: {first_error(run.stdout + run.stderr)}"
 
 
 def main():
-    edits = sorted((ROOT / "tests" / "theorem-edits").glob("*.edit"))
+    edits = sorted(EDITS.glob("*.edit"))
     failed = 0
     with ThreadPoolExecutor(os.cpu_count()) as pool:
-        faults = list(pool.map(refused_as_said, edits))
+        faults = list(pool.map(fault_of, edits))
     for path, fault in zip(edits, faults):
         failed += fault is not None
-        print(f"theorem edit {path.stem}: {'refused, as it must be' if fault is None else 'FAILED: ' + fault}", flush=True)
+        print(f"theorem edit {path.stem}: {'refused as it must be' if fault is None else 'FAILED: ' + fault}", flush=True)
     print(f"theorem edits: {len(edits) - failed} refused, {failed} not")
     sys.exit(1 if failed or not edits else 0)
 

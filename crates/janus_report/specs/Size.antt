@@ -1,9 +1,7 @@
 -- A report has 16 bytes or more, so 15 is never a size.
-use Prim.Native.Nat.{ℕ, suc, _≤_}
+use Prim.Native.Nat.{ℕ, _≤_}
 use native.Mathlib.Omega.{arith}
-use mathlib.Core.Path.{_≡_}
 use mathlib.Core.List.{List}
-use mathlib.Core.Bool.{Bool}
 use lib.ListN.{length, length-append}
 use lib.Dec.{ltb}
 use Rattle.base.specs.Bools.{cond-cases}

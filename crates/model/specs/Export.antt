@@ -1,6 +1,6 @@
 -- Document 01, "Turn sheets", last paragraph: what the clinic server, written in C, gets for a sheet, a budget and a buffer.
 use Prim.Native.Nat.{ℕ}
-use mathlib.Core.Bool.{Bool, true, false, cond}
+use mathlib.Core.Bool.{cond}
 use mathlib.Core.List.{List, [], _∷_, _++_}
 use lib.ListN.{length}
 use lib.Dec.{eqb}
@@ -10,7 +10,6 @@ use Rattle.model.specs.declared.Phase.the-variants.{CheckValue, Commit, 
 use Rattle.model.specs.declared.Process.{Process}
 use Rattle.model.specs.declared.Ending.{Ending}
 use Rattle.model.specs.declared.Ending.the-variants.{Finished, Refused, BudgetEnded, Rejected}
-use Rattle.model.specs.declared.Ran.{Ran}
 use Rattle.model.specs.Bytes.{bytes32}
 use Rattle.model.specs.Runner.{run}
 

@@ -1,7 +1,7 @@
 -- Document 01, "One turn at a time": what an accepted turn does. A turn makes at most one register operation. So it is
 -- given in three parts: which register it accesses (`access`), what the process becomes by the value read (`next`), and
 -- what is written (`written`). The counts follow from the access alone (`counted`).
-use Prim.Native.Nat.{ℕ, suc, zero, _+_, _-_, min}
+use Prim.Native.Nat.{ℕ, _+_, _-_, min}
 use mathlib.Core.Bool.{Bool, true, false, cond}
 use lib.ListN.{set}
 use lib.Dec.{leb, ltb, eqb}

@@ -1,7 +1,7 @@
 -- Document 01, "Paper cases": the starred rows, in their order, and that all of them hold of the machine.
 use Prim.Native.Nat.{ℕ}
 use mathlib.Core.Path.{_≡_, refl}
-use mathlib.Core.Bool.{Bool, true, false}
+use mathlib.Core.Bool.{true, false}
 use mathlib.Core.List.{List, [], _∷_, _++_}
 use Rattle.model.specs.declared.Phase.the-variants.{Waiting, Compare, Commit, Exhausted, Decided}
 use Rattle.model.specs.declared.Operation.{Operation}

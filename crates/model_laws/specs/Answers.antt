@@ -1,5 +1,5 @@
 -- The answer of an operation, by the number of its first refusal and by what is left where it is 0.
-use Prim.Native.Nat.{ℕ, suc, zero, _<_, _≤_, _%_}
+use Prim.Native.Nat.{ℕ, suc, zero, _<_, _%_}
 use native.Mathlib.Omega.{arith}
 use mathlib.Core.Path.{_≡_, refl, sym, _∙_, ap}
 use mathlib.Core.Bool.{Bool, true, false, cond, not}
@@ -12,8 +12,6 @@ use Rattle.model.specs.declared.Session.{Session}
 use Rattle.model.specs.declared.Counts.{Counts}
 use Rattle.model.specs.declared.Operation.{Operation}
 use Rattle.model.specs.declared.Operation.the-variants.{Propose, Step, Learn, Crash, Malformed}
-use Rattle.model.specs.declared.Changed.{Changed}
-use Rattle.model.specs.declared.Stepped.{Stepped}
 use Rattle.model.specs.Board.{processAt, withProcess, noCounts}
 use Rattle.model.specs.Window.{window}
 use Rattle.model.specs.Step.{counted, turn, written, found, learnt, process}

@@ -1,7 +1,7 @@
 -- A test of every element of a list (the model's `every`).
 use Prim.Native.Nat.{ℕ, zero, suc}
 use mathlib.Core.Path.{_≡_, refl}
-use mathlib.Core.Bool.{Bool, true, false}
+use mathlib.Core.Bool.{Bool, true}
 use mathlib.Core.List.{List, [], _∷_}
 use lib.ListN.{getD, drop, set, replicate}
 use Rattle.base.specs.Bools.{and-left, and-right, and-both}

@@ -9,3 +9,8 @@ pub mod Sounds
 pub mod Operations
 pub mod Answers
 pub mod ByteLaws
+pub mod Passes
+pub mod SoundTests
+pub mod SoundRecords
+pub mod Listings
+pub mod ListedRounds

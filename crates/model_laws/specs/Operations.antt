@@ -1,10 +1,8 @@
 -- Each accepted operation of the machine leaves a sound session, and so does each operation, accepted or refused.
 use Prim.Native.Nat.{ℕ, suc, zero, _≤_, _<_}
 use native.Mathlib.Omega.{arith}
-use mathlib.Core.Path.{_≡_, refl, sym, _∙_, subst}
+use mathlib.Core.Path.{_≡_, refl}
 use mathlib.Core.Bool.{Bool, true, false, not, _&&_}
-use mathlib.Core.List.{List, [], _∷_}
-use lib.ListN.{replicate}
 use lib.Dec.{leb, eqb}
 use borrow.Author.Tests.{not-false, leb-true, eqb-false}
 use Rattle.model.specs.declared.Access.{Access}
@@ -20,15 +18,14 @@ use Rattle.model.specs.Board.{processAt, opened, idle, maxProcesses, maxRounds}
 use Rattle.model.specs.Step.{access, written, turn, found}
 use Rattle.model.specs.Refusal.{refusal, status, isOutside, stepped, openTests, ownTests, processOf, tests}
 use Rattle.model.specs.Machine.{accessOf, becomes, after, countsAfter, answered, perform}
-use Rattle.model.specs.Sound.{sound, soundAt, soundProcess}
+use Rattle.model.specs.Sound.{soundAt, soundProcess}
 use Rattle.base.specs.Bools.{and-left, and-right}
 use Rattle.model_laws.specs.Every.{every-replicate, every-drop}
 use Rattle.model_laws.specs.Accepted.{NoneHolds, none-holds, Accepted, accepted}
-use Rattle.model_laws.specs.Windows.{window-least}
 use Rattle.model_laws.specs.Phases.{process-facts, inside-some}
 use Rattle.model_laws.specs.Ranges.{InRange, access-range, range-more}
 use Rattle.model_laws.specs.Keeps.{next-sound, learnt-sound, placed-sound}
-use Rattle.model_laws.specs.Sounds.{Sound, sound-facts, facts-sound, idle-sound, sound-process, set-sound, written-sound}
+use Rattle.model_laws.specs.Sounds.{sound-facts, facts-sound, idle-sound, sound-process, set-sound, written-sound}
 
 -- What a write leaves: n, the limit and the processes.
 pub record Same (s t : Session) : Type 0 where

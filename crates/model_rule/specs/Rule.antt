@@ -10,7 +10,7 @@ use Rattle.model.specs.Machine.{perform, opening}
 use Rattle.model.specs.Public.{withCounts}
 use Rattle.model_rule.specs.Event.{Event, Past, Proposed, Written, Committed, DecidedOn}
 use Rattle.model_rule.specs.Event.Event.{commit}
-use Rattle.model_rule.specs.Calls.{Input, machine, past, Call, Run, inputs}
+use Rattle.model_rule.specs.Calls.{machine, past, Call, Run, inputs}
 
 -- "After each call, refused or not, its answer, the tally and the session equal the machine's", and 3 is never returned.
 abbrev pub EachAsTheMachine : (W : ℕ) → Session → List Call → Type 0

@@ -4,29 +4,26 @@ ghost use Rattle.model.specs.Step.{process as processOf, learnt as learntOf};
 use model::Phase;
 use model::Process;
 
-// A process' record.
-fn process(phase: Phase, round: usize, estimate: u32) -> Process
-    ensures { λ r. ⌜ r ≡ processOf phase round estimate ⌝ }
-{
-    Process {
-        phase: phase,
-        round: round,
-        estimate: estimate,
-    }
-}
-
 // 01, "One turn at a time": a proposal moves a seat from out to gate with own value v.
 pub fn proposed(q: Process, v: u32) -> Process
     ensures { λ r. ⌜ r ≡ processOf Phase.Waiting (q .round) v ⌝ }
 {
-    process(Phase::Waiting, q.round, v)
+    Process {
+        phase: Phase::Waiting,
+        round: q.round,
+        estimate: v,
+    }
 }
 
 // 01, "One turn at a time": a crash moves a working or spent seat to crashed; round and own value remain.
 pub fn crashed(q: Process) -> Process
     ensures { λ r. ⌜ r ≡ processOf Phase.Crashed (q .round) (q .estimate) ⌝ }
 {
-    process(Phase::Crashed, q.round, q.estimate)
+    Process {
+        phase: Phase::Crashed,
+        round: q.round,
+        estimate: q.estimate,
+    }
 }
 
 // 01, "One turn at a time": what a process becomes by a look that read x.
@@ -36,6 +33,10 @@ pub fn learnt(q: Process, x: u32) -> Process
     if x == 0 {
         q
     } else {
-        process(Phase::Decided, q.round, x)
+        Process {
+            phase: Phase::Decided,
+            round: q.round,
+            estimate: x,
+        }
     }
 }

@@ -7,13 +7,6 @@ ghost use Rattle.model.specs.Step.{process as processOf, nextAt, next as nextOf
 use model::Phase;
 use model::Process;
 
-// a - b, and 0 where b is above a.
-fn minus(a: usize, b: usize) -> usize
-    ensures { λ r. ⌜ r ≡ a - b ⌝ }
-{
-    if b < a { a - b } else { 0 }
-}
-
 // A process' record.
 fn process(phase: Phase, round: usize, estimate: u32) -> Process
     ensures { λ r. ⌜ r ≡ processOf phase round estimate ⌝ }
@@ -56,7 +49,11 @@ fn scan(limit: usize, k: usize, blank: bool) -> Phase
     ensures { λ r. ⌜ r ≡ cond blank (Phase.Adopt (k - 1)) (cond (ltb k limit) (Phase.Scan (k + 1)) (Phase.Adopt limit)) ⌝ }
 {
     if blank {
-        Phase::Adopt(minus(k, 1))
+        if 0 < k {
+            Phase::Adopt(k - 1)
+        } else {
+            Phase::Adopt(0)
+        }
     } else {
         upward(limit, k)
     }

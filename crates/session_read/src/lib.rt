@@ -55,7 +55,8 @@ fn no_record(code: u32) -> ProcessAnswer
 pub fn process_record(s: Session, p: usize) -> ProcessAnswer
     ensures { λ r. ⌜ r ≡ processRecord s p ⌝ }
 {
-    if !session_sound::sound(s) {
+    let sound = session_sound::sound(s);
+    if !sound {
         return no_record(3);
     }
     if s.n <= p {

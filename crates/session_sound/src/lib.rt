@@ -1,44 +1,11 @@
 // When a session is sound (document 01, "Numbers returned", last paragraph): the test that every public operation makes first.
 ghost use mathlib.Core.Path.{_≡_};
-ghost use mathlib.Core.Bool.{not, _&&_, _||_};
+ghost use mathlib.Core.Bool.{not, _&&_};
 ghost use lib.ListN.{length, drop};
-ghost use lib.Dec.{leb, ltb, eqb};
-ghost use Rattle.model.specs.Refusal.{status, isOutside};
-ghost use Rattle.model.specs.Sound.{every, soundProcess, sound as soundOf};
-use model::Phase;
-use model::Process;
+ghost use lib.Dec.{eqb};
+ghost use Rattle.model.specs.Sound.{every, sound as soundOf};
 use model::Session;
-
-// A record that is not out: it is a process', with "a value above 0 and a round of at most L".
-fn held(member: bool, limit: usize, q: Process) -> bool
-    ensures { λ r. ⌜ r ≡ member && ltb 0 (q .estimate) && leb (q .round) limit ⌝ }
-{
-    member & (0 < q.estimate) & (q.round <= limit)
-}
-
-// "Records from n on are out; out has round 0 and value 0, every other stance a value above 0 and a round of at most L", and the
-// clause of the phase.
-fn record_sound(window: usize, limit: usize, member: bool, q: Process) -> bool
-    ensures { λ r. ⌜ r ≡ (member || isOutside (status (q .phase))) && soundProcess window limit q ⌝ }
-{
-    let phase = q.phase;
-    let round = q.round;
-    match phase {
-        Phase::Idle => (q.estimate == 0) & (round <= limit) & (round == 0),
-        Phase::Waiting => held(member, limit, q),
-        Phase::Write => held(member, limit, q) & (1 <= round),
-        Phase::Scan(k) => held(member, limit, q) & (1 <= round) & (round < k) & (k <= limit),
-        Phase::Adopt(k) => held(member, limit, q) & (1 <= round) & (round <= k) & (k <= limit),
-        Phase::Compare(i) => held(member, limit, q) & (1 <= round) & (i < round) & (i < window),
-        Phase::Flag(i) => held(member, limit, q) & (1 <= round) & (i < round) & (i < window),
-        Phase::CheckMark(i) => held(member, limit, q) & (window <= round) & (i < window),
-        Phase::CheckValue(i) => held(member, limit, q) & (window <= round) & (i < window),
-        Phase::Commit => held(member, limit, q) & (window <= round),
-        Phase::Exhausted => held(member, limit, q) & (round == limit),
-        Phase::Crashed => held(member, limit, q),
-        Phase::Decided => held(member, limit, q),
-    }
-}
+use part_sound::record_sound;
 
 // "Registers and marks past L are blank and unmarked": those from an index on.
 fn blank_from<'a>(values: &'a [u32; 256], marks: &'a [bool; 256], from: usize) -> bool

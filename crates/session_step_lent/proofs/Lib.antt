@@ -1,1 +1,4 @@
+pub mod ByValue
+pub mod Counted
+pub mod Lender
 pub mod Lent

@@ -8,7 +8,7 @@ use borrow.Author.Tests.{lt-ltb, le-ltb}
 use Rattle.model.specs.declared.Session.{Session}
 use Rattle.model.specs.Sound.{sound}
 use Rattle.model.specs.ReadOut.{registers, distinct, ListsOnce, standingRefusal, StandingValues}
-use Rattle.session_values.specs.Distinct.{listing, listing-once, lists-once-length}
+use Rattle.model_laws.specs.Listings.{listing, listing-once, lists-once-length}
 
 module _ (s : Session) (buffer : List ℕ) where
   -- Refused: the answer is the number, and the buffer is as it was.

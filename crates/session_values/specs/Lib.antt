@@ -1,4 +1,2 @@
--- The standing values: what their listing is, and laws of lists for it.
-pub mod Distinct
-pub mod Rounds
+-- What the listing of the standing values gives.
 pub mod Post

@@ -1,14 +1,13 @@
 -- Document 01, "Turn sheets": which run is opened, and where the next place is, case by case.
 use Prim.Native.Nat.{ℕ, _+_, _-_, _*_, _/_, _%_, _≤_, _<_}
 use native.Mathlib.Omega.{arith}
-use mathlib.Core.Path.{_≡_, refl, _∙_}
+use mathlib.Core.Path.{_≡_, refl}
 use mathlib.Core.Bool.{Bool, true, false}
 use mathlib.Core.List.{List}
-use lib.Dec.{leb}
 use borrow.Author.Tests.{le-leb, lt-leb}
 use Rattle.model.specs.Sheet.{runCount}
 use Rattle.sheet_layout.specs.Runs.{IsRun, left-none, left-next}
-use Rattle.sheet_place_laws.specs.Places.{encode, decode, between, hasEntry, passed, openFrom, settled, advanced}
+use Rattle.sheet_place_laws.specs.Places.{encode, decode, hasEntry, passed, openFrom, settled, advanced}
 
 -- No run is left at n or past it.
 pub open-none : (s : List ℕ) (i n : ℕ) → n ≤ i → encode (openFrom s i (n - i)) ≡ 1073741824 * i

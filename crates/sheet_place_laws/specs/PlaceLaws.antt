@@ -9,7 +9,7 @@ use lib.Dec.{leb}
 use borrow.Author.Tests.{leb-true, leb-false}
 use Rattle.base.specs.Bools.{cond-cases}
 use Rattle.model.specs.declared.Operation.{Operation}
-use Rattle.model.specs.Sheet.{runAt, runCount, runsFrom, runs, entryAt, entriesAt, entriesOf, entries}
+use Rattle.model.specs.Sheet.{runAt, runCount, runsFrom, entryAt, entriesAt, entriesOf, entries}
 use Rattle.sheet_layout.specs.Runs.{runs-none}
 use Rattle.sheet_place_laws.specs.Places.{Position, encode, decode, Within, hasEntry, openedRun, between, openFrom, settled}
 use Rattle.sheet_place_laws.specs.Places.{passed, restFrom, begin, handed, advanced, rest, before, Inside, Proper}

@@ -1,7 +1,6 @@
 // Running a sheet (01, "Turn sheets": the runner). The session is changed where it stands, entry after entry, and is never
 // tested for soundness: that every session of the run is sound is part of the loop's proof.
 ghost use mathlib.Core.Path.{_≡_};
-ghost use Prim.Native.Nat.{_<_};
 ghost use Rattle.model.specs.Board.{noCounts};
 ghost use Rattle.model.specs.Runner.{ran as ranOf, runFrom, run as runOf};
 ghost use Rattle.model.specs.Sheet.{entries};
@@ -16,13 +15,6 @@ use part_registers::value;
 use sheet_place_laws::Handed;
 
 mod entry;
-
-// A byte as a number.
-fn wide(x: u8) -> usize
-    ensures { λ r. ⌜ (r ≡ x) × (r < 256) ⌝ }
-{
-    x as usize
-}
 
 // What a run gives: the number of entries carried out, the session, the tally and the ending.
 fn ran(carried: usize, session: Session, counts: Counts, ending: Ending) -> Ran
@@ -102,13 +94,13 @@ pub fn run(sheet: &[u8], budget: usize) -> Ran
             Ending::Rejected(code),
         );
     }
-    let n = sheet[0];
-    let limit = wide(sheet[2]) + 256 * wide(sheet[3]);
+    let n = part_bytes::byte(sheet, 0);
+    let limit = part_bytes::word16(sheet, 2) as usize;
     carry(
         sheet,
         budget,
         part_window::window(n),
-        session_open::opened(wide(n), limit),
+        session_open::opened(n as usize, limit),
         no_counts(),
     )
 }

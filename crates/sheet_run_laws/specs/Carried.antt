@@ -7,11 +7,10 @@ use mathlib.Core.Bool.{Bool, true, false, cond, _||_, true≢false}
 use mathlib.Core.List.{List, _∷_}
 use lib.ListN.{length}
 use lib.Dec.{leb}
-use borrow.Author.Tests.{ne-eqb, not-false, leb-true, leb-false}
+use borrow.Author.Tests.{ne-eqb, leb-true, leb-false}
 use Rattle.model.specs.declared.Access.{Access}
 use Rattle.model.specs.declared.Session.{Session}
 use Rattle.model.specs.declared.Counts.{Counts}
-use Rattle.model.specs.declared.Limits.{Limits}
 use Rattle.model.specs.declared.Operation.{Operation}
 use Rattle.model.specs.declared.Ending.the-variants.{Finished, Refused, BudgetEnded, Rejected}
 use Rattle.model.specs.declared.Ran.{Ran}
@@ -23,7 +22,6 @@ use Rattle.model.specs.Machine.{accessOf, after, countsAfter, answered, perform
 use Rattle.model.specs.Sound.{soundAt}
 use Rattle.model.specs.Runner.{ran, runBy, runFrom, runWithin, run}
 use Rattle.model.specs.Sheet.{processCount, roundLimit, entries, sheetTests, sheetRefusal}
-use Rattle.base.specs.Bools.{and-left}
 use Rattle.model_laws.specs.Accepted.{none-holds, Accepted, accepted}
 use Rattle.model_laws.specs.Answers.{accepted-counts}
 use Rattle.model_laws.specs.Operations.{opened-sound, open-accepted, after-sound}
@@ -47,13 +45,7 @@ pub record Begun (t : List ℕ) (W : ℕ) (s : Session) : Type 0 where
 
 -- ---- the start of a run
 
--- An accepted sheet has its header, and opens a sound session.
-pub sheet-accepted : (t : List ℕ) → sheetRefusal serverLimits t ≡ 0 → 4 ≤ length t
-unfolding sheetRefusal
-sheet-accepted t e =
-    let header = not-false _ (none-holds (sheetTests serverLimits t) (omega arith) e .0) in
-    leb-true 4 (length t) (and-left _ _ (and-left _ _ (and-left _ _ header)))
-
+-- An accepted sheet opens a sound session.
 pub sheet-opens : (t : List ℕ) {W : ℕ} {s : Session} → sheetRefusal serverLimits t ≡ 0 → W ≡ window (processCount t) →
     s ≡ opened (processCount t) (roundLimit t) → Begun t W s
 unfolding sheetRefusal opened

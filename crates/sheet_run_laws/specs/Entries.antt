@@ -1,6 +1,6 @@
 -- One entry as the runner's code takes it: a work turn has a path of its own, and of the others each is a refusal, a register operation and,
 -- where the record changes, what the process becomes. The laws say that this is what the machine does.
-use Prim.Native.Nat.{ℕ, suc, zero, _<_, _≤_}
+use Prim.Native.Nat.{ℕ, _<_, _≤_}
 use native.Mathlib.Omega.{arith}
 use mathlib.Core.Path.{_≡_, refl, sym, _∙_, ap}
 use mathlib.Core.Bool.{Bool, true, false, cond, not, true≢false}

@@ -18,7 +18,7 @@ use Rattle.model_rule.specs.Event.{Event}
 use Rattle.theory_past.specs.Lawful.{Lawful, EventsLawful, lawful-events}
 use Rattle.theory_walk.specs.Place.{Stands}
 use Rattle.theory_walk.specs.Stays.{SpareAll, stands-events}
-use Rattle.theory_board.specs.Matches.{Matches, Long, EventsOf, written-matches, written-long}
+use Rattle.theory_board.specs.Matches.{Matches, Long, EventsFit, written-matches, written-long}
 
 -- The arrays are long enough; the past is lawful; each process stands where its phase tells; the registers are those of the past.
 pub record Invariant (W : ℕ) (s : Session) (h : List Event) : Type 0 where
@@ -42,7 +42,7 @@ pub turn-invariant : {W : ℕ} {s : Session} {h : List Event} → Invariant W s 
     (p : ℕ) (a : Access) (becomes : ℕ → Process) (es : List Event) →
     p < s .n →
     InRange (s .limit) a →
-    EventsOf p (processAt s p .estimate) a es →
+    EventsFit p (processAt s p .estimate) a es →
     EventsLawful W (s .n) es h →
     ((o : ℕ) → (o ≡ p → ⊥) → SpareAll o es) →
     Stands W p (becomes (found s a)) (es ++ h) →

@@ -46,14 +46,14 @@ Quiet (commit r v ∷ es) = Quiet es
 Quiet (decision p v ∷ es) = Quiet es
 
 -- The events of a register operation of process p with estimate e.
-abbrev pub EventsOf : (p e : ℕ) → Access → List Event → Type 0
-EventsOf p e Nothing es = Quiet es
-EventsOf p e (ReadValue r) es = Quiet es
-EventsOf p e (WriteValue r) es = es ≡ write p r e ∷ []
-EventsOf p e (ReadMark j) es = Quiet es
-EventsOf p e (SetMark j) es = es ≡ flag j ∷ []
-EventsOf p e ReadDecision es = Quiet es
-EventsOf p e WriteDecision es = (r : ℕ) × (es ≡ commit r e ∷ [])
+abbrev pub EventsFit : (p e : ℕ) → Access → List Event → Type 0
+EventsFit p e Nothing es = Quiet es
+EventsFit p e (ReadValue r) es = Quiet es
+EventsFit p e (WriteValue r) es = es ≡ write p r e ∷ []
+EventsFit p e (ReadMark j) es = Quiet es
+EventsFit p e (SetMark j) es = es ≡ flag j ∷ []
+EventsFit p e ReadDecision es = Quiet es
+EventsFit p e WriteDecision es = (r : ℕ) × (es ≡ commit r e ∷ [])
 
 -- ---- what is written
 
@@ -84,7 +84,7 @@ quiet-matches (decision p v ∷ es) q k =
 
 -- A register operation of process p with its events.
 pub written-matches : (s : Session) (p e : ℕ) (a : Access) (es : List Event) {h : List Event} → Long s → InRange (s .limit) a →
-    EventsOf p e a es → Matches s h → Matches (written s a e) (es ++ h)
+    EventsFit p e a es → Matches s h → Matches (written s a e) (es ++ h)
 unfolding written
 written-matches s p e Nothing es long ok m k = quiet-matches es m k
 written-matches s p e (ReadValue r) es long ok m k = quiet-matches es m k

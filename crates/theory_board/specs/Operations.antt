@@ -1,6 +1,5 @@
 -- Each accepted operation of the machine, at any window, keeps the invariant: the one lemma, applied.
 use Prim.Native.Nat.{ℕ, zero, suc}
-use native.Mathlib.Omega.{arith}
 use mathlib.Core.Path.{_≡_, refl, sym}
 use mathlib.Core.Bool.{Bool, true, false, true≢false}
 use mathlib.Core.List.{List, [], _++_}
@@ -30,16 +29,16 @@ use Rattle.theory_walk.specs.Place.{Stands}
 use Rattle.theory_walk.specs.Stays.{SpareAll}
 use Rattle.theory_walk.specs.Step.{step-lawful, step-spares, step-stands}
 use Rattle.theory_walk.specs.Start.{proposal-stands, crash-stands, learnt-stands, look-lawful, look-spares}
-use Rattle.theory_board.specs.Matches.{Quiet, EventsOf, found-matches}
+use Rattle.theory_board.specs.Matches.{Quiet, EventsFit, found-matches}
 use Rattle.theory_board.specs.Invariant.{Invariant, turn-invariant}
 
 -- ---- the events of an operation go with its access
 
-step-events : (L p r v : ℕ) (φ : Phase) (leader : Bool) → EventsOf p v (accessAt L r φ leader) (stepEvents p r v φ)
+step-events : (L p r v : ℕ) (φ : Phase) (leader : Bool) → EventsFit p v (accessAt L r φ leader) (stepEvents p r v φ)
 unfolding accessAt
 step-events L p r v Idle leader = tt
 step-events L p r v Waiting false = tt
-step-events L p r v Waiting true = cond-cases (λ a. EventsOf p v a []) (ltb r L) (λ t. tt) (λ t. tt)
+step-events L p r v Waiting true = cond-cases (λ a. EventsFit p v a []) (ltb r L) (λ t. tt) (λ t. tt)
 step-events L p r v Write leader = refl
 step-events L p r v (Scan k) leader = tt
 step-events L p r v (Adopt k) leader = tt
@@ -56,7 +55,7 @@ look-quiet : (p x : ℕ) → Quiet (lookEvents p x)
 look-quiet p zero = tt
 look-quiet p (suc v) = tt
 
-operation-events : (L : ℕ) (q : Process) (D : ℕ) (o : Operation) → EventsOf (processOf o) (q .estimate) (accessOf L q o) (eventsOf q D o)
+operation-events : (L : ℕ) (q : Process) (D : ℕ) (o : Operation) → EventsFit (processOf o) (q .estimate) (accessOf L q o) (eventsOf q D o)
 unfolding accessOf access
 operation-events L q D (Propose p v) = tt
 operation-events L q D (Step p leader) = step-events L p (q .round) (q .estimate) (q .phase) leader

@@ -1,7 +1,7 @@
 -- Older parts of a past: what was true of one stays true, and what an event on top of it can add.
 use Prim.Native.Nat.{ℕ, max}
 use mathlib.Core.Path.{_≡_, refl}
-use mathlib.Core.List.{List, [], _∷_, _++_}
+use mathlib.Core.List.{List, [], _∷_}
 use mathlib.Core.Logic.{_⊎_, inl, inr, ⊎-elim}
 use native.Mathlib.Omega.{arith}
 use Rattle.model_rule.specs.Event.{Event, write, flag, Past, Happened}
@@ -16,11 +16,6 @@ past-trans p (there q) = there (past-trans p q)
 -- What came before an event of the past is a part of the past.
 pub past-before : {x : Event} {b h : List Event} → Past (x ∷ b) h → Past b h
 past-before q = past-trans (there here) q
-
--- A past with more events on top.
-pub past-more : (es h : List Event) → Past h (es ++ h)
-past-more [] h = here
-past-more (x ∷ es) h = there (past-more es h)
 
 -- Nothing stands in the empty past.
 pub past-none : {x : Event} {b : List Event} → Past (x ∷ b) [] → ⊥

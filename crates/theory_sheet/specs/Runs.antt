@@ -71,31 +71,39 @@ fed W start c [] fs = fs
 fed W start c (o ∷ os) fs =
     fed W start (perform W (machine W start fs) c o .counts) os (record { operation = o; counts = c } ∷ fs)
 
--- Of a run after k entries: how many more were carried out, that its session is the machine's after them, and that a session was made.
-record Carried (W : ℕ) (start : Session) (fs : List Input) (c : Counts) (es : List Operation) (k : ℕ) (r : Ran) : Type 0 where
+-- And the counts that the last one left.
+abbrev pub countsLeft : (W : ℕ) → Session → Counts → List Operation → List Input → Counts
+countsLeft W start c [] fs = c
+countsLeft W start c (o ∷ os) fs =
+    countsLeft W start (perform W (machine W start fs) c o .counts) os (record { operation = o; counts = c } ∷ fs)
+
+-- Of a run after k entries: how many more were carried out, that its session and counts are the machine's after them, and that a session
+-- was made.
+record Follows (W : ℕ) (start : Session) (fs : List Input) (c : Counts) (es : List Operation) (k : ℕ) (r : Ran) : Type 0 where
   pub count : ℕ
   pub carried : r .carried ≡ k + count
   pub session : r .session ≡ machine W start (fed W start c (take count es) fs)
+  pub counts : r .counts ≡ countsLeft W start c (take count es) fs
   pub made : (qs : List Process) (b : List ℕ) → endingBuffer (r .ending) qs b ≡ decidedBytes qs
 
 -- No entry more.
-carried-none : {W : ℕ} {start : Session} {fs : List Input} (c : Counts) (es : List Operation) (k : ℕ) (e : Ending) →
+follows-none : {W : ℕ} {start : Session} {fs : List Input} (c : Counts) (es : List Operation) (k : ℕ) (e : Ending) →
     ((qs : List Process) (b : List ℕ) → endingBuffer e qs b ≡ decidedBytes qs) →
-    Carried W start fs c es k (ran k (machine W start fs) c e)
-carried-none c es k e made = record { count = 0; carried = omega arith; session = refl; made = made }
+    Follows W start fs c es k (ran k (machine W start fs) c e)
+follows-none c es k e made = record { count = 0; carried = omega arith; session = refl; counts = refl; made = made }
 
-run-carried : (W : ℕ) (start : Session) (fs : List Input) (b k : ℕ) (c : Counts) (es : List Operation) →
-    Carried W start fs c es k (runFrom W b k (machine W start fs) c es)
+run-follows-from : (W : ℕ) (start : Session) (fs : List Input) (b k : ℕ) (c : Counts) (es : List Operation) →
+    Follows W start fs c es k (runFrom W b k (machine W start fs) c es)
 unfolding runBy
-run-carried W start fs b k c [] = carried-none c [] k Finished (λ qs b. refl)
-run-carried W start fs zero k c (e ∷ es) = carried-none c (e ∷ es) k BudgetEnded (λ qs b. refl)
-run-carried W start fs (suc b) k c (e ∷ es) =
+run-follows-from W start fs b k c [] = follows-none c [] k Finished (λ qs b. refl)
+run-follows-from W start fs zero k c (e ∷ es) = follows-none c (e ∷ es) k BudgetEnded (λ qs b. refl)
+run-follows-from W start fs (suc b) k c (e ∷ es) =
     let a = perform W (machine W start fs) c e in
-    cond-cases (Carried W start fs c (e ∷ es) k) (eqb (a .code) 0)
+    cond-cases (Follows W start fs c (e ∷ es) k) (eqb (a .code) 0)
     (λ z.
-    let r = run-carried W start (record { operation = e; counts = c } ∷ fs) b (suc k) (a .counts) es in
-    record { count = suc (r .count); carried = omega (arith, r .carried); session = r .session; made = r .made })
-    (λ z. carried-none c (e ∷ es) k (Refused (a .code) k) (λ qs b. refl))
+    let r = run-follows-from W start (record { operation = e; counts = c } ∷ fs) b (suc k) (a .counts) es in
+    record { count = suc (r .count); carried = omega (arith, r .carried); session = r .session; counts = r .counts; made = r .made })
+    (λ z. follows-none c (e ∷ es) k (Refused (a .code) k) (λ qs b. refl))
 
 -- ---- a sheet
 
@@ -137,15 +145,21 @@ module _ (t : List ℕ) (budget : ℕ) (ok : sheetRefusal serverLimits t ≡ 0) 
   pub run-never-three : (k : ℕ) → run t budget .ending ≡ Refused 3 k → ⊥
   run-never-three k e = never-three-runs wide budget 0 noCounts (entries t) k (sheet-reached .1) (rw run-accepted at e)
 
-  -- The session that a run leaves is the machine's, after the entries that were carried out.
-  run-follows : Carried (windowOf t) (openedBy t) [] noCounts (entries t) 0 (run t budget)
-  run-follows = rw run-accepted (run-carried (windowOf t) (openedBy t) [] budget 0 noCounts (entries t))
+  -- The session and the counts that a run leaves are the machine's, after the entries that were carried out.
+  run-follows : Follows (windowOf t) (openedBy t) [] noCounts (entries t) 0 (run t budget)
+  run-follows = rw run-accepted (run-follows-from (windowOf t) (openedBy t) [] budget 0 noCounts (entries t))
 
   pub run-machine : run t budget .session ≡ machine (windowOf t) (openedBy t) (runInputs t budget)
   run-machine =
       let m = run-follows in
       let e : run t budget .carried ≡ m .count = omega (arith, m .carried) in
       rw e (m .session)
+
+  pub run-counts : run t budget .counts ≡ countsLeft (windowOf t) (openedBy t) noCounts (take (run t budget .carried) (entries t)) []
+  run-counts =
+      let m = run-follows in
+      let e : run t budget .carried ≡ m .count = omega (arith, m .carried) in
+      rw e (m .counts)
 
   -- So the rule holds of it.
   pub run-rule : Rule (run t budget .session) (past (windowOf t) (openedBy t) (runInputs t budget))

@@ -22,12 +22,12 @@ use Rattle.theory_past.specs.Registers.{WrittenTo, wrote-top, last-above, last-
 use Rattle.theory_walk.specs.Place.{Found, Finished, Placed, PlacedAt}
 
 -- A register that is found filled is not above the highest written round.
-pub filled-below : (h : List Event) (j x : ℕ) → x ≡ last h j → (x ≡ 0 → ⊥) → j ≤ top h
+filled-below : (h : List Event) (j x : ℕ) → x ≡ last h j → (x ≡ 0 → ⊥) → j ≤ top h
 filled-below h j x e n =
     by-cases (decLe j (top h)) (λ y. y) (λ y. absurd (n (e ∙ last-above h j (omega arith))))
 
 -- A register that is found blank is above the highest written round.
-pub blank-above : {W n : ℕ} {h : List Event} → Lawful W n h → (j x : ℕ) → 1 ≤ j → x ≡ last h j → x ≡ 0 → top h < j
+blank-above : {W n : ℕ} {h : List Event} → Lawful W n h → (j x : ℕ) → 1 ≤ j → x ≡ last h j → x ≡ 0 → top h < j
 blank-above {h = h} l j x a e z =
     by-cases (decLe j (top h)) (λ y. absurd (omega (arith, l .filled j a y))) (λ y. omega arith)
 

@@ -52,7 +52,7 @@ walked-more {m} {r} {v} {h} x c =
     last-one e i b = rw b (c e)
 
 -- The whole window compared: the round is over.
-pub walked-finished : {W m r v : ℕ} {h : List Event} → Walked m r v h → min r W ≤ m → Finished W r v h
+walked-finished : {W m r v : ℕ} {h : List Event} → Walked m r v h → min r W ≤ m → Finished W r v h
 walked-finished {W} {m} {r} {v} {h} x a =
     record {
       reached = x .reached;
@@ -62,7 +62,7 @@ walked-finished {W} {m} {r} {v} {h} x a =
     }
 
 -- "Go on" after distance i was compared.
-pub go-on-placed : (W p r v i : ℕ) (h : List Event) → Proposed v h → Walked (i + 1) r v h → Placed W p r v (goOn W r i) h
+go-on-placed : (W p r v i : ℕ) (h : List Event) → Proposed v h → Walked (i + 1) r v h → Placed W p r v (goOn W r i) h
 unfolding goOn
 go-on-placed W p r v i h a x =
     cond-cases (λ (φ : Phase). Placed W p r v φ h) (ltb (i + 1) (min r W))

@@ -20,7 +20,7 @@ use Rattle.theory_walk.specs.Place.{Placed, Stands}
 use Rattle.theory_walk.specs.Stays.{SpareAll}
 
 -- A committed value was proposed.
-pub committed-proposed : {W n v : ℕ} {h : List Event} → Lawful W n h → IsCommitted v h → Proposed v h
+committed-proposed : {W n v : ℕ} {h : List Event} → Lawful W n h → IsCommitted v h → Proposed v h
 committed-proposed l c = happened-past (past-before (c .1 .past)) (l .commits (c .1 .past) .proposed)
 
 -- A decided value was committed.

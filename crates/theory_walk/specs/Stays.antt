@@ -43,11 +43,11 @@ module _ {h h′ : List Event} (q : Past h h′) where
       }
 
 -- A later flag is of no lower epoch than a round that was reached.
-pub unflagged-event : {m r : ℕ} {x : Event} {h : List Event} → r ≤ top h → Unflagged m r h → Unflagged m r (x ∷ h)
+unflagged-event : {m r : ℕ} {x : Event} {h : List Event} → r ≤ top h → Unflagged m r h → Unflagged m r (x ∷ h)
 unflagged-event {r = r} {h = h} a u i e b f = ⊎-elim (λ c. omega arith) (λ g. u i e b g) (flagged-cases f)
 
 -- What the checks tell of m rounds up to r.
-abbrev pub Checked : (W m r v : ℕ) → List Event → Type 0
+abbrev Checked : (W m r v : ℕ) → List Event → Type 0
 Checked W m r v h = Proposed v h × Finished W r v h × Unflagged m r h
 
 -- An event keeps what the checks tell.

@@ -1,5 +1,7 @@
 // One public operation called many times over, for bench/run.sh. Standard input: a byte, the operation, and the number of calls, 32 bits,
 // low byte first. Standard output: a number that comes of the answers, so that no call can be left out.
+ghost use mathlib.Core.Path.{_≡_};
+ghost use Rattle.model.specs.Public.{step as stepOf, learn as learnOf};
 use model::Counts;
 use model::Session;
 use session_change::crash;
@@ -8,8 +10,6 @@ use session_open::open;
 use session_read::decision;
 use session_read::process_record;
 use session_read::register;
-use session_step::learn;
-use session_step::step;
 use session_values::standing_values;
 use std::num::wrapping_add_u32;
 
@@ -20,6 +20,23 @@ fn proposed() -> Session {
         s = propose(s, p, 1 + p as u32).session;
     }
     s
+}
+
+// A work turn and a look, each with a tally of its own that is lent, as a caller lends it.
+fn step(s: Session, p: usize, leader: bool, c: Counts) -> Session
+    ensures { λ r. ⌜ r ≡ stepOf s p leader c .session ⌝ }
+{
+    let mut counts = c;
+    let answer = session_step_lent::step(s, p, leader, &mut counts);
+    answer.session
+}
+
+fn learn(s: Session, p: usize, c: Counts) -> Session
+    ensures { λ r. ⌜ r ≡ learnOf s p c .session ⌝ }
+{
+    let mut counts = c;
+    let answer = session_step_lent::learn(s, p, &mut counts);
+    answer.session
 }
 
 // Operations 0 to 5, whose answers hold a session: each is kept, as a caller keeps it. The calls are made on the same session, so that each is
@@ -37,9 +54,9 @@ fn changed(operation: u8, count: u32, start: Session) -> u32 {
         after = match operation {
             0 => open(8, 256).session,
             1 => propose(s, 7, 8).session,
-            2 => step(s, 0, false, c).session,
-            3 => step(s, 0, true, c).session,
-            4 => learn(s, 0, c).session,
+            2 => step(s, 0, false, c),
+            3 => step(s, 0, true, c),
+            4 => learn(s, 0, c),
             _ => crash(s, 0).session,
         };
     }

@@ -14,7 +14,7 @@ use Rattle.model.specs.declared.Ending.{Ending}
 use Rattle.model.specs.declared.Ending.the-variants.{Finished, Refused, BudgetEnded, Rejected}
 use Rattle.model.specs.declared.Ran.{Ran}
 use Rattle.model.specs.Board.{maxProcesses, highestFilled}
-use Rattle.model_report.specs.Report.{bytes, decimal, field, newline, outcomeLine, tallyLine, boardLine, statusWords, seatLine, seatLines}
+use Rattle.model_report.specs.Report.{bytes, field, outcomeLine, tallyLine, boardLine, statusWords, seatLine, seatLines}
 use Rattle.model_report.specs.Report.{moreLines, reportOf}
 use Rattle.use_text.specs.Page.{pageSize}
 use Rattle.use_text.specs.Numbers.{digits-length}

@@ -29,33 +29,12 @@ returns : tie.Need-returns
 unfolding exportCode exportBuffer
 returns c = (rw (ne-eqb _ 256 (c .if1 .taken)), rw (ne-eqb _ 256 (c .if1 .taken)))
 
-run-requires : tie.Need-run-requires
-run-requires c κs = search needs
-
-enum-told : tie.Need-enum-told
-enum-told c = search needs
-
-enum-known-ending : tie.Need-enum-known-ending
-enum-known-ending c = search needs
-
-enum-told-2 : tie.Need-enum-told-2
-enum-told-2 c = search needs
-
-enum-known-ending-2 : tie.Need-enum-known-ending-2
-enum-known-ending-2 c = search needs
-
 returns-2 : tie.Need-returns-2
 returns-2 c =
     let a = c .before .before .before in
     let size = a .before .if1 .left in
     let e = c .before .ending2 .given .1 in
     (answered _ _ _ size (a .run .ensures) (rw e), leaves _ _ _ size (a .run .ensures) (rw e))
-
-put-decided-requires : tie.Need-put-decided-requires
-put-decided-requires c κs = search needs
-
-same-length : tie.Need-same-length
-same-length c = search needs
 
 -- A session was made: by each of the three arms that come here.
 returns-3 : tie.Need-returns-3
@@ -76,5 +55,5 @@ returns-3 c =
 pub janus-run-spec : {M : Type 1} → statement M
 janus-run-spec =
     tie.close
-    (tie.spec returns run-requires enum-told enum-known-ending enum-told-2 enum-known-ending-2 returns-2
-    put-decided-requires same-length returns-3)
+    (tie.spec returns (λ c κs. search needs) (λ c. search needs) (λ c. search needs) (λ c. search needs) (λ c. search needs) returns-2
+    (λ c κs. search needs) (λ c. search needs) returns-3)

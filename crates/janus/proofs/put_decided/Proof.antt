@@ -31,27 +31,6 @@ sized f l n h = sym (length-map l f) ∙ h
 loop-holds : tie.Need-loop-holds Inv-loop μ-loop
 loop-holds c = (omega arith, search (needs, sized), search needs, search needs, refl)
 
-mul-q : tie.Need-mul-q Inv-loop μ-loop
-mul-q c = search needs
-
-element-copy-out-q : tie.Need-element-copy-out-q Inv-loop μ-loop
-element-copy-out-q c = search needs
-
-enum-told : tie.Need-enum-told Inv-loop μ-loop
-enum-told c = search needs
-
-mul-put32 : tie.Need-mul-put32 Inv-loop μ-loop
-mul-put32 c = search needs
-
-put32-requires : tie.Need-put32-requires Inv-loop μ-loop
-put32-requires c κs = search needs
-
-add-p : tie.Need-add-p Inv-loop μ-loop
-add-p c = search needs
-
-loop-less : tie.Need-loop-less Inv-loop μ-loop
-loop-less c = search needs
-
 loop-again : tie.Need-loop-again Inv-loop μ-loop
 loop-again c =
     let call = c .before .before in
@@ -69,9 +48,6 @@ loop-again c =
       call .put32 .ensures ∙ rw (value, h .4) (filled-more (a .t1 .processes) (a .buffer .now) (l .loop .p) idle (omega arith) (omega arith)),
     )
 
-same-length : tie.Need-same-length Inv-loop μ-loop
-same-length c = search needs
-
 returns : tie.Need-returns Inv-loop μ-loop
 returns c =
     let a = c .before .before .before .args in
@@ -80,5 +56,5 @@ returns c =
 pub put-decided-spec : {M : Type 1} → statement M
 put-decided-spec =
     tie.close
-    (tie.spec Inv-loop μ-loop loop-holds mul-q element-copy-out-q enum-told mul-put32 put32-requires add-p
-    loop-less loop-again same-length returns)
+    (tie.spec Inv-loop μ-loop loop-holds (λ c. search needs) (λ c. search needs) (λ c. search needs) (λ c. search needs) (λ c κs. search needs)
+    (λ c. search needs) (λ c. search needs) loop-again (λ c. search needs) returns)

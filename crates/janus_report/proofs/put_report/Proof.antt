@@ -5,9 +5,6 @@ use borrow.Author.Needs.{needs}
 use Rattle.janus_report.proofs.put_report.Statement.{statement}
 use Rattle.janus_report.proofs.put_report.Tie as tie
 
-report-requires : tie.Need-report-requires
-report-requires c κs = search needs
-
 returns : tie.Need-returns
 returns c =
     let t = c .before in
@@ -21,13 +18,7 @@ returns-2 c =
     let w = written _ _ (t .0 .0) _ (t .1) (e .if1 .left) in
     (w .0, done .copy .ensures ∙ w .1)
 
-copy-requires : tie.Need-copy-requires
-copy-requires c κs = search needs
-
-same-length : tie.Need-same-length
-same-length c = search needs
-
 pub put-report-spec : {M : Type 1} → statement M
 put-report-spec =
     tie.close
-    (tie.spec report-requires returns copy-requires same-length returns-2)
+    (tie.spec (λ c κs. search needs) returns (λ c κs. search needs) (λ c. search needs) returns-2)

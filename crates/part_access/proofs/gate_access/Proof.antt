@@ -9,8 +9,5 @@ pub gate-access-spec : {M : Type 1} → statement M
 unfolding accessAt
 gate-access-spec =
     tie.close
-    (tie.spec
-    (λ c. search needs)
-    (λ c. simp (c .before .if1 .taken, lt-ltb _ _ (c .if2 .taken)))
-    (λ c. simp (c .before .if1 .taken, le-ltb _ _ (c .if2 .left)))
-    (λ c. simp (c .if1 .left)))
+    (tie.spec (λ c. search needs) (λ c. simp (c .before .if1 .taken, lt-ltb _ _ (c .if2 .taken)))
+    (λ c. simp (c .before .if1 .taken, le-ltb _ _ (c .if2 .left))) (λ c. simp (c .if1 .left)))

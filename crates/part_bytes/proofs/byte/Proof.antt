@@ -6,9 +6,6 @@ use borrow.Author.Needs.{needs}
 use Rattle.part_bytes.proofs.byte.Statement.{statement}
 use Rattle.part_bytes.proofs.byte.Tie as tie
 
-shared-slice-read-result : tie.Need-shared-slice-read-result
-shared-slice-read-result c = search needs
-
 returns : tie.Need-returns
 returns c = refl
 
@@ -20,4 +17,4 @@ returns-2 c =
 pub byte-spec : {M : Type 1} → statement M
 byte-spec =
     tie.close
-    (tie.spec shared-slice-read-result returns returns-2)
+    (tie.spec (λ c. search needs) returns returns-2)

@@ -4,14 +4,8 @@ use borrow.Author.Needs.{needs}
 use Rattle.part_bytes.proofs.number16.Statement.{statement}
 use Rattle.part_bytes.proofs.number16.Tie as tie
 
-mul-result : tie.Need-mul-result
-mul-result c = search needs
-
-add-result : tie.Need-add-result
-add-result c = search needs
-
 returns : tie.Need-returns
 returns c = refl
 
 pub number16-spec : {M : Type 1} → statement M
-number16-spec = tie.close (tie.spec mul-result add-result returns)
+number16-spec = tie.close (tie.spec (λ c. search needs) (λ c. search needs) returns)

@@ -11,22 +11,10 @@ returns c =
     let a = c .before .before .args in
     sym (word16-beyond (now (a .s)) (a .i) (c .if1 .taken))
 
-shared-slice-read-low : tie.Need-shared-slice-read-low
-shared-slice-read-low c = search needs
-
-add-byte : tie.Need-add-byte
-add-byte c = search needs
-
-byte-requires : tie.Need-byte-requires
-byte-requires c κs = search needs
-
-number16-requires : tie.Need-number16-requires
-number16-requires c κs = search needs
-
 returns-2 : tie.Need-returns-2
 returns-2 c = rw (c .number16 .ensures, c .before .byte .ensures)
 
 pub word16-spec : {M : Type 1} → statement M
 word16-spec =
     tie.close
-    (tie.spec returns shared-slice-read-low add-byte byte-requires number16-requires returns-2)
+    (tie.spec returns (λ c. search needs) (λ c. search needs) (λ c κs. search needs) (λ c κs. search needs) returns-2)

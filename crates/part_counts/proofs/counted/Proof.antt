@@ -17,15 +17,11 @@ pub counted-spec : {M : Type 1} → statement M
 unfolding counted
 counted-spec =
     tie.close
-    (tie.spec
-    (λ c κs. search needs)
-    (λ c. simp (sym (c .before .full .ensures) ∙ c .if1 .taken))
-    (λ c. omega (arith, room _ (unfull (c .before))))
-    (λ c. omega (arith, room _ (unfull (c .before .before))))
-    (λ c. search needs) (λ c. search needs) (λ c κs. search needs) (λ c. search needs) (λ c κs. search needs)
-    (λ c. search needs) (λ c κs. search needs) (λ c. search needs)
-    (λ c. omega (arith, room _ (unfull (c .before .before .before .before .before))))
-    (λ c κs. search needs) (λ c. search needs) (λ c κs. search needs) (λ c. search needs) (λ c κs. search needs)
+    (tie.spec (λ c κs. search needs) (λ c. simp (sym (c .before .full .ensures) ∙ c .if1 .taken)) (λ c. omega (arith, room _ (unfull (c .before))))
+    (λ c. omega (arith, room _ (unfull (c .before .before)))) (λ c. search needs) (λ c. search needs) (λ c κs. search needs) (λ c. search needs)
+    (λ c κs. search needs) (λ c. search needs) (λ c κs. search needs) (λ c. search needs)
+    (λ c. omega (arith, room _ (unfull (c .before .before .before .before .before)))) (λ c κs. search needs) (λ c. search needs)
+    (λ c κs. search needs) (λ c. search needs) (λ c κs. search needs)
     (λ c. counts-one _ _ (unfull (c .before .before .before .before)) (c .enum-told .given .1) refl)
     (λ c. counts-one _ _ (unfull (c .before .before .before .before .before))
     (c .before .enum-told2 .given .1) (c .counts .ensures))

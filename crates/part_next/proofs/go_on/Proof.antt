@@ -1,6 +1,6 @@
 -- `part_next::go_on` meets its contract. Assumes nothing.
-use mathlib.Core.Path.{_≡_, sym, _∙_}
-use Prim.Native.Nat.{_+_, min}
+use mathlib.Core.Path.{_≡_, refl, sym, _∙_}
+use Prim.Native.Nat.{_+_, _<_, min}
 use lib.Dec.{ltb}
 use native.Mathlib.Omega.{arith}
 use borrow.Author.Needs.{needs}
@@ -16,14 +16,25 @@ answer :
     ltb (a .i + 1) (min (a .round) (a .window)) ≡ c .more .result
 answer c = sym (rw (c .before .least .ensures) at (c .more .ensures))
 
-pub go-on-spec : {M : Type 1} → statement M
+-- Where `more` says so, the sum is below the smaller of the two, so it fits.
+below : (c : tie.Then1) → let a = c .before .before .before .args in a .i + 1 < min (a .round) (a .window)
+below c = ltb-true _ _ (answer (c .before) ∙ c .if1 .taken)
+
+compare : tie.Need-returns
 unfolding goOn
-go-on-spec =
-    tie.close
-    (tie.spec
-    (λ c κs. search needs) (λ c κs. search needs)
-    (λ c. let a = c .before .before .before .args in
-    omega (arith, ltb-true (a .i + 1) (min (a .round) (a .window)) (answer (c .before) ∙ c .if1 .taken)))
-    (λ c. simp (answer (c .before) ∙ c .if1 .taken))
-    (λ c. simp (answer (c .before .before) ∙ c .before .if1 .left, le-leb _ _ (c .if2 .taken)))
-    (λ c. simp (answer (c .before .before) ∙ c .before .if1 .left, lt-leb _ _ (c .if2 .left))))
+compare c = simp (answer (c .before) ∙ c .if1 .taken) refl
+
+check : tie.Need-returns-2
+unfolding goOn
+check c =
+    let a = c .before .before .before .before .args in
+    simp (answer (c .before .before) ∙ c .before .if1 .left, le-leb (a .window) (a .round) (c .if2 .taken)) refl
+
+wait : tie.Need-returns-3
+unfolding goOn
+wait c =
+    let a = c .before .before .before .before .args in
+    simp (answer (c .before .before) ∙ c .before .if1 .left, lt-leb (a .window) (a .round) (c .if2 .left)) refl
+
+pub go-on-spec : {M : Type 1} → statement M
+go-on-spec = tie.close (tie.spec (search needs) (search needs) (λ c. omega (arith, below c)) compare check wait)

@@ -12,9 +12,8 @@ pub lead-spec : {M : Type 1} → statement M
 unfolding nextAt
 lead-spec =
     tie.close
-    (tie.spec
-    (λ c. search needs) (λ c κs. search needs) (λ c. search needs) (λ c κs. search needs) (λ c. search needs)
-    (λ c κs. search needs) (λ c κs. search needs)
+    (tie.spec (λ c. search needs) (λ c κs. search needs) (λ c. search needs) (λ c κs. search needs) (λ c. search needs) (λ c κs. search needs)
+    (λ c κs. search needs)
     (λ c W. simp (lt-ltb _ _ (c .before .before .if1 .taken), eq-eqb _ _ (c .before .if2 .taken))
     (c .process .ensures))
     (λ c W. simp (lt-ltb _ _ (c .before .before .before .if1 .taken), ne-eqb _ _ (c .before .before .if2 .left))

@@ -10,6 +10,4 @@ use Rattle.part_next.proofs.more.Tie as tie
 pub more-spec : {M : Type 1} → statement M
 more-spec =
     tie.close
-    (tie.spec
-    (λ c. search needs) (λ c. search needs)
-    (λ c. let a = c .before .args in sym (le-ltb (a .i + 1) (a .n) (omega arith))))
+    (tie.spec (λ c. search needs) (λ c. search needs) (λ c. let a = c .before .args in sym (le-ltb (a .i + 1) (a .n) (omega arith))))

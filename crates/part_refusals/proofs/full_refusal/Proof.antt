@@ -7,7 +7,5 @@ use Rattle.part_refusals.proofs.full_refusal.Tie as tie
 pub full-refusal-spec : {M : Type 1} → statement M
 full-refusal-spec =
     tie.close
-    (tie.spec
-    (λ c κs. search needs)
-    (λ c. simp (sym (c .before .full .ensures) ∙ c .if1 .taken))
+    (tie.spec (λ c κs. search needs) (λ c. simp (sym (c .before .full .ensures) ∙ c .if1 .taken))
     (λ c. simp (sym (c .before .full .ensures) ∙ c .if1 .left)))

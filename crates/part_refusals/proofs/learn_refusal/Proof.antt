@@ -7,10 +7,8 @@ use Rattle.part_refusals.proofs.learn_refusal.Tie as tie
 pub learn-refusal-spec : {M : Type 1} → statement M
 learn-refusal-spec =
     tie.close
-    (tie.spec
-    (λ c κs. search needs) (λ c. search needs) (λ c. search needs) (λ c. search needs) (λ c κs. search needs)
-    (λ c. search needs) (λ c κs. search needs)
-    (λ c. rw (sym (c .before .before .status .ensures) ∙ c .enum-told .given .1) refl)
+    (tie.spec (λ c κs. search needs) (λ c. search needs) (λ c. search needs) (λ c. search needs) (λ c κs. search needs) (λ c. search needs)
+    (λ c κs. search needs) (λ c. rw (sym (c .before .before .status .ensures) ∙ c .enum-told .given .1) refl)
     (λ c. rw (sym (c .before .before .status .ensures) ∙ c .enum-told2 .given .1) refl)
     (λ c. rw (sym (c .before .before .before .status .ensures) ∙ c .before .enum-told3 .given .1) (c .full-refusal .ensures))
     (λ c. rw (sym (c .before .before .before .status .ensures) ∙ c .before .enum-told4 .given .1) (c .full-refusal2 .ensures)))

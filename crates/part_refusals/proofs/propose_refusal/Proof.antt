@@ -25,7 +25,5 @@ returns-5 c =
 pub propose-refusal-spec : {M : Type 1} → statement M
 propose-refusal-spec =
     tie.close
-    (tie.spec
-    (λ c. rw (eq-eqb _ _ (c .if1 .taken)) refl)
-    (λ c κs. search needs) (λ c. search needs) (λ c. search needs) (λ c. search needs) (λ c. search needs)
-    returns-2 returns-3 returns-4 returns-5)
+    (tie.spec (λ c. rw (eq-eqb _ _ (c .if1 .taken)) refl) (λ c κs. search needs) (λ c. search needs) (λ c. search needs) (λ c. search needs)
+    (λ c. search needs) returns-2 returns-3 returns-4 returns-5)

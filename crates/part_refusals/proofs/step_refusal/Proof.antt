@@ -7,9 +7,7 @@ use Rattle.part_refusals.proofs.step_refusal.Tie as tie
 pub step-refusal-spec : {M : Type 1} → statement M
 step-refusal-spec =
     tie.close
-    (tie.spec
-    (λ c κs. search needs) (λ c. search needs) (λ c. search needs) (λ c. search needs) (λ c. search needs)
-    (λ c κs. search needs)
+    (tie.spec (λ c κs. search needs) (λ c. search needs) (λ c. search needs) (λ c. search needs) (λ c. search needs) (λ c κs. search needs)
     (λ c. rw (sym (c .before .before .status .ensures) ∙ c .enum-told .given .1) refl)
     (λ c. rw (sym (c .before .before .status .ensures) ∙ c .enum-told2 .given .1) refl)
     (λ c. rw (sym (c .before .before .status .ensures) ∙ c .enum-told3 .given .1) refl)

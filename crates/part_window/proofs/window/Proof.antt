@@ -48,14 +48,4 @@ returns c = omega (arith, c .before .loop .inv .1, root-found (c .before .before
 pub window-spec : {M : Type 1} → statement M
 window-spec =
     tie.close
-    (tie.spec
-    Inv-loop
-    μ-loop
-    loop-holds
-    mul-loop
-    add-m
-    loop-less
-    loop-again
-    mul-result
-    add-result
-    returns)
+    (tie.spec Inv-loop μ-loop loop-holds mul-loop add-m loop-less loop-again mul-result add-result returns)

@@ -27,24 +27,12 @@ by-server {most} {k} t n L m e refused accepted =
     let f : k ≡ refusal (openTests serverLimits n L) = e ∙ ap (λ (l : Limits). refusal (openTests l n L)) m in
     rw (← f) (answered k t (opened 0 0) (opened n L) refused accepted)
 
-server-requires : tie.Need-server-requires
-server-requires c κs = search needs
-
-open-refusal-requires : tie.Need-open-refusal-requires
-open-refusal-requires c κs = search needs
-
-opened-requires : tie.Need-opened-requires
-opened-requires c κs = search needs
-
 returns : tie.Need-returns
 returns c =
     let code = c .before .before in
     let a = code .before .before .args in
     by-server _ (a .n) (a .limit) (code .before .server .ensures) (code .open-refusal .ensures)
     (λ k. c .opened .ensures) (λ e. absurd (c .before .if1 .taken e))
-
-opened-requires-2 : tie.Need-opened-requires-2
-opened-requires-2 c κs = search needs
 
 returns-2 : tie.Need-returns-2
 returns-2 c =
@@ -56,4 +44,4 @@ returns-2 c =
 pub open-spec : {M : Type 1} → statement M
 open-spec =
     tie.close
-    (tie.spec server-requires open-refusal-requires opened-requires returns opened-requires-2 returns-2)
+    (tie.spec (λ c κs. search needs) (λ c κs. search needs) (λ c κs. search needs) returns (λ c κs. search needs) returns-2)

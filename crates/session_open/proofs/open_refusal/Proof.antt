@@ -31,12 +31,6 @@ module _ (most : Limits) (n L : ℕ) where
     none : not (leb W L && leb L (most .rounds)) ≡ false → 0 ≡ refusal (openTests most n L)
     none q = rw (p, ← w, q)
 
-cast-processes : tie.Need-cast-processes
-cast-processes c = search needs
-
-cast-rounds : tie.Need-cast-rounds
-cast-rounds c = search needs
-
 returns : tie.Need-returns
 returns c =
     let a = c .before .before .before .args in
@@ -46,9 +40,6 @@ cast-window : tie.Need-cast-window
 cast-window c =
     let a = c .before .before .before .args in
     omega (arith, few (a .most) (a .n) (a .limit) (c .if1 .left))
-
-window-requires : tie.Need-window-requires
-window-requires c κs = search needs
 
 returns-2 : tie.Need-returns-2
 returns-2 c =
@@ -64,4 +55,4 @@ returns-3 c =
 
 pub open-refusal-spec : {M : Type 1} → statement M
 open-refusal-spec =
-    tie.close (tie.spec cast-processes cast-rounds returns cast-window window-requires returns-2 returns-3)
+    tie.close (tie.spec (λ c. search needs) (λ c. search needs) returns cast-window (λ c κs. search needs) returns-2 returns-3)

@@ -19,9 +19,12 @@ module _ (s : Session) {b : Bool} (told : b ≡ sound s) where
   unfolding decision
   unsound p = rw (sym told, p)
 
+told : tie.Need-returns
+told c = found (c .before .before .args .s) (c .before .sound .ensures) (c .if1 .taken)
+
+-- 3
+damaged : tie.Need-returns-2
+damaged c = unsound (c .before .before .args .s) (c .before .sound .ensures) (c .if1 .left)
+
 pub decision-spec : {M : Type 1} → statement M
-decision-spec =
-    tie.close
-    (tie.spec (λ c κs. search needs)
-    (λ c. found (c .before .before .args .s) (c .before .sound .ensures) (c .if1 .taken))
-    (λ c. unsound (c .before .before .args .s) (c .before .sound .ensures) (c .if1 .left)))
+decision-spec = tie.close (tie.spec (search needs) told damaged)

@@ -28,32 +28,41 @@ module _ (s : Session) (p : ℕ) {b : Bool} (told : b ≡ sound s) where
     unfolding processRecord
     no-process h = rw (is-sound, le-leb (s .n) p h)
 
-    low : p < s .n → p < 64
-    low h = omega (arith, sound-few s is-sound)
+    few : s .n ≤ 64
+    few = sound-few s is-sound
 
     found : p < s .n → _≡_ {A = ProcessAnswer} (record { code = 0; process = processAt s p }) (processRecord s p)
     unfolding processRecord
     found h = rw (is-sound, lt-leb (s .n) p h)
 
+told : tie.Need-returns-3
+told c =
+    let d = c .before .before .before in
+    found (d .before .args .t1) (d .before .args .p) (d .sound .ensures) (c .before .before .if1 .left)
+    (omega (arith, c .before .if2 .left))
+
+-- 4
+none : tie.Need-returns-2
+none c =
+    let d = c .before .before .before in
+    c .no-record2 .ensures
+    ∙ no-process (d .before .args .t1) (d .before .args .p) (d .sound .ensures) (c .before .before .if1 .left)
+    (omega (arith, c .before .if2 .taken))
+
+-- 3
+damaged : tie.Need-returns
+damaged c =
+    let d = c .before .before in
+    c .no-record .ensures ∙ unsound (d .before .args .t1) (d .before .args .p) (d .sound .ensures) (c .before .if1 .taken)
+
 -- Past both tests the process is one of the 64.
 index : (c : tie.Else2) → c .before .before .before .args .p < 64
 index c =
     let a = c .before .before .before .args in
-    low (a .t1) (a .p) (c .before .before .sound .ensures) (c .before .if1 .left) (omega (arith, c .if2 .left))
+    omega (arith, few (a .t1) (a .p) (c .before .before .sound .ensures) (c .before .if1 .left), c .if2 .left)
 
 -- In the order of the code: the two tests with their answers, then the record's address and index.
 pub process-record-spec : {M : Type 1} → statement M
 process-record-spec =
     tie.close
-    (tie.spec (λ c κs. search needs) (λ c κs. search needs)
-    (λ c. let d = c .before .before in
-    c .no-record .ensures ∙ unsound (d .before .args .t1) (d .before .args .p) (d .sound .ensures) (c .before .if1 .taken))
-    (λ c κs. search needs)
-    (λ c. let d = c .before .before .before in
-    c .no-record2 .ensures
-    ∙ no-process (d .before .args .t1) (d .before .args .p) (d .sound .ensures) (c .before .before .if1 .left)
-    (omega (arith, c .before .if2 .taken)))
-    (λ c. omega (arith, index c)) (λ c. omega (arith, index c))
-    (λ c. let d = c .before .before .before in
-    found (d .before .args .t1) (d .before .args .p) (d .sound .ensures) (c .before .before .if1 .left)
-    (omega (arith, c .before .if2 .left))))
+    (tie.spec (search needs) (search needs) damaged (search needs) none (λ c. omega (arith, index c)) (λ c. omega (arith, index c)) told)

@@ -5,7 +5,7 @@ use mathlib.Core.Bool.{Bool, true, false, not, _&&_}
 use native.Mathlib.Omega.{arith}
 use lib.Dec.{leb}
 use borrow.Author.Needs.{needs}
-use borrow.Author.Tests.{leb-true, not-true, not-false}
+use borrow.Author.Tests.{leb-true, not-false}
 use Rattle.base.specs.Bools.{and-left, and-right}
 use Rattle.model.specs.declared.Session.{Session}
 use Rattle.model.specs.declared.RegisterAnswer.{RegisterAnswer}
@@ -43,6 +43,22 @@ module _ (s : Session) (r : ℕ) {b : Bool} (told : b ≡ sound s) where
       unfolding register
       found = rw (is-sound, q)
 
+told : tie.Need-returns-3
+told c =
+    let d = c .before .before in
+    let a = d .before .before .before .args in
+    found (a .t1) (a .round) (d .before .before .sound .ensures) (d .before .if1 .left) (d .if2 .left)
+
+-- 14
+none : tie.Need-returns-2
+none c =
+    let a = c .before .before .before .args in
+    no-round (a .t1) (a .round) (c .before .before .sound .ensures) (c .before .if1 .left) (c .if2 .taken)
+
+-- 3
+damaged : tie.Need-returns
+damaged c = unsound (c .before .before .args .t1) (c .before .before .args .round) (c .before .sound .ensures) (c .if1 .taken)
+
 -- Past both tests the round is 1 to L, which is at most 256.
 within : (c : tie.Else2)
     → (1 ≤ c .before .before .before .args .round)
@@ -56,10 +72,5 @@ within c =
 pub register-spec : {M : Type 1} → statement M
 register-spec =
     tie.close
-    (tie.spec (λ c κs. search needs)
-    (λ c. unsound (c .before .before .args .t1) (c .before .before .args .round) (c .before .sound .ensures) (c .if1 .taken))
-    (λ c. let a = c .before .before .before .args in
-    no-round (a .t1) (a .round) (c .before .before .sound .ensures) (c .before .if1 .left) (c .if2 .taken))
-    (λ c. omega (arith, within c)) (λ c. omega (arith, within c)) (λ c. omega (arith, within c)) (λ c. omega (arith, within (c .before)))
-    (λ c. let d = c .before .before in let a = d .before .before .before .args in
-    found (a .t1) (a .round) (d .before .before .sound .ensures) (d .before .if1 .left) (d .if2 .left)))
+    (tie.spec (search needs) damaged none (λ c. omega (arith, within c)) (λ c. omega (arith, within c)) (λ c. omega (arith, within c))
+    (λ c. omega (arith, within (c .before))) told)

@@ -5,7 +5,7 @@ use mathlib.Core.Path.{_≡_, refl}
 use mathlib.Core.Bool.{Bool, false, not}
 use borrow.Author.Needs.{needs}
 use lib.Dec.{eqb}
-use Rattle.session_sound.proofs.Pass.{both, both-more, both-stop, both-ends}
+use Rattle.model_laws.specs.Passes.{both, both-more, both-stop, both-ends}
 use Rattle.session_sound.proofs.blank_from.Statement.{statement}
 use Rattle.session_sound.proofs.blank_from.Tie as tie
 
@@ -39,5 +39,5 @@ returns-2 c =
 pub blank-from-spec : {M : Type 1} → statement M
 blank-from-spec =
     tie.close
-    (tie.spec Inv-loop μ-loop (λ c. refl) (λ c. search needs) (λ c. search needs) (λ c. search needs) returns (λ c. search needs)
-    (λ c. search needs) loop-again returns-2)
+    (tie.spec Inv-loop μ-loop (λ c. refl) (λ c. search needs) (λ c. search needs) (λ c. search needs) returns (λ c. search needs) (λ c. search needs)
+    loop-again returns-2)

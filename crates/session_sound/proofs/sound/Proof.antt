@@ -8,9 +8,9 @@ use borrow.Author.Tests.{not-false}
 use lib.ListN.{length}
 use Rattle.model.specs.Board.{idle}
 use Rattle.model.specs.Sound.{soundProcess, sound}
-use Rattle.session_sound.proofs.Sized.{length-mapped}
-use Rattle.session_sound.proofs.Pass.{rest, more, stop, ends}
-use Rattle.session_sound.proofs.Clauses.{outside, few, processes-fail, rounds-fail, records-left}
+use Rattle.base.specs.Arrays.{length-mapped}
+use Rattle.model_laws.specs.Passes.{rest, more, stop, ends}
+use Rattle.model_laws.specs.SoundTests.{outside, few, processes-fail, rounds-fail, records-left}
 use Rattle.session_sound.proofs.sound.Statement.{statement}
 use Rattle.session_sound.proofs.sound.Tie as tie
 
@@ -59,9 +59,6 @@ returns-4 c =
 pub sound-spec : {M : Type 1} → statement M
 sound-spec =
     tie.close
-    (tie.spec Inv-loop μ-loop
-    (λ c. processes-fail _ (c .if1 .taken))
-    (λ c. omega (arith, few (c .before .args .t1) (not-false _ (c .if1 .left))))
-    (λ c κs. search needs) (λ c κs. search needs) returns-2 loop-holds
-    (λ c. omega arith) (λ c. omega arith) (λ c κs. search needs) returns-3 (λ c. omega arith) (λ c. omega arith)
-    loop-again returns-4)
+    (tie.spec Inv-loop μ-loop (λ c. processes-fail _ (c .if1 .taken)) (λ c. omega (arith, few (c .before .args .t1) (not-false _ (c .if1 .left))))
+    (λ c κs. search needs) (λ c κs. search needs) returns-2 loop-holds (λ c. omega arith) (λ c. omega arith) (λ c κs. search needs) returns-3
+    (λ c. omega arith) (λ c. omega arith) loop-again returns-4)

@@ -8,8 +8,8 @@ use native.Mathlib.Nat.{le-antisymm}
 use native.Mathlib.Omega.{arith}
 use lib.ListN.{length, getD, take, length-set}
 use Rattle.model.specs.ReadOut.{holds, ListsOnce}
-use Rattle.session_values.specs.Distinct.{none-once}
-use Rattle.session_values.specs.Rounds.{round-old, round-new, old-blank, old-earlier, not-earlier, not-old}
+use Rattle.model_laws.specs.Listings.{none-once}
+use Rattle.model_laws.specs.ListedRounds.{round-old, round-new, old-blank, old-earlier, not-earlier, not-old}
 use Rattle.session_values.proofs.list.Statement.{statement}
 use Rattle.session_values.proofs.list.Tie as tie
 
@@ -114,9 +114,7 @@ returns c =
 pub list-spec : {M : Type 1} → statement M
 list-spec =
     tie.close
-    (tie.spec Inv-loop μ-loop Inv-rounds μ-rounds rounds-holds
-    (λ c. omega arith) (λ c. omega arith) (λ c. omega arith) (λ c. omega arith) rounds-again
-    (λ c. (refl, omega arith, refl)) (λ c. omega arith) (λ c. omega arith) (λ c. omega arith) (λ c. omega arith) rounds-again-2
-    (λ c. omega arith) (λ c. omega arith) loop-again
-    (λ c. omega arith) (λ c. omega arith) (λ c. omega arith) (λ c. omega arith) (λ c. omega arith) rounds-again-3
-    returns)
+    (tie.spec Inv-loop μ-loop Inv-rounds μ-rounds rounds-holds (λ c. omega arith) (λ c. omega arith) (λ c. omega arith) (λ c. omega arith)
+    rounds-again (λ c. (refl, omega arith, refl)) (λ c. omega arith) (λ c. omega arith) (λ c. omega arith) (λ c. omega arith) rounds-again-2
+    (λ c. omega arith) (λ c. omega arith) loop-again (λ c. omega arith) (λ c. omega arith) (λ c. omega arith) (λ c. omega arith) (λ c. omega arith)
+    rounds-again-3 returns)

@@ -16,7 +16,7 @@ use Rattle.session_values.proofs.standing_values.Tie as tie
 
 -- Past the first test the session is sound.
 is-sound : (c : tie.Else1) → sound (c .before .before .before .args .t1) ≡ true
-is-sound c = sym (c .before .sound .ensures) ∙ not-false _ (c .if1 .left)
+is-sound c = sym (c .before .sound .ensures) ∙ not-false (c .before .sound .result) (c .if1 .left)
 
 -- The listing, and its length.
 abbrev listed : tie.After-list → List ℕ

@@ -18,27 +18,6 @@ returns c =
       size-small = lit< tt;
     }
 
-mul-at : tie.Need-mul-at
-mul-at c = search needs
-
-add-at : tie.Need-add-at
-add-at c = search needs
-
-word16-requires : tie.Need-word16-requires
-word16-requires c κs = search needs
-
-cast-offset : tie.Need-cast-offset
-cast-offset c = search needs
-
-add-word16 : tie.Need-add-word16
-add-word16 c = search needs
-
-word16-requires-2 : tie.Need-word16-requires-2
-word16-requires-2 c κs = search needs
-
-cast-size : tie.Need-cast-size
-cast-size c = search needs
-
 returns-2 : tie.Need-returns-2
 returns-2 c =
     let offset = c .before .word16 in
@@ -53,5 +32,5 @@ returns-2 c =
 pub run-at-spec : {M : Type 1} → statement M
 run-at-spec =
     tie.close
-    (tie.spec returns mul-at add-at word16-requires cast-offset add-word16 word16-requires-2 cast-size
-    returns-2)
+    (tie.spec returns (λ c. search needs) (λ c. search needs) (λ c κs. search needs) (λ c. search needs) (λ c. search needs) (λ c κs. search needs)
+    (λ c. search needs) returns-2)

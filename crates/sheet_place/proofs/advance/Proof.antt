@@ -5,22 +5,10 @@ use borrow.Author.Needs.{needs}
 use Rattle.sheet_place.proofs.advance.Statement.{statement}
 use Rattle.sheet_place.proofs.advance.Tie as tie
 
-mul-if1 : tie.Need-mul-if1
-mul-if1 c = search needs
-
-sub-result : tie.Need-sub-result
-sub-result c = search needs
-
-add-result : tie.Need-add-result
-add-result c = search needs
-
 returns : tie.Need-returns
 returns c =
     let p = c .before .before .args .place in
     sym (next-within _ p (left-more p 2 (c .if1 .taken)))
-
-open-from-requires : tie.Need-open-from-requires
-open-from-requires c κs = search needs
 
 returns-2 : tie.Need-returns-2
 returns-2 c =
@@ -30,4 +18,4 @@ returns-2 c =
 pub advance-spec : {M : Type 1} → statement M
 advance-spec =
     tie.close
-    (tie.spec mul-if1 sub-result add-result returns open-from-requires returns-2)
+    (tie.spec (λ c. search needs) (λ c. search needs) (λ c. search needs) returns (λ c κs. search needs) returns-2)

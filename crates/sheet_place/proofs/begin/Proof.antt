@@ -4,9 +4,6 @@ use borrow.Author.Needs.{needs}
 use Rattle.sheet_place.proofs.begin.Statement.{statement}
 use Rattle.sheet_place.proofs.begin.Tie as tie
 
-open-from-requires : tie.Need-open-from-requires
-open-from-requires c κs = search needs
-
 returns : tie.Need-returns
 unfolding begin settled
 returns c = c .open-from .ensures
@@ -14,4 +11,4 @@ returns c = c .open-from .ensures
 pub begin-spec : {M : Type 1} → statement M
 begin-spec =
     tie.close
-    (tie.spec open-from-requires returns)
+    (tie.spec (λ c κs. search needs) returns)

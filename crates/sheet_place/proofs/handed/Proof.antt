@@ -6,12 +6,6 @@ use borrow.Author.Needs.{needs}
 use Rattle.sheet_place.proofs.handed.Statement.{statement}
 use Rattle.sheet_place.proofs.handed.Tie as tie
 
-cast-entry-at : tie.Need-cast-entry-at
-cast-entry-at c = search needs
-
-entry-at-requires : tie.Need-entry-at-requires
-entry-at-requires c κs = search needs
-
 returns : tie.Need-returns
 unfolding handed
 returns c =
@@ -27,4 +21,4 @@ returns-2 c =
 pub handed-spec : {M : Type 1} → statement M
 handed-spec =
     tie.close
-    (tie.spec cast-entry-at entry-at-requires returns returns-2)
+    (tie.spec (λ c. search needs) (λ c κs. search needs) returns returns-2)

@@ -17,32 +17,8 @@ Inv-loop s first count i₀ i =
 abbrev μ-loop : tie.MeasureT-loop
 μ-loop s first count i₀ i = count - i
 
-byte-requires : tie.Need-byte-requires Inv-loop μ-loop
-byte-requires c κs = search needs
-
-cast-count : tie.Need-cast-count Inv-loop μ-loop
-cast-count c = search needs
-
 loop-holds : tie.Need-loop-holds Inv-loop μ-loop
 loop-holds c = (rw (c .byte .ensures), c .before .before .pre, omega (arith, c .byte .ok))
-
-run-at-requires : tie.Need-run-at-requires Inv-loop μ-loop
-run-at-requires c κs = search needs
-
-mul-result : tie.Need-mul-result Inv-loop μ-loop
-mul-result c = search needs
-
-add-result : tie.Need-add-result Inv-loop μ-loop
-add-result c = search needs
-
-add-result-2 : tie.Need-add-result-2 Inv-loop μ-loop
-add-result-2 c = search needs
-
-mul-result-2 : tie.Need-mul-result-2 Inv-loop μ-loop
-mul-result-2 c = search needs
-
-add-result-3 : tie.Need-add-result-3 Inv-loop μ-loop
-add-result-3 c = search needs
 
 returns : tie.Need-returns Inv-loop μ-loop
 returns c =
@@ -51,20 +27,11 @@ returns c =
     (ap encode (at .before .before .loop .inv .0)
     ∙ open-here (at .run-at .ensures) _ (at .before .loop-test .taken) (c .before .before .if1 .taken))
 
-add-i : tie.Need-add-i Inv-loop μ-loop
-add-i c = search needs
-
-loop-less : tie.Need-loop-less Inv-loop μ-loop
-loop-less c = search needs
-
 loop-again : tie.Need-loop-again Inv-loop μ-loop
 loop-again c =
     let at = c .before .before in
     let inv = at .before .before .loop .inv in
     (inv .0 ∙ open-on (at .run-at .ensures) _ (at .before .loop-test .taken) (c .if1 .left), omega (arith, inv .2), inv .2)
-
-mul-result-3 : tie.Need-mul-result-3 Inv-loop μ-loop
-mul-result-3 c = search needs
 
 returns-2 : tie.Need-returns-2 Inv-loop μ-loop
 returns-2 c = sym (ap encode (c .before .loop .inv .0) ∙ open-none _ _ _ (c .loop-test .left))
@@ -72,5 +39,6 @@ returns-2 c = sym (ap encode (c .before .loop .inv .0) ∙ open-none _ _ _ (c .l
 pub open-from-spec : {M : Type 1} → statement M
 open-from-spec =
     tie.close
-    (tie.spec Inv-loop μ-loop byte-requires cast-count loop-holds run-at-requires mul-result add-result
-    add-result-2 mul-result-2 add-result-3 returns add-i loop-less loop-again mul-result-3 returns-2)
+    (tie.spec Inv-loop μ-loop (λ c κs. search needs) (λ c. search needs) loop-holds (λ c κs. search needs) (λ c. search needs) (λ c. search needs)
+    (λ c. search needs) (λ c. search needs) (λ c. search needs) returns (λ c. search needs) (λ c. search needs) loop-again (λ c. search needs)
+    returns-2)

@@ -18,12 +18,6 @@ returns c = rw (by-parts, lt-leb 4 _ (c .if1 .taken))
 returns-2 : tie.Need-returns-2
 returns-2 c = rw (by-parts, le-leb 4 _ (c .before .if1 .left), lt-leb _ 65535 (c .if2 .taken))
 
-byte-requires : tie.Need-byte-requires
-byte-requires c κs = search needs
-
-cast-count : tie.Need-cast-count
-cast-count c = search needs
-
 returns-3 : tie.Need-returns-3
 returns-3 c =
     let sized = c .before .before in
@@ -34,12 +28,6 @@ returns-3 c =
       ← c .before .byte .ensures,
       lt-leb _ 16 (c .if3 .taken),
     )
-
-mul-if4 : tie.Need-mul-if4
-mul-if4 c = search needs
-
-add-if4 : tie.Need-add-if4
-add-if4 c = search needs
 
 returns-4 : tie.Need-returns-4
 returns-4 c =
@@ -52,21 +40,6 @@ returns-4 c =
       le-leb _ 16 (c .before .if3 .left),
       lt-leb _ _ (c .if4 .taken),
     )
-
-byte-requires-2 : tie.Need-byte-requires-2
-byte-requires-2 c κs = search needs
-
-cast-n : tie.Need-cast-n
-cast-n c = search needs
-
-word16-requires : tie.Need-word16-requires
-word16-requires c κs = search needs
-
-cast-limit : tie.Need-cast-limit
-cast-limit c = search needs
-
-open-refusal-requires : tie.Need-open-refusal-requires
-open-refusal-requires c κs = search needs
 
 -- With a header the opening decides, and the runs where it is accepted.
 past-header : (c : tie.After-open-refusal)
@@ -91,14 +64,12 @@ past-header c =
 returns-5 : tie.Need-returns-5
 returns-5 c = rw (past-header (c .before), ne-eqb _ 0 (c .if5 .taken))
 
-runs-refusal-requires : tie.Need-runs-refusal-requires
-runs-refusal-requires c κs = search needs
-
 returns-6 : tie.Need-returns-6
 returns-6 c = rw (past-header (c .before .before), eq-eqb _ 0 (c .before .if5 .left), c .runs-refusal .ensures)
 
 pub refusal-spec : {M : Type 1} → statement M
 refusal-spec =
     tie.close
-    (tie.spec returns returns-2 byte-requires cast-count returns-3 mul-if4 add-if4 returns-4 byte-requires-2
-    cast-n word16-requires cast-limit open-refusal-requires returns-5 runs-refusal-requires returns-6)
+    (tie.spec returns returns-2 (λ c κs. search needs) (λ c. search needs) returns-3 (λ c. search needs) (λ c. search needs) returns-4
+    (λ c κs. search needs) (λ c. search needs) (λ c κs. search needs) (λ c. search needs) (λ c κs. search needs) returns-5 (λ c κs. search needs)
+    returns-6)

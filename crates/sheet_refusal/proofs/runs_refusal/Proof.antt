@@ -20,31 +20,13 @@ Inv-loop s count from₀ code₀ i₀ from code i =
 abbrev μ-loop : tie.MeasureT-loop
 μ-loop s count from₀ code₀ i₀ from code i = count - i
 
-byte-requires : tie.Need-byte-requires Inv-loop μ-loop
-byte-requires c κs = search needs
-
-cast-count : tie.Need-cast-count Inv-loop μ-loop
-cast-count c = search needs
-
-mul-from : tie.Need-mul-from Inv-loop μ-loop
-mul-from c = search needs
-
-add-from : tie.Need-add-from Inv-loop μ-loop
-add-from c = search needs
-
 loop-holds : tie.Need-loop-holds Inv-loop μ-loop
 loop-holds c = rw (sub-zero, c .byte .ensures)
-
-run-at-requires : tie.Need-run-at-requires Inv-loop μ-loop
-run-at-requires c κs = search needs
 
 returns : tie.Need-returns Inv-loop μ-loop
 returns c =
     let at = c .before .before in
     sym (at .before .before .loop .inv ∙ early (at .run-at .ensures) _ (at .before .loop-test .taken) _ _ _ (c .if1 .taken))
-
-add-end : tie.Need-add-end Inv-loop μ-loop
-add-end c = search needs
 
 returns-2 : tie.Need-returns-2 Inv-loop μ-loop
 returns-2 c =
@@ -52,12 +34,6 @@ returns-2 c =
     sym
     (at .before .before .loop .inv
     ∙ long (at .run-at .ensures) _ (at .before .loop-test .taken) _ _ _ (c .before .before .if1 .left) (c .if2 .taken))
-
-add-i : tie.Need-add-i Inv-loop μ-loop
-add-i c = search needs
-
-loop-less : tie.Need-loop-less Inv-loop μ-loop
-loop-less c = search needs
 
 loop-again : tie.Need-loop-again Inv-loop μ-loop
 loop-again c =
@@ -76,5 +52,5 @@ returns-3 c = sym (c .before .loop .inv ∙ rw (runs-none _ _ _ (c .loop-test .l
 pub runs-refusal-spec : {M : Type 1} → statement M
 runs-refusal-spec =
     tie.close
-    (tie.spec Inv-loop μ-loop byte-requires cast-count mul-from add-from loop-holds run-at-requires returns
-    add-end returns-2 add-i loop-less loop-again returns-3)
+    (tie.spec Inv-loop μ-loop (λ c κs. search needs) (λ c. search needs) (λ c. search needs) (λ c. search needs) loop-holds (λ c κs. search needs)
+    returns (λ c. search needs) returns-2 (λ c. search needs) (λ c. search needs) loop-again returns-3)

@@ -1,11 +1,10 @@
--- `sheet_run::run` meets its contract: an accepted sheet has the bytes of its header, and opens a sound session. Assumes nothing.
-use Prim.Native.Nat.{ℕ, _+_, _*_}
-use native.Mathlib.Omega.{arith}
-use mathlib.Core.Path.{_≡_, sym, _∙_}
+-- `sheet_run::run` meets its contract: an accepted sheet opens a sound session. Assumes nothing.
+use mathlib.Core.Path.{_≡_, sym, _∙_, ap, ap₂}
 use borrow.Author.Needs.{needs}
+use Rattle.model.specs.Window.{window}
 use Rattle.model.specs.Board.{opened, serverLimits}
 use Rattle.model.specs.Sheet.{processCount, roundLimit, sheetRefusal}
-use Rattle.sheet_run_laws.specs.Carried.{sheet-accepted, sheet-opens, run-rejected, run-accepted}
+use Rattle.sheet_run_laws.specs.Carried.{sheet-opens, run-rejected, run-accepted}
 use Rattle.sheet_run.proofs.run.Statement.{statement}
 use Rattle.sheet_run.proofs.run.Tie as tie
 
@@ -18,18 +17,16 @@ taken : (c : tie.Else1) → sheetRefusal serverLimits (c .before .before .before
 taken c = sym (told (c .before)) ∙ c .if1 .left
 
 abbrev else-of : tie.After-opened2 → tie.Else1
-else-of c = c .before .before .before .before .before .before .before .before
+else-of c = c .before .before .before .before
 
--- The numbers of the header, by other names.
-header : {n n′ l l′ h h′ : ℕ} → n ≡ n′ → l ≡ l′ → h ≡ h′ → opened n (l + 256 * h) ≡ opened n′ (l′ + 256 * h′)
-header en el eh = cc
+-- The window and the session are those of the sheet's header.
+window-is : (c : tie.After-opened2) →
+    let t = else-of c .before .before .before .before .args .sheet .now in c .before .window .result ≡ window (processCount t)
+window-is c = c .before .window .ensures ∙ ap window (c .before .before .before .byte .ensures)
 
--- The session is that of the sheet's header.
-begun : (c : tie.After-opened2) →
+session-is : (c : tie.After-opened2) →
     let t = else-of c .before .before .before .before .args .sheet .now in c .opened2 .result ≡ opened (processCount t) (roundLimit t)
-begun c =
-    let w = c .before .before .before in
-    c .opened2 .ensures ∙ header (c .before .wide3 .ensures .0) (w .before .before .wide .ensures .0) (w .wide2 .ensures .0)
+session-is c = c .opened2 .ensures ∙ ap₂ opened (c .before .before .before .byte .ensures) (c .before .before .word16 .ensures)
 
 -- Rejected.
 returns : tie.Need-returns
@@ -40,22 +37,17 @@ returns c =
     (run-rejected _ _ _ (told (d .before)) (d .if1 .taken))
 
 carry-requires : tie.Need-carry-requires
-carry-requires c κs =
-    let o = c .before in
-    sheet-opens _ (taken (else-of o)) (o .before .before .window .ensures) (begun o)
+carry-requires c κs = let o = c .before in sheet-opens _ (taken (else-of o)) (window-is o) (session-is o)
 
 returns-2 : tie.Need-returns-2
 returns-2 c =
     let o = c .before .before in
-    c .carry .ensures ∙ rw (begun o, c .before .no-counts2 .ensures) (run-accepted _ _ (o .before .before .window .ensures) (taken (else-of o)))
+    c .carry .ensures ∙ rw (session-is o, c .before .no-counts2 .ensures) (run-accepted _ _ (window-is o) (taken (else-of o)))
 
--- In the order of the code; the three bytes of the header are read at 0, 2 and 3.
+-- In the order of the code.
 pub run-spec : {M : Type 1} → statement M
 run-spec =
     tie.close
     (tie.spec (λ c κs. search needs) (λ c κs. search needs) (λ c κs. search needs) (λ c κs. search needs) (λ c κs. search needs) returns
-    (λ c. omega (arith, sheet-accepted _ (taken (c .before))))
-    (λ c. omega (arith, sheet-accepted _ (taken (c .before .before)))) (λ c κs. search needs)
-    (λ c. omega (arith, sheet-accepted _ (taken (c .before .before .before .before)))) (λ c κs. search needs)
-    (λ c. search needs) (λ c. search needs) (λ c κs. search needs) (λ c κs. search needs) (λ c κs. search needs) (λ c κs. search needs)
-    carry-requires returns-2)
+    (λ c κs. search needs) (λ c κs. search needs) (λ c. search needs) (λ c κs. search needs) (λ c. search needs) (λ c κs. search needs)
+    (λ c κs. search needs) carry-requires returns-2)

@@ -11,17 +11,11 @@ use Rattle.use_report.proofs.main.Tie as tie
 within : (c : tie.After-bytes) → c .before .report .result .len ≤ length (c .before .report .result .bytes)
 within c = omega (arith, simp length-append at (ap length (c .before .report .ensures .1)))
 
+-- In the order of the code: the reads, the refusal to go on, the report, the writes.
 pub main-spec : {M : Type 1} → statement M
 main-spec =
     tie.close
-    (tie.spec
-    (λ c κs. search needs)
-    (λ c. search needs)
-    (λ c κs. search needs)
-    (λ c. search needs)
-    (λ c. search needs)
-    (λ c κs. search needs)
-    within
-    (λ c. sym (length-take-le _ _ (within (c .before))))
-    (λ c κs. search needs)
-    (λ c. search needs))
+    (tie.spec (λ c κs. search needs) (λ c. search needs) (λ c κs. search needs) (λ c. search needs) (λ c κs. search needs)
+    (λ c. search needs) (λ c κs. search needs) (λ c. search needs)
+    (λ c. search needs) (λ c. search needs) (λ c κs. search needs) within (λ c. sym (length-take-le _ _ (within (c .before))))
+    (λ c κs. search needs) (λ c. search needs) (λ c κs. search needs) (λ c. search needs) (λ c. search needs))

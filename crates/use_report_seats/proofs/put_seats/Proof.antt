@@ -48,18 +48,8 @@ returns-2 c =
 pub put-seats-spec : {M : Type 1} → statement M
 put-seats-spec =
     tie.close
-    (tie.spec
-    Inv-loop
-    μ-loop
-    loop-holds
-    returns
-    (search needs)
-    (search needs)
-    (search needs)
-    (search needs)
-    (search needs)
-    (search needs)
-    (search needs)
-    (search needs)
-    loop-again
-    returns-2)
+    (tie.spec Inv-loop μ-loop loop-holds returns
+    (search needs) (search needs)  -- the record
+    (search needs) (search needs) (search needs) (search needs)  -- the seat's number, its status
+    (search needs) (search needs)  -- one more
+    loop-again returns-2)

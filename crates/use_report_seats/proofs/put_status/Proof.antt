@@ -27,32 +27,10 @@ pub put-status-spec : {M : Type 1} → statement M
 put-status-spec =
     tie.close
     (tie.spec
-    -- the value
-    (search needs)
-    -- out: the phase, the words, the call
-    (search needs)
-    (search needs)
-    (search needs)
-    -- spent: the phase, the words, the number, the call
-    (search needs)
-    (search needs)
-    (search needs)
-    (search needs)
-    -- crashed
-    (search needs)
-    (search needs)
-    (search needs)
-    -- decided
-    (search needs)
-    (search needs)
-    (search needs)
-    (search needs)
-    -- working: the words, the numbers, the call
-    (search needs)
-    (search needs)
-    (search needs)
-    out
-    spent
-    crashed
-    decided
-    working)
+    (search needs)  -- the value
+    (search needs) (search needs) (search needs)  -- out: the phase, the words, the call
+    (search needs) (search needs) (search needs) (search needs)  -- spent: the phase, the words, the number, the call
+    (search needs) (search needs) (search needs)  -- crashed
+    (search needs) (search needs) (search needs) (search needs)  -- decided
+    (search needs) (search needs) (search needs)  -- working: the words, the numbers, the call
+    out spent crashed decided working)

@@ -4,12 +4,6 @@ use Rattle.use_text.specs.Page.{byte-put, byte-cut}
 use Rattle.use_text.proofs.put_byte.Statement.{statement}
 use Rattle.use_text.proofs.put_byte.Tie as tie
 
-element-write-out : tie.Need-element-write-out
-element-write-out c = search needs
-
-add-result : tie.Need-add-result
-add-result c = search needs
-
 returns : tie.Need-returns
 returns c = byte-put _ _ _ (c .if1 .taken)
 
@@ -17,4 +11,4 @@ returns-2 : tie.Need-returns-2
 returns-2 c = byte-cut _ _ _ (c .if1 .left)
 
 pub put-byte-spec : {M : Type 1} → statement M
-put-byte-spec = tie.close (tie.spec element-write-out add-result returns returns-2)
+put-byte-spec = tie.close (tie.spec (λ c. search needs) (λ c. search needs) returns returns-2)

@@ -29,14 +29,5 @@ again c =
 pub highest-spec : {M : Type 1} → statement M
 highest-spec =
     tie.close
-    (tie.spec
-    Inv-loop
-    μ-loop
-    (λ c. (omega arith, refl))
-    (λ c. omega arith)
-    (λ c. omega arith)
-    (λ c. omega arith)
-    (λ c. omega arith)
-    (λ c. omega arith)
-    again
-    (λ c. sym (c .before .loop .inv .1 ∙ highest-done _ _ _ (c .loop-test .left))))
+    (tie.spec Inv-loop μ-loop (λ c. (omega arith, refl)) (λ c. omega arith) (λ c. omega arith) (λ c. omega arith) (λ c. omega arith)
+    (λ c. omega arith) again (λ c. sym (c .before .loop .inv .1 ∙ highest-done _ _ _ (c .loop-test .left))))

@@ -19,10 +19,4 @@ returns-2 c =
 pub put-more-spec : {M : Type 1} → statement M
 put-more-spec =
     tie.close
-    (tie.spec
-    (search needs)
-    rejected
-    (search needs)
-    (search needs)
-    (search needs)
-    returns-2)
+    (tie.spec (search needs) rejected (search needs) (search needs) (search needs) returns-2)

@@ -9,12 +9,4 @@ returns c = c .put-line .ensures
 -- In the order of the code: the words, the three counts, the numbers, the call.
 pub put-tally-spec : {M : Type 1} → statement M
 put-tally-spec =
-    tie.close
-    (tie.spec
-    (search needs)
-    (search needs)
-    (search needs)
-    (search needs)
-    (search needs)
-    (search needs)
-    returns)
+    tie.close (tie.spec (search needs) (search needs) (search needs) (search needs) (search needs) (search needs) returns)

@@ -11,7 +11,7 @@ use Rattle.model.specs.declared.Session.{Session}
 use Rattle.model.specs.Window.{window}
 use Rattle.model.specs.Refusal.{status, isOutside}
 use Rattle.model.specs.Sound.{every, soundProcess, soundAt, sound}
-use Rattle.session_sound.proofs.Pass.{rest, begins}
+use Rattle.model_laws.specs.Passes.{rest, begins}
 
 abbrev pub outside : Process → Bool
 outside q = isOutside (status (q .phase))

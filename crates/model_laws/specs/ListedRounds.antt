@@ -11,7 +11,7 @@ use lib.Seq.{take-suc, take-suc-set, drop-cons, set-at, length-take-le, append-s
 use lib.Dec.{eqb}
 use borrow.Author.Tests.{eq-eqb, ne-eqb}
 use Rattle.model.specs.ReadOut.{holds, ListsOnce}
-use Rattle.session_values.specs.Distinct.{old, holds-last, last-old, last-new}
+use Rattle.model_laws.specs.Listings.{old, holds-last, last-old, last-new}
 
 -- A round with an old value adds nothing to the listing.
 pub round-old : (rs l : List ℕ) (r : ℕ) → r < length rs → old (getD rs r 0) (take r rs) ≡ true

@@ -1,0 +1,60 @@
+-- The test of a record, by its phase and the clause that the phase has. Assumes nothing.
+use Prim.Native.Nat.{ℕ, min}
+use mathlib.Core.Path.{_≡_, refl, sym, ap, _∙_}
+use mathlib.Core.Bool.{Bool, true, false, _&&_, _||_, and-assoc, and-true, or-true}
+use native.Mathlib.Omega.{arith}
+use borrow.Author.Tests.{ltb-true, ltb-false, lt-ltb, le-ltb}
+use lib.Dec.{leb, ltb, eqb}
+use Rattle.model.specs.declared.Phase.{Phase}
+use Rattle.model.specs.declared.Phase.the-variants.{Idle}
+use Rattle.model.specs.declared.Process.{Process}
+use Rattle.model.specs.Refusal.{status, isOutside}
+use Rattle.model.specs.Sound.{soundPhase, soundProcess}
+
+-- Below both of two numbers is below the smaller.
+below-both : (i a b : ℕ) → (ltb i a && ltb i b) ≡ ltb i (min a b)
+below-both i a b = by (ltb i a) (ltb i b) refl refl
+  where
+    by : (x y : Bool) → ltb i a ≡ x → ltb i b ≡ y → (x && y) ≡ ltb i (min a b)
+    by true true p q = sym (lt-ltb i (min a b) (omega (arith, ltb-true i a p, ltb-true i b q)))
+    by true false p q = sym (le-ltb i (min a b) (omega (arith, ltb-false i b q)))
+    by false y p q = sym (le-ltb i (min a b) (omega (arith, ltb-false i a p)))
+
+-- The clause of compare and flag.
+pub near : (i r W : ℕ) → (leb 1 r && ltb i r && ltb i W) ≡ (leb 1 r && ltb i (min r W))
+near i r W = and-assoc (leb 1 r) _ _ ∙ ap (λ b. leb 1 r && b) (below-both i r W)
+
+arranged : (a e l p : Bool) → (a && e && l && p) ≡ ((a || false) && (e && l && p))
+arranged true e l p = refl
+arranged false e l p = refl
+
+-- The test of the record, by its phase and the clause that the phase has.
+module _ (W L : ℕ) (member : Bool) (q : Process) where
+  abbrev pub Tested : Bool
+  Tested = (member || isOutside (status (q .phase))) && soundProcess W L q
+
+  -- A process that has not proposed.
+  pub out : {b : Bool} → q .phase ≡ Idle → b ≡ (eqb (q .estimate) 0 && leb (q .round) L && eqb (q .round) 0) → b ≡ Tested
+  unfolding soundProcess soundPhase
+  out told p = rw (told, or-true member) p
+
+  -- Any other, by the number of tests that the clause of its phase has.
+  module _ {φ : Phase} (told : q .phase ≡ φ) (ins : isOutside (status φ) ≡ false) where
+    abbrev pub held : Bool
+    held = member && ltb 0 (q .estimate) && leb (q .round) L
+
+    abbrev pub clause : Bool
+    clause = soundPhase W L (q .round) φ
+
+    pub one : {a : Bool} → a ≡ clause → (held && a) ≡ Tested
+    unfolding soundProcess
+    one p = rw (told, ins, p) (arranged member _ _ _)
+
+    pub free : true ≡ clause → held ≡ Tested
+    free p = sym (and-true held) ∙ one p
+
+    pub two : (a b : Bool) → (a && b) ≡ clause → (held && a && b) ≡ Tested
+    two a b p = and-assoc held a b ∙ one p
+
+    pub three : (a b c : Bool) → (a && b && c) ≡ clause → (held && a && b && c) ≡ Tested
+    three a b c p = ap (λ x. x && c) (and-assoc held a b) ∙ and-assoc held (a && b) c ∙ one p

@@ -1,0 +1,10 @@
+-- `part_moves::crashed` meets its contract. Assumes nothing.
+use mathlib.Core.Path.{refl}
+use Rattle.part_moves.proofs.crashed.Statement.{statement}
+use Rattle.part_moves.proofs.crashed.Tie as tie
+
+returns : tie.Need-returns
+returns c = refl
+
+pub crashed-spec : {M : Type 1} → statement M
+crashed-spec = tie.close (tie.spec returns)

@@ -1,0 +1,27 @@
+-- `use_bench::step` meets its contract, by the walk of a function that lends a local (`session_step_lent`, `Lender.antt`). Assumes nothing.
+use mathlib.Core.Path.{ap}
+use mathlib.Core.List.{[], _∷_}
+use mir.Syntax.{w64}
+use base.Logic.{emp, id⊢}
+use contract.Monad.{factI, fact-mono}
+use Rattle.model.specs.declared.Stepped.{Stepped}
+use Rattle.model.specs.Public
+use Rattle.session_step_lent.proofs.step as callee
+use Rattle.session_step_lent.proofs.step.Symbol as callee-def
+use Rattle.session_step_lent.proofs.step.Symbol.{name as #session_step_lent·step}
+use Rattle.session_step_lent.proofs.step.Met as callee-thm
+use Rattle.session_step_lent.proofs.ByValue.{uint, truth}
+use Rattle.session_step_lent.proofs.Counted.{session, counts}
+use Rattle.session_step_lent.proofs.Lender.{borrows}
+use Rattle.use_bench.proofs.Local.{answered}
+use Rattle.use_bench.proofs.step.Key.{name as #use_bench·step}
+use Rattle.use_bench.proofs.step as step
+use Rattle.use_bench.proofs.step.Statement as stated
+use Rattle.use_bench.proofs.step.Code as code
+
+pub step-spec : {M : Type 1} → stated.statement M
+unfolding code.routine
+step-spec 𝓤 H 𝓜 𝓖 𝓡 =
+    borrows counts answered 𝓤 H 𝓜 𝓖 𝓡 (session ∷ uint w64 ∷ truth ∷ []) (step.clauses 𝓤 H (𝓖 .A) (𝓜 .mem) (𝓡 .run)) (callee.clauses 𝓤 H (𝓖 .A) (𝓜 .mem) (𝓡 .run))
+    (λ a. Public.step (a .0) (a .1 .0) (a .1 .1 .0) (a .1 .1 .1 .0) .session) (λ a g r e. factI 𝓤 _ (emp 𝓤) e) (λ κs e. tt) (λ κs e. id⊢ 𝓤 (emp 𝓤)) (λ a κs b γ z end. fact-mono 𝓤 _ _ (ap (λ (x : Stepped). x .session)))
+    code.env #use_bench·step #session_step_lent·step (code.unfolded 𝓤 H 𝓜 𝓡) callee-def.routine code.calls-session-step-lent·step (callee-thm.met 𝓤 H 𝓜 𝓖 𝓡)
