@@ -32,17 +32,16 @@ fn entry_of(kind: u8, p: u8, value: u32) -> Operation
     Operation::Malformed
 }
 
-// The entry at an offset, whatever the offset: past the end every byte reads as 0. Mostly all six bytes are there.
-pub fn entry_at(s: &[u8], at: usize) -> Operation
-    ensures { λ r. ⌜ r ≡ entryAt (now (s .entry)) at ⌝ }
+// The entry at an offset of 16 bits, whatever the offset: past the end every byte reads as 0. Mostly all six bytes are there.
+pub fn entry_at(s: &[u8], offset: u16) -> Operation
+    ensures { λ r. ⌜ r ≡ entryAt (now (s .entry)) offset ⌝ }
 {
-    if 6 <= s.len() {
-        if at <= s.len() - 6 {
-            let low = at + 2;
-            let high = low + 2;
-            let value = part_bytes::number32(s[low], s[low + 1], s[high], s[high + 1]);
-            return entry_of(s[at], s[at + 1], value);
-        }
+    let at = offset as usize;
+    if at + 6 <= s.len() {
+        let low = at + 2;
+        let high = low + 2;
+        let value = part_bytes::number32(s[low], s[low + 1], s[high], s[high + 1]);
+        return entry_of(s[at], s[at + 1], value);
     }
     if s.len() <= at {
         return entry_of(0, 0, 0);

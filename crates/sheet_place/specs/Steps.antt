@@ -1,5 +1,5 @@
 -- Document 01, "Turn sheets": which run is opened, and where the next place is, case by case.
-use Prim.Native.Nat.{ℕ, _+_, _-_, _*_, _/_, _≤_, _<_}
+use Prim.Native.Nat.{ℕ, _+_, _-_, _*_, _/_, _%_, _≤_, _<_}
 use native.Mathlib.Omega.{arith}
 use mathlib.Core.Path.{_≡_, refl}
 use mathlib.Core.Bool.{Bool, true, false}
@@ -10,19 +10,30 @@ use Rattle.sheet_layout.specs.Runs.{IsRun, left-none, left-next}
 use Rattle.sheet_place_laws.specs.Places.{encode, decode, hasEntry, passed, openFrom, settled, advanced}
 
 -- No run is left at n or past it.
-pub open-none : (s : List ℕ) (i n : ℕ) → n ≤ i → encode (openFrom s i (n - i)) ≡ 4294967296 * i
+pub open-none : (s : List ℕ) (i n : ℕ) → n ≤ i → encode (openFrom s i (n - i)) ≡ 1073741824 * i
 unfolding openFrom
 open-none s i n h = rw (left-none i n h) (omega arith)
 
 -- Before that run i is the first. Its offset o and its length z decide.
 module _ {s : List ℕ} {i o z : ℕ} (r : IsRun s i o z) (n : ℕ) (h : i < n) where
-  pub open-here : 6 ≤ z → encode (openFrom s i (n - i)) ≡ o + 65536 * (z / 6) + 4294967296 * (i + 1)
+  pub open-here : 6 ≤ z → encode (openFrom s i (n - i)) ≡ o + 65536 * (z / 6) + 1073741824 * (i + 1)
   unfolding openFrom
   open-here e = rw (left-next i n h, ← r .offset-is, ← r .size-is, le-leb 6 z e)
 
   pub open-on : z < 6 → openFrom s i (n - i) ≡ openFrom s (i + 1) (n - (i + 1))
   unfolding openFrom
   open-on e = rw (left-next i n h, ← r .size-is, lt-leb 6 z e)
+
+-- The entries left stand above the offset and below the run: a multiple of 65,536 says how many there are.
+module _ (p n : ℕ) where
+  above : p % 1073741824 ≡ decode p .at + 65536 * decode p .left
+  above = omega arith
+
+  pub left-more : n * 65536 ≤ p % 1073741824 → n ≤ decode p .left
+  left-more h = omega (arith, above)
+
+  pub left-fewer : p % 1073741824 < n * 65536 → decode p .left < n
+  left-fewer h = omega (arith, above)
 
 -- Two entries are left of the run: the next place is in it. Else it is in the next run that has an entry.
 module _ (s : List ℕ) (p : ℕ) where

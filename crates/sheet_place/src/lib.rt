@@ -1,6 +1,6 @@
 // Places in a sheet: the first, what one hands out, and the next. 01, "Turn sheets": "A reader that stays attached to the
 // sheet's bytes and its place hands the entries out." A place is one number: the offset of the next entry in its lowest 16 bits,
-// how many entries of the current run are left in the 16 above them, and the next run to be opened above these.
+// how many entries of the current run are left in the 14 above them, and the next run to be opened above these.
 ghost use mathlib.Core.Path.{_≡_};
 ghost use Prim.Native.Nat.{_-_, _<_};
 ghost use Rattle.model.specs.Sheet.{runCount};
@@ -9,11 +9,11 @@ use sheet_place_laws::Handed;
 
 const ENTRY: usize = 65536; // one entry left
 
-const RUN: usize = 4294967296; // one run
+const RUN: usize = 1073741824; // one run
 
 // The first run from the given one on that has an entry, opened. "Length 0 is allowed."
 fn open_from(s: &[u8], first: usize) -> usize
-    requires { ⌜ first < 4294967296 ⌝ }
+    requires { ⌜ first < 17179869184 ⌝ }
     ensures { λ r. ⌜ r ≡ encode (openFrom (now (s .entry)) first (runCount (now (s .entry)) - first)) ⌝ }
 {
     let count = part_bytes::byte(s, 1) as usize;
@@ -39,10 +39,8 @@ pub fn begin(s: &[u8]) -> usize
 pub fn handed(s: &[u8], place: usize) -> Handed
     ensures { λ r. ⌜ r ≡ handedOf (now (s .entry)) place ⌝ }
 {
-    let at = place % ENTRY;
-    let left = place / ENTRY % ENTRY;
-    if 1 <= left {
-        Handed::Next(sheet_entry::entry_at(s, at))
+    if ENTRY <= place % RUN {
+        Handed::Next(sheet_entry::entry_at(s, (place % ENTRY) as u16))
     } else {
         Handed::End
     }
@@ -52,8 +50,7 @@ pub fn handed(s: &[u8], place: usize) -> Handed
 pub fn advance(s: &[u8], place: usize) -> usize
     ensures { λ r. ⌜ r ≡ advanced (now (s .entry)) place ⌝ }
 {
-    let left = place / ENTRY % ENTRY;
-    if 2 <= left {
+    if 2 * ENTRY <= place % RUN {
         return place - ENTRY + 6;
     }
     open_from(s, place / RUN)

@@ -21,10 +21,10 @@ use Rattle.sheet_place_laws.specs.declared.Handed.the-variants.{Next, En
 -- What is made one number is read off it again.
 pub decode-encode : (q : Position) → Within q → decode (encode q) ≡ q
 decode-encode q h =
-    let r : encode q / 4294967296 ≡ q .run = omega arith in
+    let r : encode q / 1073741824 ≡ q .run = omega arith in
     let a : encode q % 65536 ≡ q .at = omega arith in
-    let m : encode q / 65536 ≡ q .left + 65536 * q .run = omega arith in
-    let l : encode q / 65536 % 65536 ≡ q .left = rw m (omega arith) in
+    let m : encode q / 65536 ≡ q .left + 16384 * q .run = omega arith in
+    let l : encode q / 65536 % 16384 ≡ q .left = rw m (omega arith) in
     rw (r, a, l)
 
 -- Behind an entry: one entry less, and 6 bytes on.

@@ -18,14 +18,14 @@ pub record Position : Type 0 where
   pub at : ℕ
   pub left : ℕ
 
--- The offset in the lowest 16 bits, the entries left in the 16 above them, the run above these.
+-- The offset in the lowest 16 bits, the entries left in the 14 above them, the run above these.
 abbrev pub encode : Position → ℕ
-encode q = q .at + 65536 * q .left + 4294967296 * q .run
+encode q = q .at + 65536 * q .left + 1073741824 * q .run
 
 abbrev pub decode : ℕ → Position
-decode p = record { run = p / 4294967296; at = p % 65536; left = p / 65536 % 65536 }
+decode p = record { run = p / 1073741824; at = p % 65536; left = p / 65536 % 16384 }
 
--- Whether the entries left end within the bytes that a sheet can have: then they fit their 16 bits.
+-- Whether the entries left end within the bytes that a sheet can have: then the two fit their bits.
 abbrev pub Within : Position → Type 0
 Within q = q .at + 6 * q .left ≤ 65535
 

@@ -13,7 +13,7 @@ returns c = rw (c .entry-of .ensures, c .before .before .before .number32 .ensur
 returns-2 : tie.Need-returns-2
 returns-2 c =
     let a = c .before .before .before .before .args in
-    c .entry-of2 .ensures ∙ sym (entry-beyond (now (a .s)) (a .at) (c .before .if3 .taken))
+    c .entry-of2 .ensures ∙ sym (entry-beyond (now (a .s)) (a .offset) (c .before .if2 .taken))
 
 returns-3 : tie.Need-returns-3
 returns-3 c = rw (c .entry-of3 .ensures, c .before .word32 .ensures, c .before .before .byte .ensures)
@@ -22,6 +22,6 @@ pub entry-at-spec : {M : Type 1} → statement M
 entry-at-spec =
     tie.close
     (tie.spec (λ c. search needs) (λ c. search needs) (λ c. search needs) (λ c. search needs) (λ c. search needs) (λ c. search needs)
-    (λ c. search needs) (λ c. search needs) (λ c. search needs) (λ c κs. search needs) (λ c. search needs) (λ c. search needs) (λ c. search needs)
-    (λ c κs. search needs) returns (λ c κs. search needs) returns-2 (λ c. search needs) (λ c. search needs) (λ c κs. search needs) (λ c. search needs)
-    (λ c κs. search needs) (λ c κs. search needs) returns-3)
+    (λ c. search needs) (λ c. search needs) (λ c. search needs) (λ c κs. search needs) (λ c. search needs) (λ c. search needs)
+    (λ c. search needs) (λ c κs. search needs) returns (λ c κs. search needs) returns-2 (λ c. search needs) (λ c. search needs)
+    (λ c κs. search needs) (λ c. search needs) (λ c κs. search needs) (λ c κs. search needs) returns-3)

@@ -12,7 +12,7 @@ use Rattle.sheet_place.proofs.open_from.Tie as tie
 
 abbrev Inv-loop : tie.InvT-loop
 Inv-loop s first count i₀ i =
-    (openFrom s first (runCount s - first) ≡ openFrom s i (count - i)) × (i < 4294967296) × (count < 256)
+    (openFrom s first (runCount s - first) ≡ openFrom s i (count - i)) × (i < 17179869184) × (count < 256)
 
 abbrev μ-loop : tie.MeasureT-loop
 μ-loop s first count i₀ i = count - i
