@@ -2,10 +2,12 @@
 // budget and a buffer of exactly 256 bytes, and the board report.
 ghost use mathlib.Core.Path.{_≡_};
 ghost use lib.ListN.{length};
+ghost use Rattle.model.specs.Runner.{run as runOf};
 ghost use Rattle.model.specs.Export.{decidedBytes, exportCode, exportBuffer};
 ghost use Rattle.model_report.specs.ReportExport.{reportCode, reportBuffer};
 use model::Ending;
 use model::Phase;
+use model::Ran;
 use model::Session;
 
 // The bytes of the decided values, four to a process, for all 64; 0 where there is none.
@@ -26,6 +28,13 @@ fn put_decided(s: Session, buffer: &mut [u8])
     }
 }
 
+// The run of a sheet, called by both entries: so that the loop stands once in the archive, and the functions that only it calls stand in it.
+fn run(sheet: &[u8], budget: usize) -> Ran
+    ensures { λ r. ⌜ r ≡ runOf (now (sheet .entry)) budget ⌝ }
+{
+    sheet_run::run(sheet, budget)
+}
+
 // Runs a sheet. 15 is tested first; then 0 for finished, 100 for budget ended, or the refusal's number. Where no session was made the buffer is
 // as it was.
 #[no_mangle]
@@ -36,7 +45,7 @@ pub extern "C" fn janus_run(sheet: &[u8], budget: usize, buffer: &mut [u8]) -> u
     if buffer.len() != 256 {
         return 15;
     }
-    let ran = sheet_run::run(sheet, budget);
+    let ran = run(sheet, budget);
     let ending = ran.ending;
     let code = match ending {
         Ending::Finished => 0,
@@ -55,5 +64,5 @@ pub extern "C" fn janus_report(sheet: &[u8], buffer: &mut [u8]) -> usize
     ensures code { λ r. ⌜ r ≡ reportCode (now (sheet .entry)) (now (buffer .entry)) ⌝ }
     ensures writes { λ _. ⌜ now (buffer .exit) ≡ reportBuffer (now (sheet .entry)) (now (buffer .entry)) ⌝ }
 {
-    janus_report::put_report(sheet, buffer)
+    janus_report::put_report(run(sheet, 10921), buffer)
 }

@@ -5,20 +5,17 @@ use mathlib.Core.List.{List, _++_}
 use lib.ListN.{length, take, drop}
 use lib.Seq.{take-append-seam}
 use borrow.Author.Tests.{le-leb, lt-leb}
-use Rattle.model_report.specs.Report.{report}
-use Rattle.model_report.specs.ReportExport.{reportCode, reportBuffer}
+use Rattle.model_report.specs.ReportExport.{textCode, textBuffer}
 
 -- The text's size is n, and its bytes are the first of those given.
-module _ (s b : List ℕ) {n : ℕ} (size : n ≡ length (report s)) where
-  pub too-short : length b < n → (15 ≡ reportCode s b) × (b ≡ reportBuffer s b)
-  unfolding reportCode reportBuffer
+module _ (t b : List ℕ) {n : ℕ} (size : n ≡ length t) where
+  pub too-short : length b < n → (15 ≡ textCode t b) × (b ≡ textBuffer t b)
   too-short h =
-      let k : length b < length (report s) = rw (← size) h in
+      let k : length b < length t = rw (← size) h in
       (rw (lt-leb _ _ k), rw (lt-leb _ _ k))
 
-  module _ {bytes : List ℕ} (rest : List ℕ) (whole : bytes ≡ report s ++ rest) (h : n ≤ length b) where
-    pub written : (n ≡ reportCode s b) × (take n bytes ++ drop n b ≡ reportBuffer s b)
-    unfolding reportCode reportBuffer
+  module _ {bytes : List ℕ} (rest : List ℕ) (whole : bytes ≡ t ++ rest) (h : n ≤ length b) where
+    pub written : (n ≡ textCode t b) × (take n bytes ++ drop n b ≡ textBuffer t b)
     written =
-        let k : length (report s) ≤ length b = rw (← size) h in
-        (rw (le-leb _ _ k, size), rw (le-leb _ _ k, whole, size, take-append-seam (report s) rest))
+        let k : length t ≤ length b = rw (← size) h in
+        (rw (le-leb _ _ k, size), rw (le-leb _ _ k, whole, size, take-append-seam t rest))

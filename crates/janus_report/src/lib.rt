@@ -3,7 +3,9 @@ ghost use mathlib.Core.Path.{_≡_};
 ghost use Prim.Native.Nat.{_≤_};
 ghost use lib.ListN.{length, take, drop};
 ghost use mathlib.Core.List.{_++_};
-ghost use Rattle.model_report.specs.ReportExport.{reportCode, reportBuffer};
+ghost use Rattle.model_report.specs.Report.{reportOf};
+ghost use Rattle.model_report.specs.ReportExport.{textCode, textBuffer};
+use model::Ran;
 
 // The first n of the given bytes, copied to the first n of a buffer.
 fn copy(from: &[u8], n: usize, buffer: &mut [u8])
@@ -18,13 +20,13 @@ fn copy(from: &[u8], n: usize, buffer: &mut [u8])
     }
 }
 
-// Runs a sheet and writes the report's text to the lent buffer, from its first byte on; answers the text's size. 15 and nothing
-// changed where the buffer is shorter than the text.
-pub fn put_report(sheet: &[u8], buffer: &mut [u8]) -> usize
-    ensures code { λ r. ⌜ r ≡ reportCode (now (sheet .entry)) (now (buffer .entry)) ⌝ }
-    ensures writes { λ _. ⌜ now (buffer .exit) ≡ reportBuffer (now (sheet .entry)) (now (buffer .entry)) ⌝ }
+// The report's text of a run, written to the lent buffer from its first byte on; answers the text's size. 15 and nothing changed where the
+// buffer is shorter than the text.
+pub fn put_report(ran: Ran, buffer: &mut [u8]) -> usize
+    ensures code { λ r. ⌜ r ≡ textCode (reportOf ran) (now (buffer .entry)) ⌝ }
+    ensures writes { λ _. ⌜ now (buffer .exit) ≡ textBuffer (reportOf ran) (now (buffer .entry)) ⌝ }
 {
-    let text = use_report_text::report(sheet);
+    let text = use_report_text::report_of(ran);
     let size = text.len;
     let room = buffer.len();
     if room < size {

@@ -12,9 +12,16 @@ abbrev pub fits : (text buffer : List ℕ) → Bool
 fits t b = leb (length t) (length b)
 
 -- The text's size, or 15.
-unfoldable pub reportCode : (sheet buffer : List ℕ) → ℕ
-reportCode s b = cond (fits (report s) b) (length (report s)) 15
+abbrev pub textCode : (text buffer : List ℕ) → ℕ
+textCode t b = cond (fits t b) (length t) 15
 
 -- The text from the first byte on, and the other bytes as they were.
+abbrev pub textBuffer : (text buffer : List ℕ) → List ℕ
+textBuffer t b = cond (fits t b) (t ++ drop (length t) b) b
+
+-- Of the report of a sheet.
+unfoldable pub reportCode : (sheet buffer : List ℕ) → ℕ
+reportCode s b = textCode (report s) b
+
 unfoldable pub reportBuffer : (sheet buffer : List ℕ) → List ℕ
-reportBuffer s b = cond (fits (report s) b) (report s ++ drop (length (report s)) b) b
+reportBuffer s b = textBuffer (report s) b

@@ -3,8 +3,9 @@ ghost use mathlib.Core.Path.{_≡_};
 ghost use Prim.Native.Nat.{_-_, _≤_};
 ghost use mathlib.Core.List.{_++_};
 ghost use lib.ListN.{length, replicate};
-ghost use Rattle.model_report.specs.Report.{report as reportOf};
+ghost use Rattle.model_report.specs.Report.{reportOf, report as sheetReport};
 ghost use Rattle.use_text.specs.Page.{pageSize};
+use model::Ran;
 use use_text::Bytes;
 
 mod lines;
@@ -15,12 +16,11 @@ pub struct Text {
     pub len: usize,
 }
 
-// The report of a sheet that is run "with a budget of 10,921".
-pub fn report(sheet: &[u8]) -> Text
-    ensures { λ r. ⌜ (r .len ≡ length (reportOf (now (sheet .entry)))) × (r .len ≤ pageSize) ⌝ }
-    ensures { λ r. ⌜ r .bytes ≡ reportOf (now (sheet .entry)) ++ replicate (pageSize - r .len) 0 ⌝ }
+// The report of a run.
+pub fn report_of(ran: Ran) -> Text
+    ensures { λ r. ⌜ (r .len ≡ length (reportOf ran)) × (r .len ≤ pageSize) ⌝ }
+    ensures { λ r. ⌜ r .bytes ≡ reportOf ran ++ replicate (pageSize - r .len) 0 ⌝ }
 {
-    let ran = sheet_run::run(sheet, 10921);
     let ending = ran.ending;
     let session = ran.session;
     let counts = ran.counts;
@@ -28,4 +28,12 @@ pub fn report(sheet: &[u8]) -> Text
     let at = lines::put_outcome(&mut bytes, 0, ending, ran.carried);
     let len = lines::put_more(&mut bytes, at, ending, session, counts);
     Text { bytes, len }
+}
+
+// The report of a sheet that is run "with a budget of 10,921".
+pub fn report(sheet: &[u8]) -> Text
+    ensures { λ r. ⌜ (r .len ≡ length (sheetReport (now (sheet .entry)))) × (r .len ≤ pageSize) ⌝ }
+    ensures { λ r. ⌜ r .bytes ≡ sheetReport (now (sheet .entry)) ++ replicate (pageSize - r .len) 0 ⌝ }
+{
+    report_of(sheet_run::run(sheet, 10921))
 }

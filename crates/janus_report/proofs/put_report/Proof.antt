@@ -1,5 +1,9 @@
 -- `janus_report::put_report` meets its contract: by whether the buffer is shorter than the text. Assumes nothing.
+use Prim.Native.Nat.{_-_}
 use mathlib.Core.Path.{_∙_}
+use lib.ListN.{replicate}
+use Rattle.model_report.specs.Report.{reportOf}
+use Rattle.use_text.specs.Page.{pageSize}
 use Rattle.janus_report.specs.Written.{too-short, written}
 use borrow.Author.Needs.{needs}
 use Rattle.janus_report.proofs.put_report.Statement.{statement}
@@ -8,14 +12,15 @@ use Rattle.janus_report.proofs.put_report.Tie as tie
 returns : tie.Need-returns
 returns c =
     let t = c .before in
-    too-short _ _ (t .report .ensures .0 .0) (c .if1 .taken)
+    too-short (reportOf (t .before .before .args .ran)) _ (t .report-of .ensures .0 .0) (c .if1 .taken)
 
 returns-2 : tie.Need-returns-2
 returns-2 c =
     let done = c .before .before in
     let e = done .before .before .before .before .before in
-    let t = e .before .report .ensures in
-    let w = written _ _ (t .0 .0) _ (t .1) (e .if1 .left) in
+    let t = e .before .report-of .ensures in
+    let text = reportOf (e .before .before .before .args .ran) in
+    let w = written text _ (t .0 .0) (replicate (pageSize - e .before .report-of .result .len) 0) (t .1) (e .if1 .left) in
     (w .0, done .copy .ensures ∙ w .1)
 
 pub put-report-spec : {M : Type 1} → statement M

@@ -1,0 +1,22 @@
+-- `use_report_text::report_of` meets its contract: the lines are put on a blank page, one behind the other. Assumes nothing.
+use mathlib.Core.Path.{_≡_}
+use borrow.Author.Needs.{needs}
+use lib.ListN.{length}
+use Rattle.base.specs.Arrays.{length-mapped}
+use Rattle.use_text.specs.Page.{after}
+use Rattle.use_report_laws.specs.Whole.{whole}
+use Rattle.use_report_text.proofs.report_of.Statement.{statement}
+use Rattle.use_report_text.proofs.report_of.Tie as tie
+
+-- The records are 64, as the session's own type has it.
+long : (c : tie.Start) → length (c .args .ran .session .processes) ≡ 64
+long c = search (needs, length-mapped)
+
+returns : tie.Need-returns
+returns c =
+    let outcome = c .before .before in
+    let start = outcome .before .before .before .before in
+    whole (start .args .ran) (long start) (after (outcome .put-outcome .ensures) (c .put-more .ensures))
+
+pub report-of-spec : {M : Type 1} → statement M
+report-of-spec = tie.close (tie.spec (search needs) (search needs) returns)
