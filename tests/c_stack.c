@@ -57,7 +57,6 @@ static void *runs(void *unused)
     return __builtin_frame_address(0);
 }
 
-#ifdef HAS_REPORT
 static uint8_t text[JANUS_REPORT_LENGTH];
 
 static void *reports(void *unused)
@@ -66,7 +65,6 @@ static void *reports(void *unused)
     janus_report(sheet, sheet_length, text, sizeof text);
     return __builtin_frame_address(0);
 }
-#endif
 
 /* Seats in each other's way, then a look and a crash; now and then a byte of the header is another. */
 static void any_sheet(void)
@@ -102,9 +100,7 @@ int main(int argc, char **argv)
     make_stack();
     in_thread(idle);
     check(used < 1024, "a thread that does nothing", "takes next to nothing");
-    measure("janus_run", runs, 9 * 1024);
-#ifdef HAS_REPORT
+    measure("janus_run", runs, 18 * 1024);
     measure("janus_report", reports, JANUS_STACK);
-#endif
     return 0;
 }
