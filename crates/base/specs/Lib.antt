@@ -1,3 +1,4 @@
 -- General lemmas that name nothing of this project.
 pub mod Bools
 pub mod Arrays
+pub mod Prelude

@@ -1,15 +1,8 @@
 -- The bytes of the decided values, one process more at a time. Assumes nothing.
 use Prim.{tt}
-use Prim.Native.Nat.{ℕ, _+_, _*_, _≤_, _<_}
-use mathlib.Core.Path.{_≡_, refl, _∙_, ap}
-use mathlib.Core.List.{List, [], _∷_, _++_, append-nil}
-use native.Mathlib.Nat.{le-of-lt}
-use native.Mathlib.Numerals.{add-one}
-use native.Mathlib.Omega.{arith}
+use Rattle.base.specs.Prelude.{ℕ, _+_, _*_, _≤_, _<_, _≡_, refl, _∙_, ap, List, [], _∷_, _++_, append-nil, le-of-lt, add-one, arith, length, getD, take, drop, length-append, length-drop, drop-of-length-le, take-suc, take-all, take-append-seam, drop-append-add, drop-drop, length-take-le, sets, sets-eq}
 use denote.Enum.Declared.{tagOf}
 use types.Run.{OneOf, miss}
-use lib.ListN.{length, getD, take, drop, length-append, length-drop, drop-of-length-le}
-use lib.Seq.{take-suc, take-all, take-append-seam, drop-append-add, drop-drop, length-take-le, sets, sets-eq}
 use Rattle.model.proofs.Phase.{the-type}
 use Rattle.model.specs.declared.Phase.{Phase}
 use Rattle.model.specs.declared.Phase.the-variants.{Idle, Waiting, Write, Scan, Adopt, Compare, Flag, CheckMark}

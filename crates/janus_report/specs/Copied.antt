@@ -1,11 +1,5 @@
 -- A list copied over another, one element more at a time.
-use Prim.Native.Nat.{ℕ, suc, _+_, _<_}
-use native.Mathlib.Nat.{le-of-lt}
-use native.Mathlib.Numerals.{add-one}
-use mathlib.Core.Path.{_≡_, _∙_}
-use mathlib.Core.List.{List, _++_, append-assoc}
-use lib.ListN.{length, getD, set, take, drop}
-use lib.Seq.{take-suc, drop-cons, set-at, length-take-le}
+use Rattle.base.specs.Prelude.{ℕ, suc, _+_, _<_, le-of-lt, add-one, _≡_, _∙_, List, _++_, append-assoc, length, getD, set, take, drop, take-suc, drop-cons, set-at, length-take-le}
 
 pub copied-more : (s d : List ℕ) (i : ℕ) → i < length s → i < length d
     → set (take i s ++ drop i d) i (getD s i 0) ≡ take (i + 1) s ++ drop (i + 1) d

@@ -1,9 +1,5 @@
 -- A report has 16 bytes or more, so 15 is never a size.
-use Prim.Native.Nat.{ℕ, _≤_}
-use native.Mathlib.Omega.{arith}
-use mathlib.Core.List.{List}
-use lib.ListN.{length, length-append}
-use lib.Dec.{ltb}
+use Rattle.base.specs.Prelude.{ℕ, _≤_, arith, List, length, length-append, ltb}
 use Rattle.base.specs.Bools.{cond-cases}
 use Rattle.model.specs.declared.Ending.{Ending}
 use Rattle.model.specs.declared.Ending.the-variants.{Finished, Refused, BudgetEnded, Rejected}

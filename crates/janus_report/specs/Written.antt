@@ -1,10 +1,5 @@
 -- What a caller gets, by whether the buffer is shorter than the text.
-use Prim.Native.Nat.{ℕ, _≤_, _<_}
-use mathlib.Core.Path.{_≡_}
-use mathlib.Core.List.{List, _++_}
-use lib.ListN.{length, take, drop}
-use lib.Seq.{take-append-seam}
-use borrow.Author.Tests.{le-leb, lt-leb}
+use Rattle.base.specs.Prelude.{ℕ, _≤_, _<_, _≡_, List, _++_, length, take, drop, take-append-seam, le-leb, lt-leb}
 use Rattle.model_report.specs.ReportExport.{textCode, textBuffer}
 
 -- The text's size is n, and its bytes are the first of those given.

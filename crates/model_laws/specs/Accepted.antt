@@ -1,15 +1,6 @@
 -- What is known where an operation is accepted: none of its tests holds.
-use Prim.Native.Nat.{ℕ, _<_, _≤_}
-use native.Mathlib.Omega.{arith}
-use mathlib.Core.Path.{_≡_, refl}
-use mathlib.Core.Bool.{Bool, true, false, cond}
-use mathlib.Core.List.{List, [], _∷_}
-use borrow.Author.Tests.{leb-false, le-leb, lt-leb}
-use Rattle.model.specs.declared.Phase.{Phase}
-use Rattle.model.specs.declared.Session.{Session}
-use Rattle.model.specs.declared.Counts.{Counts}
-use Rattle.model.specs.declared.Operation.{Operation}
-use Rattle.model.specs.declared.Operation.the-variants.{Propose, Step, Learn, Crash, Malformed}
+use Rattle.base.specs.Prelude.{ℕ, _<_, _≤_, arith, _≡_, refl, Bool, true, false, cond, List, [], _∷_, leb-false, le-leb, lt-leb}
+use Rattle.model_laws.specs.Types.{Phase, Session, Counts, Operation, Propose, Step, Learn, Crash, Malformed}
 use Rattle.model.specs.Board.{processAt}
 use Rattle.model.specs.Refusal.{Test, refusal, ownTests, processOf, isMalformed, tests}
 

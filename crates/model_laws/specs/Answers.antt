@@ -1,17 +1,6 @@
 -- The answer of an operation, by the number of its first refusal and by what is left where it is 0.
-use Prim.Native.Nat.{ℕ, suc, zero, _<_, _%_}
-use native.Mathlib.Omega.{arith}
-use mathlib.Core.Path.{_≡_, refl, sym, _∙_, ap}
-use mathlib.Core.Bool.{Bool, true, false, cond, not}
-use mathlib.Core.List.{_∷_}
-use lib.Dec.{leb}
-use borrow.Author.Tests.{leb-false}
-use Rattle.model.specs.declared.Phase.the-variants.{Waiting, Crashed}
-use Rattle.model.specs.declared.Process.{Process}
-use Rattle.model.specs.declared.Session.{Session}
-use Rattle.model.specs.declared.Counts.{Counts}
-use Rattle.model.specs.declared.Operation.{Operation}
-use Rattle.model.specs.declared.Operation.the-variants.{Propose, Step, Learn, Crash, Malformed}
+use Rattle.base.specs.Prelude.{ℕ, suc, zero, _<_, _%_, arith, _≡_, refl, sym, _∙_, ap, Bool, true, false, cond, not, _∷_, leb, leb-false}
+use Rattle.model_laws.specs.Types.{Waiting, Crashed, Process, Session, Counts, Operation, Propose, Step, Learn, Crash, Malformed}
 use Rattle.model.specs.Board.{processAt, withProcess, noCounts}
 use Rattle.model.specs.Window.{window}
 use Rattle.model.specs.Step.{counted, turn, written, found, learnt, process}

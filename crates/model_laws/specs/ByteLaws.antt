@@ -1,11 +1,5 @@
 -- Numbers in bytes: what was written is what is read.
-use Prim.Native.Nat.{ℕ, zero, suc, _+_, _*_, _/_, _%_, _<_}
-use native.Mathlib.Omega.{arith}
-use native.Mathlib.Nat.{div-add-mod, div-div-eq-div-mul, div-lt-iff-lt-mul, mod-eq-of-lt}
-use mathlib.Core.Path.{_≡_, refl, _∙_}
-use mathlib.Core.List.{List, [], _∷_, _++_}
-use lib.ListN.{getD}
-use lib.Seq.{getD-append-add}
+use Rattle.base.specs.Prelude.{ℕ, zero, suc, _+_, _*_, _/_, _%_, _<_, arith, div-add-mod, div-div-eq-div-mul, div-lt-iff-lt-mul, mod-eq-of-lt, _≡_, refl, _∙_, List, [], _∷_, _++_, getD, getD-append-add}
 use Rattle.model.specs.declared.Process.{Process}
 use Rattle.model.specs.Board.{idle}
 use Rattle.model.specs.Bytes.{byteAt, word32, bytes32}

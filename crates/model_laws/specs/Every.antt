@@ -1,9 +1,5 @@
 -- A test of every element of a list (the model's `every`).
-use Prim.Native.Nat.{ℕ, zero, suc}
-use mathlib.Core.Path.{_≡_, refl}
-use mathlib.Core.Bool.{Bool, true}
-use mathlib.Core.List.{List, [], _∷_}
-use lib.ListN.{getD, drop, set, replicate}
+use Rattle.base.specs.Prelude.{ℕ, zero, suc, _≡_, refl, Bool, true, List, [], _∷_, getD, drop, set, replicate}
 use Rattle.base.specs.Bools.{and-left, and-right, and-both}
 use Rattle.model.specs.Sound.{every}
 

@@ -1,14 +1,6 @@
 -- A step of a sound process leaves a sound process.
-use Prim.Native.Nat.{ℕ, _+_, _-_, min, _≤_, _<_}
-use native.Mathlib.Omega.{arith}
-use mathlib.Core.Path.{_≡_, refl}
-use mathlib.Core.Bool.{Bool, true, false}
-use lib.Dec.{leb, ltb, eqb}
-use borrow.Author.Tests.{leb-true, ltb-true, ltb-false, eqb-false, lt-ltb}
-use Rattle.model.specs.declared.Phase.{Phase}
-use Rattle.model.specs.declared.Phase.the-variants.{Idle, Waiting, Write, Scan, Adopt, Compare, Flag, CheckMark}
-use Rattle.model.specs.declared.Phase.the-variants.{CheckValue, Commit, Exhausted, Crashed, Decided}
-use Rattle.model.specs.declared.Process.{Process}
+use Rattle.base.specs.Prelude.{ℕ, _+_, _-_, min, _≤_, _<_, arith, _≡_, refl, Bool, true, false, leb, ltb, eqb, leb-true, ltb-true, ltb-false, eqb-false, lt-ltb}
+use Rattle.model_laws.specs.Types.{Phase, Idle, Waiting, Write, Scan, Adopt, Compare, Flag, CheckMark, CheckValue, Commit, Exhausted, Crashed, Decided, Process}
 use Rattle.model.specs.Step.{goOn, nextAt, next, learnt, process}
 use Rattle.model.specs.Refusal.{status, isOutside}
 use Rattle.model.specs.Sound.{soundProcess}

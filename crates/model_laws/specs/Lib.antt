@@ -1,4 +1,5 @@
 -- Laws about the definitions of model.
+pub mod Types
 pub mod Every
 pub mod Accepted
 pub mod Windows

@@ -1,15 +1,5 @@
 -- One round more: what the loops over the rounds do to a listing, and one place more of a copy. Assumes nothing.
-use Prim.Native.Nat.{ℕ, zero, suc, _+_, _<_}
-use mathlib.Core.Path.{_≡_, refl, sym}
-use mathlib.Core.Bool.{Bool, true, false, _||_}
-use mathlib.Core.List.{List, [], _∷_, _++_}
-use native.Mathlib.Nat.{le-of-lt, not-suc-le-zero}
-use native.Mathlib.Numerals.{add-one}
-use native.Mathlib.Omega.{arith}
-use lib.ListN.{length, getD, take, drop, set}
-use lib.Seq.{take-suc, take-suc-set, drop-cons, set-at, length-take-le, append-snoc}
-use lib.Dec.{eqb}
-use borrow.Author.Tests.{eq-eqb, ne-eqb}
+use Rattle.base.specs.Prelude.{ℕ, zero, suc, _+_, _<_, _≡_, refl, sym, Bool, true, false, _||_, List, [], _∷_, _++_, le-of-lt, not-suc-le-zero, add-one, arith, length, getD, take, drop, set, take-suc, take-suc-set, drop-cons, set-at, length-take-le, append-snoc, eqb, eq-eqb, ne-eqb}
 use Rattle.model.specs.ReadOut.{holds, ListsOnce}
 use Rattle.model_laws.specs.Listings.{old, holds-last, last-old, last-new}
 

@@ -1,12 +1,5 @@
 -- Lists that have each value of some registers once (the model's `ListsOnce`). Assumes nothing.
-use Prim.Native.Nat.{ℕ, zero, suc, _+_}
-use mathlib.Core.Path.{_≡_, refl, sym, _∙_, ap}
-use mathlib.Core.Bool.{Bool, true, false, cond, _&&_, _||_}
-use mathlib.Core.List.{List, [], _∷_, _++_}
-use native.Mathlib.Omega.{arith}
-use lib.ListN.{length}
-use lib.Dec.{ltb, eqb}
-use borrow.Author.Tests.{eqb-true, eqb-false, eq-eqb, lt-ltb}
+use Rattle.base.specs.Prelude.{ℕ, zero, suc, _+_, _≡_, refl, sym, _∙_, ap, Bool, true, false, cond, _&&_, _||_, List, [], _∷_, _++_, arith, length, ltb, eqb, eqb-true, eqb-false, eq-eqb, lt-ltb}
 use Rattle.base.specs.Bools.{cond-cases}
 use Rattle.model.specs.ReadOut.{holds, times, ListsOnce, distinct}
 

@@ -1,15 +1,6 @@
 -- Two tests in one pass. A test t of all places is what is left of it at place i, and that is the test of the place and what is left
 -- at i + 1. Assumes nothing.
-use Prim.Native.Nat.{ℕ, suc, _+_, _≤_, _<_, max}
-use mathlib.Core.Path.{_≡_, refl, sym, ap, _∙_}
-use mathlib.Core.Bool.{Bool, true, false, not, _&&_, _||_, and-false}
-use mathlib.Core.List.{List}
-use native.Mathlib.Numerals.{add-one}
-use native.Mathlib.Omega.{arith}
-use borrow.Author.Tests.{ltb-true, ltb-false, not-true, not-false}
-use lib.Dec.{ltb}
-use lib.ListN.{length, getD, drop, drop-of-length-le}
-use lib.Seq.{drop-cons}
+use Rattle.base.specs.Prelude.{ℕ, suc, _+_, _≤_, _<_, max, _≡_, refl, sym, ap, _∙_, Bool, true, false, not, _&&_, _||_, and-false, List, add-one, arith, ltb-true, ltb-false, not-true, not-false, ltb, length, getD, drop, drop-of-length-le, drop-cons}
 use Rattle.model.specs.Sound.{every}
 
 swap : (e q r : Bool) → (e && (q && r)) ≡ (q && (e && r))

@@ -1,15 +1,6 @@
 -- A sound process accesses no register outside 1 to L.
-use Prim.Native.Nat.{ℕ, _+_, _-_, _≤_}
-use native.Mathlib.Omega.{arith}
-use mathlib.Core.Path.{_≡_, refl}
-use mathlib.Core.Bool.{Bool, true, false, cond}
-use lib.Dec.{ltb}
-use borrow.Author.Tests.{ltb-true}
-use Rattle.model.specs.declared.Phase.{Phase}
-use Rattle.model.specs.declared.Phase.the-variants.{Idle, Waiting, Write, Scan, Adopt, Compare, Flag, CheckMark}
-use Rattle.model.specs.declared.Phase.the-variants.{CheckValue, Commit, Exhausted, Crashed, Decided}
-use Rattle.model.specs.declared.Access.{Access}
-use Rattle.model.specs.declared.Access.the-variants.{Nothing, ReadValue, WriteValue, ReadMark, SetMark, ReadDecision, WriteDecision}
+use Rattle.base.specs.Prelude.{ℕ, _+_, _-_, _≤_, arith, _≡_, refl, Bool, true, false, cond, ltb, ltb-true}
+use Rattle.model_laws.specs.Types.{Phase, Idle, Waiting, Write, Scan, Adopt, Compare, Flag, CheckMark, CheckValue, Commit, Exhausted, Crashed, Decided, Access, Nothing, ReadValue, WriteValue, ReadMark, SetMark, ReadDecision, WriteDecision}
 use Rattle.model.specs.Step.{accessAt}
 use Rattle.model_laws.specs.Phases.{PhaseSound}
 

@@ -1,13 +1,6 @@
 -- The test of a record, by its phase and the clause that the phase has. Assumes nothing.
-use Prim.Native.Nat.{ℕ, min}
-use mathlib.Core.Path.{_≡_, refl, sym, ap, _∙_}
-use mathlib.Core.Bool.{Bool, true, false, _&&_, _||_, and-assoc, and-true, or-true}
-use native.Mathlib.Omega.{arith}
-use borrow.Author.Tests.{ltb-true, ltb-false, lt-ltb, le-ltb}
-use lib.Dec.{leb, ltb, eqb}
-use Rattle.model.specs.declared.Phase.{Phase}
-use Rattle.model.specs.declared.Phase.the-variants.{Idle}
-use Rattle.model.specs.declared.Process.{Process}
+use Rattle.base.specs.Prelude.{ℕ, min, _≡_, refl, sym, ap, _∙_, Bool, true, false, _&&_, _||_, and-assoc, and-true, or-true, arith, ltb-true, ltb-false, lt-ltb, le-ltb, leb, ltb, eqb}
+use Rattle.model_laws.specs.Types.{Phase, Idle, Process}
 use Rattle.model.specs.Refusal.{status, isOutside}
 use Rattle.model.specs.Sound.{soundPhase, soundProcess}
 

@@ -1,13 +1,7 @@
 -- The clauses of a session's test: where one fails the test does, and where the first ones hold the records are left. Assumes nothing.
-use Prim.Native.Nat.{ℕ, _≤_}
-use mathlib.Core.Path.{_≡_, refl, sym, _∙_}
-use mathlib.Core.Bool.{Bool, true, false, not, _&&_, and-false}
-use borrow.Author.Tests.{leb-true, not-true, not-false}
-use lib.Dec.{leb, eqb}
-use lib.ListN.{drop}
+use Rattle.base.specs.Prelude.{ℕ, _≤_, _≡_, refl, sym, _∙_, Bool, true, false, not, _&&_, and-false, leb-true, not-true, not-false, leb, eqb, drop}
 use Rattle.base.specs.Bools.{and-right}
-use Rattle.model.specs.declared.Process.{Process}
-use Rattle.model.specs.declared.Session.{Session}
+use Rattle.model_laws.specs.Types.{Process, Session}
 use Rattle.model.specs.Window.{window}
 use Rattle.model.specs.Refusal.{status, isOutside}
 use Rattle.model.specs.Sound.{every, soundProcess, soundAt, sound}

@@ -1,16 +1,6 @@
 -- What soundness says, clause by clause, and what keeps it.
-use Prim.Native.Nat.{ℕ, _-_, _≤_, _<_}
-use native.Mathlib.Omega.{arith}
-use mathlib.Core.Path.{_≡_, refl}
-use mathlib.Core.Bool.{true, not, _&&_}
-use lib.ListN.{drop}
-use lib.Seq.{drop-set-lt}
-use lib.Dec.{leb, eqb}
-use borrow.Author.Tests.{leb-true, le-leb}
-use Rattle.model.specs.declared.Access.{Access}
-use Rattle.model.specs.declared.Access.the-variants.{Nothing, ReadValue, WriteValue, ReadMark, SetMark, ReadDecision, WriteDecision}
-use Rattle.model.specs.declared.Process.{Process}
-use Rattle.model.specs.declared.Session.{Session}
+use Rattle.base.specs.Prelude.{ℕ, _-_, _≤_, _<_, arith, _≡_, refl, true, not, _&&_, drop, drop-set-lt, leb, eqb, leb-true, le-leb}
+use Rattle.model_laws.specs.Types.{Access, Nothing, ReadValue, WriteValue, ReadMark, SetMark, ReadDecision, WriteDecision, Process, Session}
 use Rattle.model.specs.Board.{processAt, withProcess, idle, maxProcesses, maxRounds}
 use Rattle.model.specs.Step.{written}
 use Rattle.model.specs.Refusal.{status, isOutside}

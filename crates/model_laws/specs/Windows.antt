@@ -1,10 +1,5 @@
 -- The rounded-up root, and the window made of it.
-use Prim.Native.Nat.{ℕ, suc, zero, _+_, _*_, _≤_}
-use native.Mathlib.Omega.{arith}
-use mathlib.Core.Path.{_≡_, refl}
-use mathlib.Core.Bool.{Bool, true, false, cond}
-use lib.Dec.{leb}
-use borrow.Author.Tests.{leb-true}
+use Rattle.base.specs.Prelude.{ℕ, suc, zero, _+_, _*_, _≤_, arith, _≡_, refl, Bool, true, false, cond, leb, leb-true}
 use Rattle.model.specs.Window.{rootFrom, rootUp, window}
 
 -- A number is at most its square.

@@ -1,7 +1,5 @@
 -- The access by the case of the phase. Assumes nothing.
-use Prim.Native.Nat.{ℕ}
-use mathlib.Core.Path.{_≡_}
-use mathlib.Core.Bool.{Bool}
+use Rattle.base.specs.Prelude.{ℕ, _≡_, Bool}
 use Rattle.model.specs.declared.Phase.{Phase}
 use Rattle.model.specs.declared.Process.{Process}
 use Rattle.model.specs.declared.Access.{Access}

@@ -1,10 +1,5 @@
 -- Past the end of a list of bytes every byte reads as 0, and so does every number; and nothing is written there.
-use Prim.Native.Nat.{ℕ, suc, _+_, _≤_}
-use native.Mathlib.Omega.{arith}
-use mathlib.Core.Path.{_≡_, refl}
-use mathlib.Core.List.{List, [], _∷_}
-use lib.ListN.{length, List·getD-eq-default}
-use lib.Seq.{set-out, sets}
+use Rattle.base.specs.Prelude.{ℕ, suc, _+_, _≤_, arith, _≡_, refl, List, [], _∷_, length, List·getD-eq-default, set-out, sets}
 use Rattle.model.specs.Bytes.{byteAt, word16, word32}
 
 module _ (s : List ℕ) where

@@ -1,8 +1,5 @@
 -- Laws of counts that are not full. Assumes nothing.
-use Prim.Native.Nat.{_<_}
-use mathlib.Core.Path.{_≡_, refl}
-use mathlib.Core.Bool.{Bool, true, false, cond, _||_, true≢false}
-use borrow.Author.Tests.{leb-false}
+use Rattle.base.specs.Prelude.{_<_, _≡_, refl, Bool, true, false, cond, _||_, true≢false, leb-false}
 use Rattle.model.specs.declared.Access.{Access}
 use Rattle.model.specs.declared.Counts.{Counts}
 use Rattle.model.specs.Step.{counted}

@@ -1,7 +1,5 @@
 -- What a process becomes, by the case of its phase. Assumes nothing.
-use Prim.Native.Nat.{ℕ}
-use mathlib.Core.Path.{_≡_}
-use mathlib.Core.Bool.{Bool}
+use Rattle.base.specs.Prelude.{ℕ, _≡_, Bool}
 use Rattle.model.specs.declared.Phase.{Phase}
 use Rattle.model.specs.declared.Process.{Process}
 use Rattle.model.specs.Step.{process, next, nextAt}

@@ -1,19 +1,6 @@
 -- The registers one by one: what an access reads and leaves in each, and the turn made of them.
-use Prim.Native.Nat.{ℕ, _+_, _-_, _%_, _≤_}
-use native.Mathlib.Omega.{arith}
-use mathlib.Core.Path.{_≡_, refl, sym}
-use mathlib.Core.Bool.{Bool, true, false}
-use mathlib.Core.List.{List}
-use lib.ListN.{getD, set}
-use lib.Dec.{ltb}
-use Rattle.model.specs.declared.Phase.{Phase}
-use Rattle.model.specs.declared.Phase.the-variants.{Idle, Waiting, Write, Scan, Adopt, Compare, Flag, CheckMark}
-use Rattle.model.specs.declared.Phase.the-variants.{CheckValue, Commit, Exhausted, Crashed, Decided}
-use Rattle.model.specs.declared.Access.{Access}
-use Rattle.model.specs.declared.Access.the-variants.{Nothing, ReadValue, WriteValue, ReadMark, SetMark, ReadDecision, WriteDecision}
-use Rattle.model.specs.declared.Process.{Process}
-use Rattle.model.specs.declared.Session.{Session}
-use Rattle.model.specs.declared.Operation.the-variants.{Step}
+use Rattle.base.specs.Prelude.{ℕ, _+_, _-_, _%_, _≤_, arith, _≡_, refl, sym, Bool, true, false, List, getD, set, ltb}
+use Rattle.model_laws.specs.Types.{Phase, Idle, Waiting, Write, Scan, Adopt, Compare, Flag, CheckMark, CheckValue, Commit, Exhausted, Crashed, Decided, Access, Nothing, ReadValue, WriteValue, ReadMark, SetMark, ReadDecision, WriteDecision, Process, Session, Step}
 use Rattle.model.specs.Board.{processAt, with, maxRounds}
 use Rattle.model.specs.Step.{accessAt, access, next, bit, found, written, turn}
 use Rattle.model.specs.Machine.{accessOf, becomes, after}

@@ -1,10 +1,5 @@
 -- Laws of the root rounded up, for the loop of `window`. Assumes nothing.
-use Prim.Native.Nat.{ℕ, suc, zero, _+_, _*_, _-_, _≤_, _<_}
-use mathlib.Core.Path.{_≡_, refl}
-use native.Mathlib.Nat.{mul-le-mul, lt-of-not-le}
-use native.Mathlib.Numerals.{add-one}
-use native.Mathlib.Omega.{arith}
-use borrow.Author.Tests.{le-leb, lt-leb}
+use Rattle.base.specs.Prelude.{ℕ, suc, zero, _+_, _*_, _-_, _≤_, _<_, _≡_, refl, mul-le-mul, lt-of-not-le, add-one, arith, le-leb, lt-leb}
 use Rattle.model.specs.Window.{rootFrom}
 
 -- Of two numbers the smaller has the smaller square.

@@ -1,6 +1,5 @@
 -- What `step` and `learn` lend is the caller's counts: the answer of the function that takes them by value has the code, the session and the counts, and the result has the code and the session.
-use mathlib.Core.Path.{refl}
-use mathlib.Core.List.{[], _∷_}
+use Rattle.base.specs.Prelude.{refl, [], _∷_}
 use Rattle.model.proofs.Counts as Ct
 use Rattle.model.proofs.Counts.Laws as Ct′
 use Rattle.model.proofs.Changed as Ch

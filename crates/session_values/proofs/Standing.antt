@@ -1,10 +1,5 @@
 -- The answers of the read-out of the standing values, by what its tests say. Assumes nothing.
-use Prim.Native.Nat.{ℕ, suc, _≤_, _<_}
-use mathlib.Core.Path.{_≡_, sym, _∙_}
-use mathlib.Core.Bool.{true, false}
-use mathlib.Core.List.{List, _++_}
-use lib.ListN.{length, drop}
-use borrow.Author.Tests.{lt-ltb, le-ltb}
+use Rattle.base.specs.Prelude.{ℕ, suc, _≤_, _<_, _≡_, sym, _∙_, true, false, List, _++_, length, drop, lt-ltb, le-ltb}
 use Rattle.model.specs.declared.Session.{Session}
 use Rattle.model.specs.Sound.{sound}
 use Rattle.model.specs.ReadOut.{registers, distinct, ListsOnce, standingRefusal, StandingValues}

@@ -1,7 +1,5 @@
 -- What the listing of the standing values gives.
-use Prim.Native.Nat.{ℕ, _≤_}
-use mathlib.Core.List.{List}
-use lib.ListN.{length, take}
+use Rattle.base.specs.Prelude.{ℕ, _≤_, List, length, take}
 use Rattle.model.specs.ReadOut.{ListsOnce}
 
 -- The first `count` of the values, which are that many at least, list those that the registers hold, each once.

@@ -1,9 +1,5 @@
 -- Past the end of a sheet every entry reads as six bytes of 0.
-use Prim.Native.Nat.{ℕ, _+_, _≤_}
-use native.Mathlib.Omega.{arith}
-use mathlib.Core.Path.{_≡_}
-use mathlib.Core.List.{List}
-use lib.ListN.{length}
+use Rattle.base.specs.Prelude.{ℕ, _+_, _≤_, arith, _≡_, List, length}
 use Rattle.model.specs.Sheet.{entryOf, entryAt}
 use Rattle.part_bytes.specs.Beyond.{byte-beyond, word32-beyond}
 

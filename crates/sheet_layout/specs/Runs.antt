@@ -1,8 +1,5 @@
 -- Document 01, "Turn sheets": the runs of a sheet, one by one.
-use Prim.Native.Nat.{ℕ, suc, _+_, _-_, _≤_, _<_}
-use native.Mathlib.Omega.{arith}
-use mathlib.Core.Path.{_≡_}
-use mathlib.Core.List.{List, []}
+use Rattle.base.specs.Prelude.{ℕ, suc, _+_, _-_, _≤_, _<_, arith, _≡_, List, []}
 use Rattle.model.specs.Sheet.{runAt, runsFrom}
 
 -- What reading the numbers of run i gives: they are its offset and its length, of 16 bits each.

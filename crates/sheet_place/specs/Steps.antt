@@ -1,10 +1,5 @@
 -- Document 01, "Turn sheets": which run is opened, and where the next place is, case by case.
-use Prim.Native.Nat.{ℕ, _+_, _-_, _*_, _/_, _%_, _≤_, _<_}
-use native.Mathlib.Omega.{arith}
-use mathlib.Core.Path.{_≡_, refl}
-use mathlib.Core.Bool.{Bool, true, false}
-use mathlib.Core.List.{List}
-use borrow.Author.Tests.{le-leb, lt-leb}
+use Rattle.base.specs.Prelude.{ℕ, _+_, _-_, _*_, _/_, _%_, _≤_, _<_, arith, _≡_, refl, Bool, true, false, List, le-leb, lt-leb}
 use Rattle.model.specs.Sheet.{runCount}
 use Rattle.sheet_layout.specs.Runs.{IsRun, left-none, left-next}
 use Rattle.sheet_place_laws.specs.Places.{encode, decode, hasEntry, passed, openFrom, settled, advanced}

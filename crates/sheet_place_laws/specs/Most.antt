@@ -1,12 +1,5 @@
 -- How many entries a sheet can have: at most 10,921, the budget of document 01's board report.
-use Prim.Native.Nat.{ℕ, suc, zero, _+_, _*_, _≤_}
-use native.Mathlib.Omega.{arith}
-use mathlib.Core.Path.{_≡_, refl, ap}
-use mathlib.Core.Bool.{true, _&&_}
-use mathlib.Core.List.{List, [], _∷_}
-use lib.ListN.{length, length-append}
-use lib.Dec.{leb}
-use borrow.Author.Tests.{leb-true}
+use Rattle.base.specs.Prelude.{ℕ, suc, zero, _+_, _*_, _≤_, arith, _≡_, refl, ap, true, _&&_, List, [], _∷_, length, length-append, leb, leb-true}
 use Rattle.base.specs.Bools.{and-left, and-right}
 use Rattle.model.specs.declared.Limits.{Limits}
 use Rattle.model.specs.Sheet.{Run, runCount, runsFrom, runs, headerEnd, inOrder, entriesAt, entriesOf, entries, sheetRefusal}

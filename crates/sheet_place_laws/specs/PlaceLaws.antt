@@ -1,12 +1,5 @@
 -- Document 01, "Turn sheets": the reader hands out the sheet's entries, each once and in their order.
-use Prim.Native.Nat.{ℕ, suc, zero, _+_, _-_, _*_, _/_, _%_, _≤_, _<_}
-use native.Mathlib.Numerals.{add-one}
-use native.Mathlib.Omega.{arith}
-use mathlib.Core.Path.{_≡_, refl, sym, subst, _∙_}
-use mathlib.Core.Bool.{Bool, true, false, cond, true≢false}
-use mathlib.Core.List.{List, [], _∷_}
-use lib.Dec.{leb}
-use borrow.Author.Tests.{leb-true, leb-false}
+use Rattle.base.specs.Prelude.{ℕ, suc, zero, _+_, _-_, _*_, _/_, _%_, _≤_, _<_, add-one, arith, _≡_, refl, sym, subst, _∙_, Bool, true, false, cond, true≢false, List, [], _∷_, leb, leb-true, leb-false}
 use Rattle.base.specs.Bools.{cond-cases}
 use Rattle.model.specs.declared.Operation.{Operation}
 use Rattle.model.specs.Sheet.{runAt, runCount, runsFrom, entryAt, entriesAt, entriesOf, entries}

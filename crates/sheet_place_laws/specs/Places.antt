@@ -1,10 +1,6 @@
 -- Document 01, "Turn sheets": "A reader that stays attached to the sheet's bytes and its place hands the entries out." The place is one
 -- number.
-use Prim.Native.Nat.{ℕ, suc, zero, _+_, _-_, _*_, _/_, _%_, _≤_, _<_}
-use mathlib.Core.Path.{_≡_}
-use mathlib.Core.Bool.{Bool, false, cond}
-use mathlib.Core.List.{List, [], _∷_, _++_}
-use lib.Dec.{leb}
+use Rattle.base.specs.Prelude.{ℕ, suc, zero, _+_, _-_, _*_, _/_, _%_, _≤_, _<_, _≡_, Bool, false, cond, List, [], _∷_, _++_, leb}
 use Rattle.model.specs.declared.Operation.{Operation}
 use Rattle.model.specs.Sheet.{Run, runAt, runCount, runsFrom, entryAt, entriesAt, entriesOf}
 use Rattle.sheet_place_laws.specs.declared.Handed.{Handed}

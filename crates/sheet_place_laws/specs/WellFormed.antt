@@ -1,12 +1,5 @@
 -- What holds of the bytes of an accepted sheet, within whatever limits.
-use Prim.Native.Nat.{ℕ, suc, zero, _+_, _≤_, _<_}
-use native.Mathlib.Omega.{arith}
-use mathlib.Core.Path.{_≡_}
-use mathlib.Core.Bool.{true, _&&_}
-use mathlib.Core.List.{List}
-use lib.ListN.{length}
-use lib.Dec.{leb}
-use borrow.Author.Tests.{leb-true, not-false}
+use Rattle.base.specs.Prelude.{ℕ, suc, zero, _+_, _≤_, _<_, arith, _≡_, true, _&&_, List, length, leb, leb-true, not-false}
 use Rattle.base.specs.Bools.{and-left, and-right}
 use Rattle.model.specs.declared.Limits.{Limits}
 use Rattle.model.specs.Sheet.{runAt, runCount, runsFrom, runs, headerEnd, inOrder, sheetTests, sheetRefusal}

@@ -1,7 +1,6 @@
 -- Document 01, "Turn sheets": "A reader that stays attached to the sheet's bytes and its place hands the entries out."
 -- A reference stands for its bytes, `now`, and for itself: a reader that moves on keeps it.
-use Prim.Native.Nat.{ℕ}
-use mathlib.Core.List.{List}
+use Rattle.base.specs.Prelude.{ℕ, List}
 use denote.Ref.{RefT, now}
 use Rattle.sheet_place_laws.specs.Places.{begin, handed, advanced}
 use Rattle.sheet_place_laws.specs.declared.Handed.{Handed}

@@ -1,9 +1,5 @@
 -- Document 01, "Numbers returned", Order: "Sheet 10, 1, 2, 11 over all pairs, 12 over all runs", part by part.
-use Prim.Native.Nat.{ℕ}
-use mathlib.Core.Path.{_≡_, refl, ap}
-use mathlib.Core.Bool.{Bool, true, false, cond, not, _&&_}
-use mathlib.Core.List.{List}
-use lib.Dec.{leb, eqb}
+use Rattle.base.specs.Prelude.{ℕ, _≡_, refl, ap, Bool, true, false, cond, not, _&&_, List, leb, eqb}
 use Rattle.model.specs.declared.Limits.{Limits}
 use Rattle.model.specs.Refusal.{refusal, openTests}
 use Rattle.model.specs.Window.{window}

@@ -1,12 +1,5 @@
 -- Document 01, "Numbers returned", Order: ".. 11 over all pairs, 12 over all runs", and what the two say run by run.
-use Prim.Native.Nat.{ℕ, _+_, _-_, _%_, _≤_, _<_}
-use native.Mathlib.Numerals.{add-one}
-use mathlib.Core.Path.{_≡_, _∙_}
-use mathlib.Core.Bool.{cond, not, _&&_}
-use mathlib.Core.List.{List, [], _∷_}
-use lib.ListN.{length}
-use lib.Dec.{eqb}
-use borrow.Author.Tests.{le-leb, lt-leb, eq-eqb, ne-eqb}
+use Rattle.base.specs.Prelude.{ℕ, _+_, _-_, _%_, _≤_, _<_, add-one, _≡_, _∙_, cond, not, _&&_, List, [], _∷_, length, eqb, le-leb, lt-leb, eq-eqb, ne-eqb}
 use Rattle.model.specs.Refusal.{Test}
 use Rattle.model.specs.Sheet.{Run, runs, runsFrom, headerEnd, inOrder, wholeEntries}
 use Rattle.model.specs.Sound.{every}

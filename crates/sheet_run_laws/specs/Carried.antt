@@ -1,19 +1,6 @@
 -- What the runner's loop keeps, and the laws of its turns.
-use Prim.Native.Nat.{ℕ, suc, zero, _+_, _-_, _≤_, _<_}
-use native.Mathlib.Omega.{arith}
-use native.Mathlib.Numerals.{add-one}
-use mathlib.Core.Path.{_≡_, refl, sym, _∙_, subst₃}
-use mathlib.Core.Bool.{Bool, true, false, cond, _||_, true≢false}
-use mathlib.Core.List.{List, _∷_}
-use lib.ListN.{length}
-use lib.Dec.{leb}
-use borrow.Author.Tests.{ne-eqb, leb-true, leb-false}
-use Rattle.model.specs.declared.Access.{Access}
-use Rattle.model.specs.declared.Session.{Session}
-use Rattle.model.specs.declared.Counts.{Counts}
-use Rattle.model.specs.declared.Operation.{Operation}
-use Rattle.model.specs.declared.Ending.the-variants.{Finished, Refused, BudgetEnded, Rejected}
-use Rattle.model.specs.declared.Ran.{Ran}
+use Rattle.base.specs.Prelude.{ℕ, suc, zero, _+_, _-_, _≤_, _<_, arith, add-one, _≡_, refl, sym, _∙_, subst₃, Bool, true, false, cond, _||_, true≢false, List, _∷_, length, leb, ne-eqb, leb-true, leb-false}
+use Rattle.model_laws.specs.Types.{Access, Session, Counts, Operation, Finished, Refused, BudgetEnded, Rejected, Ran}
 use Rattle.model.specs.Window.{window}
 use Rattle.model.specs.Board.{processAt, opened, noCounts, serverLimits}
 use Rattle.model.specs.Step.{counted}

@@ -1,25 +1,7 @@
 -- One entry as the runner's code takes it: a work turn has a path of its own, and of the others each is a refusal, a register operation and,
 -- where the record changes, what the process becomes. The laws say that this is what the machine does.
-use Prim.Native.Nat.{ℕ, _<_, _≤_}
-use native.Mathlib.Omega.{arith}
-use mathlib.Core.Path.{_≡_, refl, sym, _∙_, ap}
-use mathlib.Core.Bool.{Bool, true, false, cond, not, true≢false}
-use mathlib.Core.List.{List}
-use lib.ListN.{set}
-use lib.Dec.{leb, eqb}
-use lib.Seq.{set-getD}
-use borrow.Author.Tests.{le-leb, lt-leb, not-false}
-use Rattle.model.specs.declared.Phase.{Phase}
-use Rattle.model.specs.declared.Phase.the-variants.{Waiting, Crashed}
-use Rattle.model.specs.declared.Access.{Access}
-use Rattle.model.specs.declared.Access.the-variants.{Nothing, ReadDecision}
-use Rattle.model.specs.declared.Process.{Process}
-use Rattle.model.specs.declared.Session.{Session}
-use Rattle.model.specs.declared.Counts.{Counts}
-use Rattle.model.specs.declared.Operation.{Operation}
-use Rattle.model.specs.declared.Operation.the-variants.{Propose, Step, Learn, Crash, Malformed}
-use Rattle.model.specs.declared.Ending.{Ending}
-use Rattle.model.specs.declared.Ending.the-variants.{BudgetEnded, Refused}
+use Rattle.base.specs.Prelude.{ℕ, _<_, _≤_, arith, _≡_, refl, sym, _∙_, ap, Bool, true, false, cond, not, true≢false, List, set, leb, eqb, set-getD, le-leb, lt-leb, not-false}
+use Rattle.model_laws.specs.Types.{Phase, Waiting, Crashed, Access, Nothing, ReadDecision, Process, Session, Counts, Operation, Propose, Step, Learn, Crash, Malformed, Ending, BudgetEnded, Refused}
 use Rattle.model.specs.Board.{processAt, with, withProcess, idle}
 use Rattle.model.specs.Step.{access, next, learnt, found, written, turn, process}
 use Rattle.model.specs.Refusal.{refusal, ownTests, processOf, isMalformed, tests, stepTests}

@@ -1,12 +1,6 @@
 -- From the invariant to the rule.
-use Prim.Native.Nat.{ℕ, _*_, _≤_}
-use native.Mathlib.Omega.{arith}
-use native.Mathlib.Decide.{ℕ-discrete}
-use mathlib.Core.Path.{_≡_, refl, subst}
-use mathlib.Core.List.{List, [], _∷_}
-use mathlib.Core.Logic.{_⊎_, inl, inr, ⊎-elim}
-use Rattle.model.specs.declared.Phase.{Phase}
-use Rattle.model.specs.declared.Session.{Session}
+use Rattle.base.specs.Prelude.{ℕ, _*_, _≤_, arith, ℕ-discrete, _≡_, refl, subst, List, [], _∷_, _⊎_, inl, inr, ⊎-elim}
+use Rattle.model_laws.specs.Types.{Phase, Session}
 use Rattle.model.specs.Board.{processAt}
 use Rattle.model_rule.specs.Event.{Event, proposal, write, flag, commit, decision, Past, here, there, Committed}
 use Rattle.model_rule.specs.Rule.{ProposedFirst, Rule}

@@ -1,12 +1,6 @@
 -- The rule of the machine, at any window W with 2 ≤ W and 4 * n ≤ W * W.
-use Prim.Native.Nat.{ℕ, suc, zero, _*_, _≤_}
-use native.Mathlib.Omega.{arith}
-use mathlib.Core.Path.{_≡_, refl, _∙_}
-use mathlib.Core.Bool.{true}
-use mathlib.Core.List.{List, [], _∷_, _++_}
-use Rattle.model.specs.declared.Session.{Session}
-use Rattle.model.specs.declared.Counts.{Counts}
-use Rattle.model.specs.declared.Operation.{Operation}
+use Rattle.base.specs.Prelude.{ℕ, suc, zero, _*_, _≤_, arith, _≡_, refl, _∙_, true, List, [], _∷_, _++_}
+use Rattle.model_laws.specs.Types.{Session, Counts, Operation}
 use Rattle.model.specs.Board.{processAt, opened, maxProcesses, maxRounds}
 use Rattle.model.specs.Refusal.{refusal, tests, processOf, stepped}
 use Rattle.model.specs.Machine.{after, countsAfter, answered, perform}

@@ -1,14 +1,6 @@
 -- The agreement rule holds: the calls follow the machine, and the machine's rule holds at the session's window.
-use Prim.Native.Nat.{ℕ, suc, zero, _≤_}
-use native.Mathlib.Omega.{arith}
-use mathlib.Core.Path.{_≡_, refl, sym, _∙_, ap, subst}
-use mathlib.Core.List.{List, []}
-use Rattle.model.specs.declared.Session.{Session}
-use Rattle.model.specs.declared.Counts.{Counts}
-use Rattle.model.specs.declared.Operation.{Operation}
-use Rattle.model.specs.declared.Operation.the-variants.{Propose, Step, Learn, Crash, Malformed}
-use Rattle.model.specs.declared.Changed.{Changed}
-use Rattle.model.specs.declared.Stepped.{Stepped}
+use Rattle.base.specs.Prelude.{ℕ, suc, zero, _≤_, arith, _≡_, refl, sym, _∙_, ap, subst, List, []}
+use Rattle.model_laws.specs.Types.{Session, Counts, Operation, Propose, Step, Learn, Crash, Malformed, Changed, Stepped}
 use Rattle.model.specs.Window.{window}
 use Rattle.model.specs.Board.{opened, noCounts, serverLimits}
 use Rattle.model.specs.Step.{counted}

@@ -1,15 +1,5 @@
 -- The highest filled round of a session is the highest written round of its past, and no mark stands above it.
-use Prim.Native.Nat.{ℕ, suc, _+_, min, _≤_, _<_}
-use native.Mathlib.Omega.{arith}
-use native.Mathlib.Numerals.{unary-clauses}
-use native.Mathlib.Decide.{decLe}
-use mathlib.Core.Path.{_≡_, sym, _∙_}
-use mathlib.Core.Bool.{true}
-use mathlib.Core.List.{List, [], _∷_}
-use mathlib.Core.Logic.{by-cases}
-use lib.ListN.{getD}
-use lib.Dec.{eqb}
-use borrow.Author.Tests.{eqb-true, eqb-false}
+use Rattle.base.specs.Prelude.{ℕ, suc, _+_, min, _≤_, _<_, arith, unary-clauses, decLe, _≡_, sym, _∙_, true, List, [], _∷_, by-cases, getD, eqb, eqb-true, eqb-false}
 use Rattle.base.specs.Bools.{cond-cases}
 use Rattle.model.specs.declared.Session.{Session}
 use Rattle.model.specs.Board.{markAt, highestFrom, highestFilled}

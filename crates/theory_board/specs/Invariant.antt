@@ -1,15 +1,7 @@
 -- The invariant of a session and its past, and the one lemma by which every operation keeps it. Nothing here says that the session is sound:
 -- that stands beside it (`perform-sound`).
-use Prim.Native.Nat.{ℕ, _<_}
-use native.Mathlib.Omega.{arith}
-use native.Mathlib.Decide.{ℕ-discrete}
-use mathlib.Core.Path.{_≡_, sym, subst}
-use mathlib.Core.List.{List, _++_}
-use lib.ListN.{length, getD, set, length-set}
-use lib.Seq.{getD-set-same, getD-set-other}
-use Rattle.model.specs.declared.Access.{Access}
-use Rattle.model.specs.declared.Process.{Process}
-use Rattle.model.specs.declared.Session.{Session}
+use Rattle.base.specs.Prelude.{ℕ, _<_, arith, ℕ-discrete, _≡_, sym, subst, List, _++_, length, getD, set, length-set, getD-set-same, getD-set-other}
+use Rattle.model_laws.specs.Types.{Access, Process, Session}
 use Rattle.model.specs.Board.{processAt, idle}
 use Rattle.model.specs.Step.{found, turn}
 use Rattle.model_laws.specs.Ranges.{InRange}

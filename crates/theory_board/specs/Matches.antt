@@ -1,17 +1,6 @@
 -- The registers of a session are what the past wrote; one register operation with its events keeps this.
-use Prim.Native.Nat.{ℕ, _-_, _≤_}
-use native.Mathlib.Omega.{arith}
-use native.Mathlib.Decide.{ℕ-discrete}
-use mathlib.Core.Path.{_≡_, refl, _∙_, ap}
-use mathlib.Core.Bool.{Bool, true, false, cond, true≢false}
-use mathlib.Core.List.{List, [], _∷_, _++_}
-use lib.ListN.{length, getD, set, length-set}
-use lib.Seq.{getD-set-same, getD-set-other}
-use lib.Dec.{eqb}
-use borrow.Author.Tests.{eq-eqb, ne-eqb}
-use Rattle.model.specs.declared.Access.{Access}
-use Rattle.model.specs.declared.Access.the-variants.{Nothing, ReadValue, WriteValue, ReadMark, SetMark, ReadDecision, WriteDecision}
-use Rattle.model.specs.declared.Session.{Session}
+use Rattle.base.specs.Prelude.{ℕ, _-_, _≤_, arith, ℕ-discrete, _≡_, refl, _∙_, ap, Bool, true, false, cond, true≢false, List, [], _∷_, _++_, length, getD, set, length-set, getD-set-same, getD-set-other, eqb, eq-eqb, ne-eqb}
+use Rattle.model_laws.specs.Types.{Access, Nothing, ReadValue, WriteValue, ReadMark, SetMark, ReadDecision, WriteDecision, Session}
 use Rattle.model.specs.Board.{valueAt, markAt}
 use Rattle.model.specs.Step.{found, written, bit}
 use Rattle.model_laws.specs.Ranges.{InRange}

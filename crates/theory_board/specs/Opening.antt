@@ -1,8 +1,5 @@
 -- A session just opened, with nothing past, keeps the invariant, at any window.
-use Prim.Native.Nat.{ℕ, suc, zero, _-_, _≤_}
-use mathlib.Core.Path.{_≡_, refl}
-use mathlib.Core.List.{[]}
-use lib.ListN.{getD, replicate, length-replicate}
+use Rattle.base.specs.Prelude.{ℕ, suc, zero, _-_, _≤_, _≡_, refl, [], getD, replicate, length-replicate}
 use Rattle.model.specs.Board.{opened, idle, maxProcesses, maxRounds}
 use Rattle.theory_past.specs.Past.{past-none}
 use Rattle.theory_past.specs.Lawful.{lawful-none}

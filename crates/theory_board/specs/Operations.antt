@@ -1,19 +1,7 @@
 -- Each accepted operation of the machine, at any window, keeps the invariant: the one lemma, applied.
-use Prim.Native.Nat.{ℕ, zero, suc}
-use mathlib.Core.Path.{_≡_, refl, sym}
-use mathlib.Core.Bool.{Bool, true, false, true≢false}
-use mathlib.Core.List.{List, [], _++_}
-use lib.Dec.{ltb}
-use borrow.Author.Tests.{not-false}
+use Rattle.base.specs.Prelude.{ℕ, zero, suc, _≡_, refl, sym, Bool, true, false, true≢false, List, [], _++_, ltb, not-false}
 use Rattle.base.specs.Bools.{cond-cases}
-use Rattle.model.specs.declared.Phase.{Phase}
-use Rattle.model.specs.declared.Phase.the-variants.{Idle, Waiting, Write, Scan, Adopt, Compare, Flag, CheckMark}
-use Rattle.model.specs.declared.Phase.the-variants.{CheckValue, Commit, Exhausted, Crashed, Decided}
-use Rattle.model.specs.declared.Process.{Process}
-use Rattle.model.specs.declared.Session.{Session}
-use Rattle.model.specs.declared.Counts.{Counts}
-use Rattle.model.specs.declared.Operation.{Operation}
-use Rattle.model.specs.declared.Operation.the-variants.{Propose, Step, Learn, Crash, Malformed}
+use Rattle.model_laws.specs.Types.{Phase, Idle, Waiting, Write, Scan, Adopt, Compare, Flag, CheckMark, CheckValue, Commit, Exhausted, Crashed, Decided, Process, Session, Counts, Operation, Propose, Step, Learn, Crash, Malformed}
 use Rattle.model.specs.Board.{processAt}
 use Rattle.model.specs.Step.{accessAt, access, found}
 use Rattle.model.specs.Refusal.{status, isOutside, processOf, isMalformed, ownTests}

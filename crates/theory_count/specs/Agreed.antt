@@ -1,9 +1,5 @@
 -- The agreement rule of the past: one value is committed, and no other is written from the round of the commit on.
-use Prim.Native.Nat.{ℕ, _*_, _≤_}
-use native.Mathlib.Omega.{arith}
-use native.Mathlib.Decide.{ℕ-discrete, decLe}
-use mathlib.Core.Path.{_≡_, sym}
-use mathlib.Core.List.{List}
+use Rattle.base.specs.Prelude.{ℕ, _*_, _≤_, arith, ℕ-discrete, decLe, _≡_, sym, List}
 use Rattle.model_rule.specs.Event.{Event, Committed}
 use Rattle.theory_past.specs.Epoch.{Wrote, WrittenIn}
 use Rattle.theory_past.specs.Lawful.{Lawful}

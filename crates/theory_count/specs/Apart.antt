@@ -1,9 +1,5 @@
 -- Two writes of one process.
-use Prim.Native.Nat.{ℕ, _≤_}
-use native.Mathlib.Omega.{arith}
-use mathlib.Core.Path.{_≡_}
-use mathlib.Core.List.{List, _∷_}
-use mathlib.Core.Logic.{inl, inr}
+use Rattle.base.specs.Prelude.{ℕ, _≤_, arith, _≡_, List, _∷_, inl, inr}
 use Rattle.model_rule.specs.Event.{Event, write, Past}
 use Rattle.theory_past.specs.Epoch.{Wrote}
 use Rattle.theory_past.specs.Lawful.{Lawful}

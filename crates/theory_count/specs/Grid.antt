@@ -1,10 +1,5 @@
 -- The count: two values at the register of a commit take more writes than there are processes.
-use Prim.Native.Nat.{ℕ, suc, _+_, _*_, _-_, _/_, _%_, _≤_, _<_}
-use native.Mathlib.Omega.{arith}
-use native.Mathlib.Decide.{ℕ-discrete}
-use native.Mathlib.Nat.{mod-lt, div-lt-iff-lt-mul, div-add-mod'}
-use mathlib.Core.Path.{_≡_, refl}
-use mathlib.Core.List.{List}
+use Rattle.base.specs.Prelude.{ℕ, suc, _+_, _*_, _-_, _/_, _%_, _≤_, _<_, arith, ℕ-discrete, mod-lt, div-lt-iff-lt-mul, div-add-mod', _≡_, refl, List}
 use Rattle.model_rule.specs.Event.{Event}
 use Rattle.theory_past.specs.Epoch.{Wrote}
 use Rattle.theory_past.specs.Lawful.{Lawful}

@@ -1,8 +1,5 @@
 -- Pigeonholes: of more pigeons than holes two share a hole.
-use Prim.Native.Nat.{ℕ, suc, zero, pred, min, max, _+_, _-_, _≤_, _<_}
-use mathlib.Core.Path.{_≡_, ap, sym, _∙_}
-use native.Mathlib.Omega.{arith}
-use native.Mathlib.Decide.{decLt}
+use Rattle.base.specs.Prelude.{ℕ, suc, zero, pred, min, max, _+_, _-_, _≤_, _<_, _≡_, ap, sym, _∙_, arith, decLt}
 
 -- The numbers other than k, moved together: those above k are lowered by one.
 abbrev without : (k x : ℕ) → ℕ

@@ -1,10 +1,5 @@
 -- Two values at the register of a round in which one of them was committed.
-use Prim.Native.Nat.{ℕ, suc, zero, _+_, _≤_, _<_}
-use native.Mathlib.Omega.{arith}
-use native.Mathlib.Decide.{ℕ-discrete}
-use mathlib.Core.Path.{_≡_}
-use mathlib.Core.List.{List}
-use mathlib.Core.Logic.{inl, inr}
+use Rattle.base.specs.Prelude.{ℕ, suc, zero, _+_, _≤_, _<_, arith, ℕ-discrete, _≡_, List, inl, inr}
 use Rattle.model_rule.specs.Event.{Event}
 use Rattle.theory_past.specs.Epoch.{WrittenIn, Flagged, Held, Passed}
 use Rattle.theory_past.specs.Lawful.{Lawful}

@@ -1,11 +1,5 @@
 -- A register that held two values in one epoch was written to in that epoch.
-use Prim.Native.Nat.{ℕ, max}
-use native.Mathlib.Omega.{arith}
-use native.Mathlib.Decide.{ℕ-discrete}
-use mathlib.Core.Path.{_≡_, refl, _∙_, sym}
-use mathlib.Core.List.{List, _∷_}
-use mathlib.Core.Logic.{inl, inr}
-use borrow.Author.Tests.{ne-eqb}
+use Rattle.base.specs.Prelude.{ℕ, max, arith, ℕ-discrete, _≡_, refl, _∙_, sym, List, _∷_, inl, inr, ne-eqb}
 use Rattle.model_rule.specs.Event.{Event, proposal, write, flag, commit, decision, Past, here, there}
 use Rattle.theory_past.specs.Epoch.{top, last, WrittenIn, Held}
 use Rattle.theory_past.specs.Past.{past-total, written-past}

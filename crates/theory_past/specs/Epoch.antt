@@ -1,11 +1,6 @@
 -- The highest written round, the registers, and what happened in which epoch of a past: the epoch of an event is the highest written
 -- round just after it.
-use Prim.Native.Nat.{ℕ, _+_, _≤_, _<_, max}
-use mathlib.Core.Path.{_≡_}
-use mathlib.Core.Bool.{Bool, true, false, cond}
-use mathlib.Core.List.{List, [], _∷_}
-use mathlib.Core.Logic.{_⊎_}
-use lib.Dec.{eqb}
+use Rattle.base.specs.Prelude.{ℕ, _+_, _≤_, _<_, max, _≡_, Bool, true, false, cond, List, [], _∷_, _⊎_, eqb}
 use Rattle.model_rule.specs.Event.{Event, proposal, write, flag, commit, decision, Past}
 
 -- The highest round that was written to; 0 for none.

@@ -1,12 +1,5 @@
 -- What is true of the past of every run, and which events keep it true.
-use Prim.Native.Nat.{ℕ, suc, _+_, _≤_, _<_, max}
-use mathlib.Core.Path.{_≡_, refl}
-use mathlib.Core.Bool.{cond}
-use mathlib.Core.List.{List, [], _∷_, _++_}
-use mathlib.Core.Logic.{_⊎_, inl, inr, ⊎-elim}
-use lib.Dec.{eqb}
-use borrow.Author.Tests.{eqb-false}
-use native.Mathlib.Omega.{arith}
+use Rattle.base.specs.Prelude.{ℕ, suc, _+_, _≤_, _<_, max, _≡_, refl, cond, List, [], _∷_, _++_, _⊎_, inl, inr, ⊎-elim, eqb, eqb-false, arith}
 use Rattle.base.specs.Bools.{cond-cases}
 use Rattle.model_rule.specs.Event.{Event, proposal, write, flag, commit, decision, Past, Proposed, Committed}
 use Rattle.model_rule.specs.Event.Past.{here, there}

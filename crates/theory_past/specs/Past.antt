@@ -1,9 +1,5 @@
 -- Older parts of a past: what was true of one stays true, and what an event on top of it can add.
-use Prim.Native.Nat.{ℕ, max}
-use mathlib.Core.Path.{_≡_, refl}
-use mathlib.Core.List.{List, [], _∷_}
-use mathlib.Core.Logic.{_⊎_, inl, inr, ⊎-elim}
-use native.Mathlib.Omega.{arith}
+use Rattle.base.specs.Prelude.{ℕ, max, _≡_, refl, List, [], _∷_, _⊎_, inl, inr, ⊎-elim, arith}
 use Rattle.model_rule.specs.Event.{Event, write, flag, Past, Happened}
 use Rattle.model_rule.specs.Event.Past.{here, there}
 use Rattle.theory_past.specs.Epoch.{top, Wrote, WrittenIn, Flagged, Held, Contested, Compared, Passed}

@@ -1,12 +1,5 @@
 -- What the highest written round and the registers tell of the writes of a past.
-use Prim.Native.Nat.{ℕ, max, _≤_, _<_}
-use mathlib.Core.Path.{_≡_, refl, sym, subst}
-use mathlib.Core.Bool.{Bool, true, true≢false}
-use mathlib.Core.List.{List, [], _∷_}
-use lib.Dec.{eqb}
-use borrow.Author.Tests.{eqb-true, eq-eqb, ne-eqb}
-use native.Mathlib.Nat.{le-refl, le-trans}
-use native.Mathlib.Omega.{arith}
+use Rattle.base.specs.Prelude.{ℕ, max, _≤_, _<_, _≡_, refl, sym, subst, Bool, true, true≢false, List, [], _∷_, eqb, eqb-true, eq-eqb, ne-eqb, le-refl, le-trans, arith}
 use Rattle.model_rule.specs.Event.{Event, proposal, write, flag, commit, decision, Past}
 use Rattle.model_rule.specs.Event.Past.{here, there}
 use Rattle.theory_past.specs.Epoch.{top, last, isMarked, Wrote, WrittenIn, Flagged}

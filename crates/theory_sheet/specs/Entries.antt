@@ -1,17 +1,7 @@
 -- The proposals of a sheet: which entries they were, and that their numbers have 32 bits.
-use Prim.Native.Nat.{ℕ, suc, zero, _+_, _/_, _<_}
-use native.Mathlib.Omega.{arith}
-use mathlib.Core.Path.{_≡_}
-use mathlib.Core.List.{List, [], _∷_, _++_}
-use mathlib.Core.Logic.{_⊎_, inl, inr, ⊎-elim}
-use lib.ListN.{getD, take}
-use lib.Dec.{eqb}
+use Rattle.base.specs.Prelude.{ℕ, suc, zero, _+_, _/_, _<_, arith, _≡_, List, [], _∷_, _++_, _⊎_, inl, inr, ⊎-elim, getD, take, eqb}
 use Rattle.base.specs.Bools.{cond-cases}
-use Rattle.model.specs.declared.Process.{Process}
-use Rattle.model.specs.declared.Session.{Session}
-use Rattle.model.specs.declared.Counts.{Counts}
-use Rattle.model.specs.declared.Operation.{Operation}
-use Rattle.model.specs.declared.Operation.the-variants.{Propose, Step, Learn, Crash, Malformed}
+use Rattle.model_laws.specs.Types.{Process, Session, Counts, Operation, Propose, Step, Learn, Crash, Malformed}
 use Rattle.model.specs.Board.{processAt}
 use Rattle.model.specs.Bytes.{byteAt, word32}
 use Rattle.model.specs.Refusal.{processOf}

@@ -1,15 +1,6 @@
 -- What the C entry writes to its buffer, in the words of the agreement rule.
-use Prim.Native.Nat.{ℕ, _*_, _<_}
-use native.Mathlib.Omega.{arith}
-use native.Mathlib.Decide.{ℕ-discrete}
-use mathlib.Core.Path.{_≡_, refl}
-use mathlib.Core.List.{List, []}
-use mathlib.Core.Logic.{⊎-elim}
-use lib.ListN.{length}
-use Rattle.model.specs.declared.Phase.{Phase}
-use Rattle.model.specs.declared.Phase.the-variants.{Idle, Waiting, Write, Scan, Adopt, Compare, Flag, CheckMark}
-use Rattle.model.specs.declared.Phase.the-variants.{CheckValue, Commit, Exhausted, Crashed, Decided}
-use Rattle.model.specs.declared.Session.{Session}
+use Rattle.base.specs.Prelude.{ℕ, _*_, _<_, arith, ℕ-discrete, _≡_, refl, List, [], ⊎-elim, length}
+use Rattle.model_laws.specs.Types.{Phase, Idle, Waiting, Write, Scan, Adopt, Compare, Flag, CheckMark, CheckValue, Commit, Exhausted, Crashed, Decided, Session}
 use Rattle.model.specs.Board.{processAt, noCounts, maxProcesses, serverLimits}
 use Rattle.model.specs.Bytes.{word32}
 use Rattle.model.specs.Sheet.{entries, sheetRefusal}

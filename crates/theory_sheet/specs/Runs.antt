@@ -1,20 +1,7 @@
 -- A run of a sheet is the public operations, one after another, and the machine after the entries that were carried out.
-use Prim.Native.Nat.{ℕ, suc, zero, _+_, _≤_}
-use native.Mathlib.Omega.{arith}
-use mathlib.Core.Path.{_≡_, refl, sym, _∙_, ap}
-use mathlib.Core.Bool.{cond}
-use mathlib.Core.List.{List, [], _∷_}
-use lib.ListN.{length, take}
-use lib.Dec.{eqb}
-use borrow.Author.Tests.{eq-eqb}
+use Rattle.base.specs.Prelude.{ℕ, suc, zero, _+_, _≤_, arith, _≡_, refl, sym, _∙_, ap, cond, List, [], _∷_, length, take, eqb, eq-eqb}
 use Rattle.base.specs.Bools.{cond-cases}
-use Rattle.model.specs.declared.Session.{Session}
-use Rattle.model.specs.declared.Counts.{Counts}
-use Rattle.model.specs.declared.Operation.{Operation}
-use Rattle.model.specs.declared.Ending.{Ending}
-use Rattle.model.specs.declared.Ending.the-variants.{Finished, Refused, BudgetEnded}
-use Rattle.model.specs.declared.Process.{Process}
-use Rattle.model.specs.declared.Ran.{Ran}
+use Rattle.model_laws.specs.Types.{Session, Counts, Operation, Ending, Finished, Refused, BudgetEnded, Process, Ran}
 use Rattle.model.specs.Window.{window}
 use Rattle.model.specs.Board.{opened, noCounts, serverLimits}
 use Rattle.model.specs.Machine.{perform}

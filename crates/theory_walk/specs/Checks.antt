@@ -1,15 +1,6 @@
 -- The checks of a round that is over, and the commit.
-use Prim.Native.Nat.{ℕ, suc, _+_, _-_, _≤_}
-use mathlib.Core.Path.{_≡_}
-use mathlib.Core.Bool.{cond}
-use mathlib.Core.List.{List, _∷_}
-use mathlib.Core.Logic.{by-cases}
-use lib.Dec.{ltb, eqb}
-use borrow.Author.Tests.{ltb-false, eqb-true}
-use native.Mathlib.Decide.{decLt}
-use native.Mathlib.Omega.{arith}
-use Rattle.model.specs.declared.Phase.{Phase}
-use Rattle.model.specs.declared.Phase.the-variants.{Waiting, CheckMark, CheckValue, Commit}
+use Rattle.base.specs.Prelude.{ℕ, suc, _+_, _-_, _≤_, _≡_, cond, List, _∷_, by-cases, ltb, eqb, ltb-false, eqb-true, decLt, arith}
+use Rattle.model_laws.specs.Types.{Phase, Waiting, CheckMark, CheckValue, Commit}
 use Rattle.model_rule.specs.Event.{Event, commit}
 use Rattle.theory_past.specs.Epoch.{Flagged}
 use Rattle.theory_past.specs.Lawful.{CommitLawful}

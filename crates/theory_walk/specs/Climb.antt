@@ -1,18 +1,6 @@
 -- The way up to the round that a process takes part in: from waiting, through the scan, to a write or an adoption.
-use Prim.Native.Nat.{ℕ, _+_, _-_, _≤_, _<_}
-use mathlib.Core.Path.{_≡_, _∙_, refl, sym}
-use mathlib.Core.Bool.{cond}
-use mathlib.Core.List.{List}
-use lib.Dec.{ltb, eqb}
-use borrow.Author.Tests.{ltb-false, eqb-true, eqb-false}
-use mathlib.Core.Logic.{by-cases}
-use native.Mathlib.Nat.{add-assoc}
-use native.Mathlib.Decide.{decLe}
-use native.Mathlib.Omega.{arith}
-use Rattle.model.specs.declared.Phase.{Phase}
-use Rattle.model.specs.declared.Phase.the-variants.{Write, Scan, Adopt, Compare, Exhausted, Waiting}
-use Rattle.model.specs.declared.Process.{Process}
-use Rattle.model.specs.declared.Access.the-variants.{Nothing, ReadValue}
+use Rattle.base.specs.Prelude.{ℕ, _+_, _-_, _≤_, _<_, _≡_, _∙_, refl, sym, cond, List, ltb, eqb, ltb-false, eqb-true, eqb-false, by-cases, add-assoc, decLe, arith}
+use Rattle.model_laws.specs.Types.{Phase, Write, Scan, Adopt, Compare, Exhausted, Waiting, Process, Nothing, ReadValue}
 use Rattle.model.specs.Step.{process}
 use Rattle.model_rule.specs.Event.{Event, Proposed}
 use Rattle.theory_past.specs.Epoch.{top, last}

@@ -1,14 +1,6 @@
 -- What the phase, round and estimate of a process tell of the past.
-use Prim.Native.Nat.{ℕ, suc, _+_, _-_, _≤_, _<_}
-use mathlib.Core.Path.{_≡_}
-use mathlib.Core.List.{List}
-use Rattle.model.specs.declared.Phase.{Phase}
-use Rattle.model.specs.declared.Phase.the-variants.{Idle, Waiting, Write, Scan, Adopt, Compare, Flag, CheckMark}
-use Rattle.model.specs.declared.Phase.the-variants.{CheckValue, Commit, Exhausted, Crashed, Decided}
-use Rattle.model.specs.declared.Process.{Process}
-use Rattle.model.specs.declared.Access.{Access}
-use Rattle.model.specs.declared.Access.the-variants.{Nothing, ReadValue, WriteValue, ReadMark, SetMark}
-use Rattle.model.specs.declared.Access.the-variants.{ReadDecision, WriteDecision}
+use Rattle.base.specs.Prelude.{ℕ, suc, _+_, _-_, _≤_, _<_, _≡_, List}
+use Rattle.model_laws.specs.Types.{Phase, Idle, Waiting, Write, Scan, Adopt, Compare, Flag, CheckMark, CheckValue, Commit, Exhausted, Crashed, Decided, Process, Access, Nothing, ReadValue, WriteValue, ReadMark, SetMark, ReadDecision, WriteDecision}
 use Rattle.model_rule.specs.Event.{Event, Proposed, DecidedOn}
 use Rattle.theory_past.specs.Epoch.{top, last, Wrote, WrittenIn, Flagged, Compared, Passed}
 use Rattle.theory_past.specs.Lawful.{IsCommitted}

@@ -1,15 +1,6 @@
 -- The walk of a round: the write, the comparisons and the flags, and what they come to.
-use Prim.Native.Nat.{ℕ, _+_, _-_, _≤_, min, max}
-use mathlib.Core.Path.{_≡_, _∙_, refl, sym}
-use mathlib.Core.Bool.{cond}
-use mathlib.Core.List.{List, _∷_}
-use mathlib.Core.Logic.{inl, inr, by-cases}
-use lib.Dec.{ltb, leb, eqb}
-use borrow.Author.Tests.{ltb-false, eqb-true}
-use native.Mathlib.Decide.{decLt}
-use native.Mathlib.Omega.{arith}
-use Rattle.model.specs.declared.Phase.{Phase}
-use Rattle.model.specs.declared.Phase.the-variants.{Waiting, Write, Compare, Flag, CheckMark}
+use Rattle.base.specs.Prelude.{ℕ, _+_, _-_, _≤_, min, max, _≡_, _∙_, refl, sym, cond, List, _∷_, inl, inr, by-cases, ltb, leb, eqb, ltb-false, eqb-true, decLt, arith}
+use Rattle.model_laws.specs.Types.{Phase, Waiting, Write, Compare, Flag, CheckMark}
 use Rattle.model.specs.Step.{goOn}
 use Rattle.model_rule.specs.Event.{Event, write, flag, Proposed}
 use Rattle.theory_past.specs.Epoch.{top, last, Held, Contested, Compared}

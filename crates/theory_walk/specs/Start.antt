@@ -1,15 +1,6 @@
 -- The places that no step leads to: after a proposal, a crash, and a look at the decision register.
-use Prim.Native.Nat.{ℕ, zero, suc}
-use mathlib.Core.Path.{_≡_, refl}
-use mathlib.Core.Bool.{false, true≢false}
-use mathlib.Core.List.{List, _∷_, _++_}
-use mathlib.Core.Logic.{⊎-elim}
-use borrow.Author.Tests.{ne-eqb}
-use native.Mathlib.Omega.{arith}
-use Rattle.model.specs.declared.Phase.{Phase}
-use Rattle.model.specs.declared.Phase.the-variants.{Idle, Waiting, Write, Scan, Adopt, Compare, Flag}
-use Rattle.model.specs.declared.Phase.the-variants.{CheckMark, CheckValue, Commit, Exhausted, Crashed, Decided}
-use Rattle.model.specs.declared.Process.{Process}
+use Rattle.base.specs.Prelude.{ℕ, zero, suc, _≡_, refl, false, true≢false, List, _∷_, _++_, ⊎-elim, ne-eqb, arith}
+use Rattle.model_laws.specs.Types.{Phase, Idle, Waiting, Write, Scan, Adopt, Compare, Flag, CheckMark, CheckValue, Commit, Exhausted, Crashed, Decided, Process}
 use Rattle.model.specs.Step.{process, learnt}
 use Rattle.model.specs.Refusal.{status, isOutside}
 use Rattle.model_rule.specs.Event.{Event, proposal, lookEvents, Proposed, DecidedOn}

@@ -1,13 +1,6 @@
 -- A step of a process: what it adds to the past is lawful, and the process stands where its new phase tells.
-use Prim.Native.Nat.{ℕ, _-_, _<_}
-use mathlib.Core.Path.{_≡_, refl}
-use mathlib.Core.Bool.{Bool, true, false}
-use mathlib.Core.List.{List, [], _∷_, _++_}
-use native.Mathlib.Omega.{arith}
-use Rattle.model.specs.declared.Phase.{Phase}
-use Rattle.model.specs.declared.Phase.the-variants.{Idle, Waiting, Write, Scan, Adopt, Compare, Flag}
-use Rattle.model.specs.declared.Phase.the-variants.{CheckMark, CheckValue, Commit, Exhausted, Crashed, Decided}
-use Rattle.model.specs.declared.Process.{Process}
+use Rattle.base.specs.Prelude.{ℕ, _-_, _<_, _≡_, refl, Bool, true, false, List, [], _∷_, _++_, arith}
+use Rattle.model_laws.specs.Types.{Phase, Idle, Waiting, Write, Scan, Adopt, Compare, Flag, CheckMark, CheckValue, Commit, Exhausted, Crashed, Decided, Process}
 use Rattle.model.specs.Step.{accessAt, access, nextAt, next}
 use Rattle.model.specs.Refusal.{status, isOutside}
 use Rattle.model_laws.specs.Phases.{PhaseSound}

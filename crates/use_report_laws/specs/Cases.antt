@@ -1,9 +1,6 @@
 -- The endings and phases that the last arm of a `match` stands for, by their tags.
 use Prim.{tt}
-use Prim.Native.Nat.{ℕ}
-use mathlib.Core.Path.{_≡_, refl}
-use mathlib.Core.List.{List, [], _∷_, _++_}
-use lib.ListN.{take}
+use Rattle.base.specs.Prelude.{ℕ, _≡_, refl, List, [], _∷_, _++_, take}
 use denote.Enum.Declared.{tagOf}
 use types.Run.{OneOf, miss}
 use Rattle.model.specs.declared.Phase.{Phase}

@@ -1,12 +1,5 @@
 -- The highest filled round, register by register.
-use Prim.Native.Nat.{ℕ, suc, _+_, _≤_, _<_}
-use native.Mathlib.Numerals.{add-one}
-use mathlib.Core.Path.{_≡_, sym, ap, _∙_}
-use mathlib.Core.Bool.{Bool, cond}
-use mathlib.Core.List.{List}
-use lib.ListN.{length, getD, drop, drop-of-length-le}
-use lib.Seq.{drop-cons}
-use borrow.Author.Tests.{eq-eqb, ne-eqb}
+use Rattle.base.specs.Prelude.{ℕ, suc, _+_, _≤_, _<_, add-one, _≡_, sym, ap, _∙_, Bool, cond, List, length, getD, drop, drop-of-length-le, drop-cons, eq-eqb, ne-eqb}
 use Rattle.model.specs.Board.{highestFrom}
 
 pub highest-filled : (l : List ℕ) (top r : ℕ) → r < length l → (getD l r 0 ≡ 0 → ⊥)

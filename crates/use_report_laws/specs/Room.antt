@@ -1,9 +1,5 @@
 -- The longest report: what each line takes at most, and that the whole fits on a page.
-use Prim.Native.Nat.{ℕ, suc, _+_, _*_, _≤_}
-use native.Mathlib.Omega.{arith}
-use mathlib.Core.Path.{_≡_}
-use mathlib.Core.List.{List, [], _∷_, _++_}
-use lib.ListN.{length, take, length-append, length-take}
+use Rattle.base.specs.Prelude.{ℕ, suc, _+_, _*_, _≤_, arith, _≡_, List, [], _∷_, _++_, length, take, length-append, length-take}
 use Rattle.model.specs.declared.Phase.{Phase}
 use Rattle.model.specs.declared.Phase.the-variants.{Idle, Waiting, Write, Scan, Adopt, Compare, Flag, CheckMark}
 use Rattle.model.specs.declared.Phase.the-variants.{CheckValue, Commit, Exhausted, Crashed, Decided}

@@ -1,12 +1,5 @@
 -- The seats' lines, one after another.
-use Prim.Native.Nat.{ℕ, zero, suc, _+_, _≤_, _<_}
-use native.Mathlib.Nat.{zero-add, add-zero, add-suc, suc-add, not-suc-le-zero, le-of-suc-le-suc}
-use native.Mathlib.Numerals.{add-one}
-use native.Mathlib.Omega.{arith}
-use mathlib.Core.Path.{_≡_, sym, ap, _∙_}
-use mathlib.Core.List.{List, [], _∷_, _++_, append-assoc, append-nil}
-use lib.ListN.{length, getD, take}
-use lib.Seq.{take-all}
+use Rattle.base.specs.Prelude.{ℕ, zero, suc, _+_, _≤_, _<_, zero-add, add-zero, add-suc, suc-add, not-suc-le-zero, le-of-suc-le-suc, add-one, arith, _≡_, sym, ap, _∙_, List, [], _∷_, _++_, append-assoc, append-nil, length, getD, take, take-all}
 use Rattle.model.specs.declared.Process.{Process}
 use Rattle.model_report.specs.Report.{bytes, field, newline, statusWords, seatLine, seatLines}
 use Rattle.use_text.specs.Page.{Put, after, same}

@@ -1,9 +1,5 @@
 -- The whole report, put on a blank page.
-use Prim.Native.Nat.{ℕ, _-_, _≤_}
-use native.Mathlib.Omega.{arith}
-use mathlib.Core.Path.{_≡_}
-use mathlib.Core.List.{List, _++_}
-use lib.ListN.{length, replicate}
+use Rattle.base.specs.Prelude.{ℕ, _-_, _≤_, arith, _≡_, List, _++_, length, replicate}
 use Rattle.model.specs.declared.Ran.{Ran}
 use Rattle.model.specs.Board.{maxProcesses}
 use Rattle.model_report.specs.Report.{reportOf}

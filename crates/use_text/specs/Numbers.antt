@@ -1,16 +1,5 @@
 -- Numbers in decimal, as the report has them (01, "The board report").
-use Prim.Native.Nat.{ℕ, zero, suc, _+_, _/_, _%_, _^_, _≤_, _<_}
-use native.Mathlib.Nat.{pow-suc}
-use native.Mathlib.Omega.{arith}
-use mathlib.Core.Path.{_≡_, refl, sym, ap, _∙_}
-use mathlib.Core.Bool.{Bool, true, false}
-use mathlib.Core.Logic.{_⊎_, inl, inr, ⊎-elim}
-use mathlib.Core.List.{List, [], _∷_, _++_, append-assoc, append-nil}
-use native.Mathlib.Numerals.{add-one}
-use lib.ListN.{length, getD, take, length-append}
-use lib.Seq.{take-suc}
-use lib.Dec.{ltb}
-use borrow.Author.Tests.{lt-ltb, le-ltb, ltb-true, ltb-false}
+use Rattle.base.specs.Prelude.{ℕ, zero, suc, _+_, _/_, _%_, _^_, _≤_, _<_, pow-suc, arith, _≡_, refl, sym, ap, _∙_, Bool, true, false, _⊎_, inl, inr, ⊎-elim, List, [], _∷_, _++_, append-assoc, append-nil, add-one, length, getD, take, length-append, take-suc, ltb, lt-ltb, le-ltb, ltb-true, ltb-false}
 use Rattle.model_report.specs.Report.{digits, decimal, field}
 use Rattle.use_text.specs.Page.{Put, after, same}
 

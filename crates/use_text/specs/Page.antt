@@ -1,15 +1,5 @@
 -- A text put on a page, from a place on.
-use Prim.Native.Nat.{ℕ, zero, suc, _+_, _-_, _≤_, _<_}
-use native.Mathlib.Nat.{add-zero, add-suc, suc-add, zero-add, zero-sub, suc-sub-suc, sub-zero}
-use native.Mathlib.Numerals.{add-one}
-use native.Mathlib.Omega.{arith}
-use mathlib.Core.Path.{_≡_, refl, sym, ap, _∙_}
-use mathlib.Core.Bool.{cond}
-use mathlib.Core.List.{List, [], _∷_, _++_}
-use lib.ListN.{length, getD, set, take, drop, replicate, length-replicate}
-use lib.Seq.{sets, sets-eq, take-suc}
-use lib.Dec.{ltb}
-use borrow.Author.Tests.{lt-ltb, le-ltb}
+use Rattle.base.specs.Prelude.{ℕ, zero, suc, _+_, _-_, _≤_, _<_, add-zero, add-suc, suc-add, zero-add, zero-sub, suc-sub-suc, sub-zero, add-one, arith, _≡_, refl, sym, ap, _∙_, cond, List, [], _∷_, _++_, length, getD, set, take, drop, replicate, length-replicate, sets, sets-eq, take-suc, ltb, lt-ltb, le-ltb}
 
 -- How many bytes a page has.
 abbrev pub pageSize : ℕ

@@ -1,12 +1,6 @@
 -- `janus::janus_run` meets its contract: the test of the buffer's length and the run's ending say what is answered and written.
 -- Assumes nothing.
-use Prim.Native.Nat.{ℕ}
-use mathlib.Core.Path.{_≡_, _∙_, ap}
-use mathlib.Core.List.{List}
-use mathlib.Core.Logic.{⊎-elim}
-use borrow.Author.Needs.{needs}
-use borrow.Author.Tests.{eq-eqb, ne-eqb}
-use lib.ListN.{length}
+use Rattle.base.specs.Prelude.{ℕ, _≡_, _∙_, ap, List, ⊎-elim, needs, eq-eqb, ne-eqb, length}
 use Rattle.model.specs.declared.Ran.{Ran}
 use Rattle.model.specs.Runner.{run}
 use Rattle.model.specs.Export.{decidedBytes, endingCode, endingBuffer, exportCode, exportBuffer}

@@ -1,15 +1,9 @@
 -- `janus::put_decided` meets its contract. The loop's invariant: the buffer holds the bytes of the first p processes, and the rest
 -- is as it was. Assumes nothing.
-use Prim.Native.Nat.{ℕ, _-_, _≤_}
-use mathlib.Core.Path.{_≡_, refl, sym, _∙_}
-use mathlib.Core.List.{List, map}
-use mathlib.Core.Logic.{⊎-elim}
-use native.Mathlib.Omega.{arith}
-use lib.ListN.{length, getD, length-map}
+use Rattle.base.specs.Prelude.{ℕ, _-_, _≤_, _≡_, refl, sym, _∙_, List, map, ⊎-elim, arith, length, getD, length-map, needs}
 use Rattle.model.specs.Board.{idle}
 use Rattle.model.specs.Export.{decidedValue}
 use Rattle.janus.specs.Bytes.{undecided, filled, filled-more, filled-all}
-use borrow.Author.Needs.{needs}
 use Rattle.janus.proofs.put_decided.Statement.{statement}
 use Rattle.janus.proofs.put_decided.Tie as tie
 

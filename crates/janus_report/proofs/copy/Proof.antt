@@ -1,12 +1,7 @@
 -- `janus_report::copy` meets its contract. The loop's invariant: i bytes are copied, and the rest is as it was. Assumes nothing.
-use Prim.Native.Nat.{_-_, _≤_}
-use native.Mathlib.Omega.{arith}
-use mathlib.Core.Path.{_≡_, refl, _∙_}
-use mathlib.Core.List.{_++_}
-use lib.ListN.{length, take, drop, length-set}
+use Rattle.base.specs.Prelude.{_-_, _≤_, arith, _≡_, refl, _∙_, _++_, length, take, drop, length-set, needs}
 use denote.Ref.{now}
 use Rattle.janus_report.specs.Copied.{copied-more}
-use borrow.Author.Needs.{needs}
 use Rattle.janus_report.proofs.copy.Statement.{statement}
 use Rattle.janus_report.proofs.copy.Tie as tie
 

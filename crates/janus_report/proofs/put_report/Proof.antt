@@ -1,11 +1,8 @@
 -- `janus_report::put_report` meets its contract: by whether the buffer is shorter than the text. Assumes nothing.
-use Prim.Native.Nat.{_-_}
-use mathlib.Core.Path.{_∙_}
-use lib.ListN.{replicate}
+use Rattle.base.specs.Prelude.{_-_, _∙_, replicate, needs}
 use Rattle.model_report.specs.Report.{reportOf}
 use Rattle.use_text.specs.Page.{pageSize}
 use Rattle.janus_report.specs.Written.{too-short, written}
-use borrow.Author.Needs.{needs}
 use Rattle.janus_report.proofs.put_report.Statement.{statement}
 use Rattle.janus_report.proofs.put_report.Tie as tie
 

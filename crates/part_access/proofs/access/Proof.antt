@@ -1,6 +1,5 @@
 -- `part_access::access` meets its contract: each arm is told the phase. Assumes nothing.
-use mathlib.Core.Path.{_≡_, refl, ap}
-use borrow.Author.Needs.{needs}
+use Rattle.base.specs.Prelude.{_≡_, refl, ap, needs}
 use Rattle.model.specs.declared.Phase.{Phase}
 use Rattle.model.specs.declared.Access.{Access}
 use Rattle.model.specs.Step.{access, accessAt}

@@ -1,6 +1,5 @@
 -- `part_access::gate_access` meets its contract. Assumes nothing.
-use borrow.Author.Needs.{needs}
-use borrow.Author.Tests.{lt-ltb, le-ltb}
+use Rattle.base.specs.Prelude.{needs, lt-ltb, le-ltb}
 use Rattle.model.specs.Step.{accessAt}
 use Rattle.part_access.proofs.gate_access.Statement.{statement}
 use Rattle.part_access.proofs.gate_access.Tie as tie

@@ -1,8 +1,7 @@
 -- `part_bytes::byte` meets its contract: a byte past the end reads as 0. Assumes nothing.
-use mathlib.Core.Path.{refl, sym}
+use Rattle.base.specs.Prelude.{refl, sym, needs}
 use denote.Ref.{now}
 use Rattle.part_bytes.specs.Beyond.{byte-beyond}
-use borrow.Author.Needs.{needs}
 use Rattle.part_bytes.proofs.byte.Statement.{statement}
 use Rattle.part_bytes.proofs.byte.Tie as tie
 

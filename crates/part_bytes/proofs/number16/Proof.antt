@@ -1,6 +1,5 @@
 -- `part_bytes::number16` meets its contract: the sum is the definition's. Assumes nothing.
-use mathlib.Core.Path.{refl}
-use borrow.Author.Needs.{needs}
+use Rattle.base.specs.Prelude.{refl, needs}
 use Rattle.part_bytes.proofs.number16.Statement.{statement}
 use Rattle.part_bytes.proofs.number16.Tie as tie
 

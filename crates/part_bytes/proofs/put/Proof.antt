@@ -1,7 +1,5 @@
 -- `part_bytes::put` meets its contract: past the end nothing is stored. Assumes nothing.
-use mathlib.Core.Path.{sym}
-use lib.Seq.{set-out}
-use borrow.Author.Needs.{needs}
+use Rattle.base.specs.Prelude.{sym, set-out, needs}
 use Rattle.part_bytes.proofs.put.Statement.{statement}
 use Rattle.part_bytes.proofs.put.Tie as tie
 

@@ -1,9 +1,7 @@
 -- `part_bytes::put32` meets its contract: the four stores are those of the four bytes. Assumes nothing.
-use mathlib.Core.Path.{sym}
-use native.Mathlib.Numerals.{add-one, add-two, add-three}
+use Rattle.base.specs.Prelude.{sym, add-one, add-two, add-three, needs}
 use Rattle.model.specs.Bytes.{bytes32}
 use Rattle.part_bytes.specs.Beyond.{sets-beyond}
-use borrow.Author.Needs.{needs}
 use Rattle.part_bytes.proofs.put32.Statement.{statement}
 use Rattle.part_bytes.proofs.put32.Tie as tie
 

@@ -1,8 +1,7 @@
 -- `part_bytes::word16` meets its contract: past the end the number is 0, before it that of two bytes. Assumes nothing.
-use mathlib.Core.Path.{sym}
+use Rattle.base.specs.Prelude.{sym, needs}
 use denote.Ref.{now}
 use Rattle.part_bytes.specs.Beyond.{word16-beyond}
-use borrow.Author.Needs.{needs}
 use Rattle.part_bytes.proofs.word16.Statement.{statement}
 use Rattle.part_bytes.proofs.word16.Tie as tie
 

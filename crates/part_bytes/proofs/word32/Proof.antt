@@ -1,8 +1,7 @@
 -- `part_bytes::word32` meets its contract: past the end the number is 0, before it that of two halves. Assumes nothing.
-use mathlib.Core.Path.{sym}
+use Rattle.base.specs.Prelude.{sym, needs}
 use denote.Ref.{now}
 use Rattle.part_bytes.specs.Beyond.{word32-beyond}
-use borrow.Author.Needs.{needs}
 use Rattle.part_bytes.proofs.word32.Statement.{statement}
 use Rattle.part_bytes.proofs.word32.Tie as tie
 

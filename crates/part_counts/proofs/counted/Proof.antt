@@ -1,8 +1,5 @@
 -- `part_counts::counted` meets its contract. Assumes nothing.
-use mathlib.Core.Path.{_≡_, refl, sym, _∙_}
-use mathlib.Core.Bool.{false}
-use native.Mathlib.Omega.{arith}
-use borrow.Author.Needs.{needs}
+use Rattle.base.specs.Prelude.{_≡_, refl, sym, _∙_, false, arith, needs}
 use Rattle.model.specs.Step.{counted}
 use Rattle.model.specs.Refusal.{full}
 use Rattle.part_counts.proofs.Room.{room, counts-one}

@@ -1,6 +1,5 @@
 -- `part_moves::learnt` meets its contract. Assumes nothing.
-use mathlib.Core.Path.{refl}
-use borrow.Author.Tests.{eq-eqb, ne-eqb}
+use Rattle.base.specs.Prelude.{refl, eq-eqb, ne-eqb}
 use Rattle.model.specs.Step.{learnt}
 use Rattle.part_moves.proofs.learnt.Statement.{statement}
 use Rattle.part_moves.proofs.learnt.Tie as tie

@@ -1,9 +1,5 @@
 -- `part_next::check_value` meets its contract. Assumes nothing.
-use mathlib.Core.Path.{sym, _∙_}
-use Prim.Native.Nat.{_+_}
-use native.Mathlib.Omega.{arith}
-use borrow.Author.Needs.{needs}
-use borrow.Author.Tests.{ltb-true}
+use Rattle.base.specs.Prelude.{sym, _∙_, _+_, arith, needs, ltb-true}
 use Rattle.part_next.proofs.check_value.Statement.{statement}
 use Rattle.part_next.proofs.check_value.Tie as tie
 

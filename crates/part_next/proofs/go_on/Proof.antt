@@ -1,10 +1,5 @@
 -- `part_next::go_on` meets its contract. Assumes nothing.
-use mathlib.Core.Path.{_≡_, refl, sym, _∙_}
-use Prim.Native.Nat.{_+_, _<_, min}
-use lib.Dec.{ltb}
-use native.Mathlib.Omega.{arith}
-use borrow.Author.Needs.{needs}
-use borrow.Author.Tests.{ltb-true, le-leb, lt-leb}
+use Rattle.base.specs.Prelude.{_≡_, refl, sym, _∙_, _+_, _<_, min, ltb, arith, needs, ltb-true, le-leb, lt-leb}
 use Rattle.model.specs.Step.{goOn}
 use Rattle.part_next.proofs.go_on.Statement.{statement}
 use Rattle.part_next.proofs.go_on.Tie as tie

@@ -1,8 +1,5 @@
 -- `part_next::lead` meets its contract, at every window. Assumes nothing.
-use mathlib.Core.Path.{refl}
-use native.Mathlib.Nat.{add-assoc}
-use borrow.Author.Needs.{needs}
-use borrow.Author.Tests.{lt-ltb, le-ltb, eq-eqb, ne-eqb}
+use Rattle.base.specs.Prelude.{refl, add-assoc, needs, lt-ltb, le-ltb, eq-eqb, ne-eqb}
 use Rattle.model.specs.Step.{nextAt}
 use Rattle.part_next.proofs.Cases.{made}
 use Rattle.part_next.proofs.lead.Statement.{statement}

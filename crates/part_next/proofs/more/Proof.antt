@@ -1,9 +1,5 @@
 -- `part_next::more` meets its contract. Assumes nothing.
-use Prim.Native.Nat.{_+_}
-use mathlib.Core.Path.{sym}
-use native.Mathlib.Omega.{arith}
-use borrow.Author.Needs.{needs}
-use borrow.Author.Tests.{le-ltb}
+use Rattle.base.specs.Prelude.{_+_, sym, arith, needs, le-ltb}
 use Rattle.part_next.proofs.more.Statement.{statement}
 use Rattle.part_next.proofs.more.Tie as tie
 

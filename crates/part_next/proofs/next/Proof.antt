@@ -1,6 +1,5 @@
 -- `part_next::next` meets its contract: each arm is told the phase, and the callees' answers make the process. Assumes nothing.
-use mathlib.Core.Path.{_≡_, refl}
-use borrow.Author.Needs.{needs}
+use Rattle.base.specs.Prelude.{_≡_, refl, needs}
 use Rattle.model.specs.declared.Phase.{Phase}
 use Rattle.model.specs.declared.Process.{Process}
 use Rattle.model.specs.Step.{next, nextAt}

@@ -1,8 +1,5 @@
 -- `part_next::scan` meets its contract. Assumes nothing.
-use Prim.Native.Nat.{_-_}
-use native.Mathlib.Omega.{arith}
-use mathlib.Core.Path.{_≡_, refl, ap}
-use borrow.Author.Needs.{needs}
+use Rattle.base.specs.Prelude.{_-_, arith, _≡_, refl, ap, needs}
 use Rattle.model.specs.declared.Phase.the-variants.{Adopt}
 use Rattle.part_next.proofs.scan.Statement.{statement}
 use Rattle.part_next.proofs.scan.Tie as tie

@@ -1,6 +1,5 @@
 -- `part_next::upward` meets its contract. Assumes nothing.
-use borrow.Author.Needs.{needs}
-use borrow.Author.Tests.{lt-ltb, le-ltb}
+use Rattle.base.specs.Prelude.{needs, lt-ltb, le-ltb}
 use Rattle.part_next.proofs.upward.Statement.{statement}
 use Rattle.part_next.proofs.upward.Tie as tie
 

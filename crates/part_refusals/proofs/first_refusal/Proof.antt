@@ -1,6 +1,5 @@
 -- `part_refusals::first_refusal` meets its contract: each return knows which tests hold. Assumes nothing.
-use native.Mathlib.Omega.{arith}
-use borrow.Author.Tests.{le-leb, lt-leb, not-true, not-false}
+use Rattle.base.specs.Prelude.{arith, le-leb, lt-leb, not-true, not-false}
 use Rattle.part_refusals.proofs.first_refusal.Statement.{statement}
 use Rattle.part_refusals.proofs.first_refusal.Tie as tie
 

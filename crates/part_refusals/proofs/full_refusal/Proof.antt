@@ -1,6 +1,5 @@
 -- `part_refusals::full_refusal` meets its contract: the test is `full`. Assumes nothing.
-use mathlib.Core.Path.{sym, _∙_}
-use borrow.Author.Needs.{needs}
+use Rattle.base.specs.Prelude.{sym, _∙_, needs}
 use Rattle.part_refusals.proofs.full_refusal.Statement.{statement}
 use Rattle.part_refusals.proofs.full_refusal.Tie as tie
 

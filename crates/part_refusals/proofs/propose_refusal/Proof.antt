@@ -1,7 +1,5 @@
 -- `part_refusals::propose_refusal` meets its contract: the status of the phase says which test holds. Assumes nothing.
-use mathlib.Core.Path.{refl, sym, _∙_}
-use borrow.Author.Needs.{needs}
-use borrow.Author.Tests.{eq-eqb, ne-eqb}
+use Rattle.base.specs.Prelude.{refl, sym, _∙_, needs, eq-eqb, ne-eqb}
 use Rattle.part_refusals.proofs.propose_refusal.Statement.{statement}
 use Rattle.part_refusals.proofs.propose_refusal.Tie as tie
 

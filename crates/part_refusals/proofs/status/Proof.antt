@@ -1,6 +1,5 @@
 -- `part_refusals::status` meets its contract: each arm is told the phase. Assumes nothing.
-use mathlib.Core.Path.{refl}
-use borrow.Author.Needs.{needs}
+use Rattle.base.specs.Prelude.{refl, needs}
 use Rattle.part_refusals.proofs.status.Statement.{statement}
 use Rattle.part_refusals.proofs.status.Tie as tie
 

@@ -1,6 +1,5 @@
 -- `part_refusals::step_refusal` meets its contract: the status of the phase says which test holds. Assumes nothing.
-use mathlib.Core.Path.{refl, sym, _∙_}
-use borrow.Author.Needs.{needs}
+use Rattle.base.specs.Prelude.{refl, sym, _∙_, needs}
 use Rattle.part_refusals.proofs.step_refusal.Statement.{statement}
 use Rattle.part_refusals.proofs.step_refusal.Tie as tie
 

@@ -1,6 +1,5 @@
 -- `part_registers::mark` meets its contract: each arm is told the access, and the index is the register's. Assumes nothing.
-use mathlib.Core.Path.{refl}
-use borrow.Author.Needs.{needs}
+use Rattle.base.specs.Prelude.{refl, needs}
 use Rattle.part_registers.proofs.mark.Statement.{statement}
 use Rattle.part_registers.proofs.mark.Tie as tie
 

@@ -1,6 +1,5 @@
 -- `part_registers::value` meets its contract: each arm is told the access, and the index is the register's. Assumes nothing.
-use mathlib.Core.Path.{refl}
-use borrow.Author.Needs.{needs}
+use Rattle.base.specs.Prelude.{refl, needs}
 use Rattle.part_registers.proofs.value.Statement.{statement}
 use Rattle.part_registers.proofs.value.Tie as tie
 

@@ -1,6 +1,5 @@
 -- `part_sound::record_sound` meets its contract: in each arm the phase is known, and the clause is what was computed. Assumes nothing.
-use mathlib.Core.Path.{refl, _∙_}
-use borrow.Author.Needs.{needs}
+use Rattle.base.specs.Prelude.{refl, _∙_, needs}
 use Rattle.model.specs.Sound.{soundPhase}
 use Rattle.model_laws.specs.SoundRecords.{near, out, one, free, two, three}
 use Rattle.part_sound.proofs.record_sound.Statement.{statement}

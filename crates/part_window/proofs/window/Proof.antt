@@ -1,9 +1,6 @@
 -- `part_window::window` meets its contract. The invariant: m is at most 16, and the search for the root from m finds the root.
 -- The measure is what is left to 16. Assumes nothing.
-use Prim.Native.Nat.{_≤_, _<_, _-_}
-use mathlib.Core.Path.{_≡_, _∙_}
-use native.Mathlib.Nat.{sub-zero}
-use native.Mathlib.Omega.{arith}
+use Rattle.base.specs.Prelude.{_≤_, _<_, _-_, _≡_, _∙_, sub-zero, arith}
 use Rattle.model.specs.Window.{rootFrom, rootUp, window}
 use Rattle.part_window.proofs.Root.{root-found, root-above, square-small, root-small}
 use Rattle.part_window.proofs.window.Statement.{statement}

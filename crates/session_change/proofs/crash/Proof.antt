@@ -1,8 +1,6 @@
 -- `session_change::crash` meets its contract: by the number of its first refusal, and by the record that it stores. Assumes nothing.
-use mathlib.Core.Path.{_≡_, refl}
-use borrow.Author.Needs.{needs}
-use Rattle.model.specs.declared.Operation.{Operation}
-use Rattle.model.specs.declared.Operation.the-variants.{Crash}
+use Rattle.base.specs.Prelude.{_≡_, refl, needs}
+use Rattle.model_laws.specs.Types.{Operation, Crash}
 use Rattle.model.specs.Board.{noCounts}
 use Rattle.model.specs.Public
 use Rattle.model_laws.specs.Answers.{codeOf, code-is, uncounted-refused, uncounted-accepted, index-of, crashed-is}

@@ -1,7 +1,5 @@
 -- `session_open::open` meets its contract: by the number of the refusal. Assumes nothing.
-use mathlib.Core.Path.{_≡_, refl, _∙_, ap}
-use Prim.Native.Nat.{ℕ, zero, suc}
-use borrow.Author.Needs.{needs}
+use Rattle.base.specs.Prelude.{_≡_, refl, _∙_, ap, ℕ, zero, suc, needs}
 use Rattle.model.specs.declared.Session.{Session}
 use Rattle.model.specs.declared.Changed.{Changed}
 use Rattle.model.specs.declared.Limits.{Limits}

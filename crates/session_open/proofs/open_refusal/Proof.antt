@@ -1,11 +1,5 @@
 -- `session_open::open_refusal` meets its contract: the first test that holds gives the number. Assumes nothing.
-use Prim.Native.Nat.{ℕ, _≤_}
-use mathlib.Core.Path.{_≡_}
-use mathlib.Core.Bool.{Bool, true, false, not, _&&_}
-use native.Mathlib.Omega.{arith}
-use borrow.Author.Needs.{needs}
-use borrow.Author.Tests.{leb-true, not-false}
-use lib.Dec.{leb}
+use Rattle.base.specs.Prelude.{ℕ, _≤_, _≡_, Bool, true, false, not, _&&_, arith, needs, leb-true, not-false, leb}
 use Rattle.base.specs.Bools.{and-right}
 use Rattle.model.specs.declared.Limits.{Limits}
 use Rattle.model.specs.Window.{window}

@@ -1,9 +1,6 @@
 -- `session_read::decision` meets its contract. Assumes nothing.
-use mathlib.Core.Path.{_≡_, sym}
-use mathlib.Core.Bool.{Bool, true, false}
-use borrow.Author.Needs.{needs}
-use Rattle.model.specs.declared.Session.{Session}
-use Rattle.model.specs.declared.DecisionAnswer.{DecisionAnswer}
+use Rattle.base.specs.Prelude.{_≡_, sym, Bool, true, false, needs}
+use Rattle.model_laws.specs.Types.{Session, DecisionAnswer}
 use Rattle.model.specs.Sound.{sound}
 use Rattle.model.specs.ReadOut.{decision}
 use Rattle.session_read.proofs.decision.Statement.{statement}

@@ -1,12 +1,6 @@
 -- `session_read::process_record` meets its contract. The tests that led to an answer say which it is. Assumes nothing.
-use Prim.Native.Nat.{ℕ, _≤_, _<_}
-use mathlib.Core.Path.{_≡_, sym, _∙_}
-use mathlib.Core.Bool.{Bool, true, false, not}
-use native.Mathlib.Omega.{arith}
-use borrow.Author.Needs.{needs}
-use borrow.Author.Tests.{not-false, le-leb, lt-leb}
-use Rattle.model.specs.declared.Session.{Session}
-use Rattle.model.specs.declared.ProcessAnswer.{ProcessAnswer}
+use Rattle.base.specs.Prelude.{ℕ, _≤_, _<_, _≡_, sym, _∙_, Bool, true, false, not, arith, needs, not-false, le-leb, lt-leb}
+use Rattle.model_laws.specs.Types.{Session, ProcessAnswer}
 use Rattle.model.specs.Board.{idle, processAt}
 use Rattle.model.specs.Sound.{sound}
 use Rattle.model.specs.ReadOut.{processRecord}

@@ -1,14 +1,7 @@
 -- `session_read::register` meets its contract. The tests that led to an answer say which it is. Assumes nothing.
-use Prim.Native.Nat.{ℕ, _≤_}
-use mathlib.Core.Path.{_≡_, sym, _∙_}
-use mathlib.Core.Bool.{Bool, true, false, not, _&&_}
-use native.Mathlib.Omega.{arith}
-use lib.Dec.{leb}
-use borrow.Author.Needs.{needs}
-use borrow.Author.Tests.{leb-true, not-false}
+use Rattle.base.specs.Prelude.{ℕ, _≤_, _≡_, sym, _∙_, Bool, true, false, not, _&&_, arith, leb, needs, leb-true, not-false}
 use Rattle.base.specs.Bools.{and-left, and-right}
-use Rattle.model.specs.declared.Session.{Session}
-use Rattle.model.specs.declared.RegisterAnswer.{RegisterAnswer}
+use Rattle.model_laws.specs.Types.{Session, RegisterAnswer}
 use Rattle.model.specs.Board.{valueAt, markAt}
 use Rattle.model.specs.Sound.{sound}
 use Rattle.model.specs.ReadOut.{register}

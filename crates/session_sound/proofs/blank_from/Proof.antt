@@ -1,10 +1,6 @@
 -- `session_sound::blank_from` meets its contract. The loop's invariant: the test of the places from `from` on is that of those from `i`
 -- on. Assumes nothing.
-use Prim.Native.Nat.{ℕ, _-_}
-use mathlib.Core.Path.{_≡_, refl}
-use mathlib.Core.Bool.{Bool, false, not}
-use borrow.Author.Needs.{needs}
-use lib.Dec.{eqb}
+use Rattle.base.specs.Prelude.{ℕ, _-_, _≡_, refl, Bool, false, not, needs, eqb}
 use Rattle.model_laws.specs.Passes.{both, both-more, both-stop, both-ends}
 use Rattle.session_sound.proofs.blank_from.Statement.{statement}
 use Rattle.session_sound.proofs.blank_from.Tie as tie

@@ -1,11 +1,6 @@
 -- `session_sound::sound` meets its contract. The numbers are tested, then the registers and marks, then the records in one pass. The
 -- loop's invariant: the whole test is that of the records from `i` on. Assumes nothing.
-use Prim.Native.Nat.{_-_}
-use mathlib.Core.Path.{_≡_}
-use native.Mathlib.Omega.{arith}
-use borrow.Author.Needs.{needs}
-use borrow.Author.Tests.{not-false}
-use lib.ListN.{length}
+use Rattle.base.specs.Prelude.{_-_, _≡_, arith, needs, not-false, length}
 use Rattle.model.specs.Board.{idle}
 use Rattle.model.specs.Sound.{soundProcess, sound}
 use Rattle.base.specs.Arrays.{length-mapped}

@@ -1,8 +1,6 @@
 -- `session_step::learn` meets its contract: by the number of its first refusal, and by the record and the counts that it leaves. Assumes nothing.
-use mathlib.Core.Path.{_≡_, refl}
-use borrow.Author.Needs.{needs}
-use Rattle.model.specs.declared.Operation.{Operation}
-use Rattle.model.specs.declared.Operation.the-variants.{Learn}
+use Rattle.base.specs.Prelude.{_≡_, refl, needs}
+use Rattle.model_laws.specs.Types.{Operation, Learn}
 use Rattle.model.specs.Public
 use Rattle.model.specs.Machine.{accessOf}
 use Rattle.model_laws.specs.Answers.{codeOf, code-is, operate-refused, operate-accepted, index-of, learnt-is}

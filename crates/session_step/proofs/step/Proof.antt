@@ -1,9 +1,6 @@
 -- `session_step::step` meets its contract: by the number of its first refusal, and by the registers, the record and the counts that it leaves. Assumes nothing.
-use mathlib.Core.Path.{_≡_, refl}
-use native.Mathlib.Omega.{arith}
-use borrow.Author.Needs.{needs}
-use Rattle.model.specs.declared.Operation.{Operation}
-use Rattle.model.specs.declared.Operation.the-variants.{Step}
+use Rattle.base.specs.Prelude.{_≡_, refl, arith, needs}
+use Rattle.model_laws.specs.Types.{Operation, Step}
 use Rattle.model.specs.Window.{window}
 use Rattle.model.specs.Sound.{sound}
 use Rattle.model.specs.Machine.{accessOf}

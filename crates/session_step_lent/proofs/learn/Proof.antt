@@ -1,7 +1,6 @@
 -- `session_step_lent::learn` meets its contract, by `Lent.antt`'s walk: `session_step::learn` is called on the counts, and its answer's counts are stored where they stood.
 -- All that the proof knows of `session_step::learn` is that it meets its contract. Assumes nothing.
-use mathlib.Core.Path.{refl}
-use mathlib.Core.List.{[], _∷_}
+use Rattle.base.specs.Prelude.{refl, [], _∷_}
 use mir.Syntax.{w64}
 use base.Logic.{emp, id⊢}
 use contract.Monad.{factI}

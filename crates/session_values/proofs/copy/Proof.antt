@@ -1,12 +1,6 @@
 -- `session_values::copy` meets its contract. The loop's invariant: the first i places of the buffer hold the first i values, and the
 -- others are as they were. Assumes nothing.
-use Prim.Native.Nat.{_-_, _≤_}
-use mathlib.Core.Path.{_≡_, refl, _∙_, ap}
-use mathlib.Core.List.{_++_}
-use native.Mathlib.Nat.{le-antisymm}
-use native.Mathlib.Numerals.{add-one-le}
-use native.Mathlib.Omega.{arith}
-use lib.ListN.{length, getD, set, take, drop, length-set}
+use Rattle.base.specs.Prelude.{_-_, _≤_, _≡_, refl, _∙_, ap, _++_, le-antisymm, add-one-le, arith, length, getD, set, take, drop, length-set}
 use Rattle.model_laws.specs.ListedRounds.{copy-more}
 use Rattle.session_values.proofs.copy.Statement.{statement}
 use Rattle.session_values.proofs.copy.Tie as tie

@@ -1,12 +1,6 @@
 -- `session_values::list` meets its contract. The outer loop's invariant: the first `count` values list those of the first r rounds, each
 -- once. The inner loop's: none of the first e rounds holds the value of round r. Assumes nothing.
-use Prim.Native.Nat.{ℕ, _-_, _≤_}
-use mathlib.Core.Path.{_≡_, refl}
-use mathlib.Core.Bool.{false}
-use mathlib.Core.List.{List}
-use native.Mathlib.Nat.{le-antisymm}
-use native.Mathlib.Omega.{arith}
-use lib.ListN.{length, getD, take, length-set}
+use Rattle.base.specs.Prelude.{ℕ, _-_, _≤_, _≡_, refl, false, List, le-antisymm, arith, length, getD, take, length-set}
 use Rattle.model.specs.ReadOut.{holds, ListsOnce}
 use Rattle.model_laws.specs.Listings.{none-once}
 use Rattle.model_laws.specs.ListedRounds.{round-old, round-new, old-blank, old-earlier, not-earlier, not-old}

@@ -1,13 +1,5 @@
 -- `session_values::standing_values` meets its contract. The tests that led to an answer say which it is. Assumes nothing.
-use Prim.Native.Nat.{ℕ}
-use mathlib.Core.Path.{_≡_, sym, _∙_}
-use mathlib.Core.Bool.{true}
-use mathlib.Core.List.{List}
-use native.Mathlib.Omega.{arith}
-use borrow.Author.Needs.{needs}
-use borrow.Author.Tests.{not-true, not-false}
-use lib.ListN.{length, take}
-use lib.Seq.{length-take-le}
+use Rattle.base.specs.Prelude.{ℕ, _≡_, sym, _∙_, true, List, arith, needs, not-true, not-false, length, take, length-take-le}
 use Rattle.model.specs.Sound.{sound}
 use Rattle.model_laws.specs.Sounds.{sound-low}
 use Rattle.session_values.proofs.Standing.{unsound, short, written}

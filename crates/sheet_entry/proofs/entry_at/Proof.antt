@@ -1,9 +1,8 @@
 -- `sheet_entry::entry_at` meets its contract: near the end the bytes are read one by one, and past it they are all 0.
 -- Assumes nothing.
-use mathlib.Core.Path.{sym, _∙_}
+use Rattle.base.specs.Prelude.{sym, _∙_, needs}
 use denote.Ref.{now}
 use Rattle.sheet_entry.specs.Beyond.{entry-beyond}
-use borrow.Author.Needs.{needs}
 use Rattle.sheet_entry.proofs.entry_at.Statement.{statement}
 use Rattle.sheet_entry.proofs.entry_at.Tie as tie
 

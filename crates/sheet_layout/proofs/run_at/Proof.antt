@@ -1,10 +1,7 @@
 -- `sheet_layout::run_at` meets its contract: past the last whole pair of the bytes both numbers are 0. Assumes nothing.
-use native.Mathlib.Omega.{arith}
-use mathlib.Core.Path.{sym}
-use lib.Dec.{lit<}
+use Rattle.base.specs.Prelude.{arith, sym, lit<, needs}
 use denote.Ref.{now}
 use Rattle.part_bytes.specs.Beyond.{word16-beyond}
-use borrow.Author.Needs.{needs}
 use Rattle.sheet_layout.proofs.run_at.Statement.{statement}
 use Rattle.sheet_layout.proofs.run_at.Tie as tie
 

@@ -1,8 +1,7 @@
 -- `sheet_place::handed` meets its contract: by whether the run has an entry left. Assumes nothing.
-use borrow.Author.Tests.{le-leb, lt-leb}
+use Rattle.base.specs.Prelude.{le-leb, lt-leb, needs}
 use Rattle.sheet_place_laws.specs.Places.{handed}
 use Rattle.sheet_place.specs.Steps.{left-more, left-fewer}
-use borrow.Author.Needs.{needs}
 use Rattle.sheet_place.proofs.handed.Statement.{statement}
 use Rattle.sheet_place.proofs.handed.Tie as tie
 

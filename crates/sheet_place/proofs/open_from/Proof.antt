@@ -1,12 +1,9 @@
 -- `sheet_place::open_from` meets its contract. The loop's invariant: what is asked for is the first run from i on that has an entry,
 -- and i fits. The measure is the count of runs left. Assumes nothing.
-use Prim.Native.Nat.{_-_, _<_}
-use native.Mathlib.Omega.{arith}
-use mathlib.Core.Path.{_≡_, _∙_, sym, ap}
+use Rattle.base.specs.Prelude.{_-_, _<_, arith, _≡_, _∙_, sym, ap, needs}
 use Rattle.model.specs.Sheet.{runCount}
 use Rattle.sheet_place_laws.specs.Places.{encode, openFrom}
 use Rattle.sheet_place.specs.Steps.{open-here, open-on, open-none}
-use borrow.Author.Needs.{needs}
 use Rattle.sheet_place.proofs.open_from.Statement.{statement}
 use Rattle.sheet_place.proofs.open_from.Tie as tie
 

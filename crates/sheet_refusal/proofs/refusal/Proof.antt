@@ -1,14 +1,10 @@
 -- `sheet_refusal::refusal` meets its contract: each part is tested in its turn (`by-parts`). Assumes nothing.
-use mathlib.Core.Path.{_≡_}
-use mathlib.Core.Bool.{cond}
-use lib.Dec.{eqb}
+use Rattle.base.specs.Prelude.{_≡_, cond, eqb, le-leb, lt-leb, eq-eqb, ne-eqb, needs}
 use denote.Ref.{now}
-use borrow.Author.Tests.{le-leb, lt-leb, eq-eqb, ne-eqb}
 use Rattle.model.specs.Refusal.{refusal}
 use Rattle.model.specs.Sheet.{sheetRefusal}
 use Rattle.sheet_refusal.specs.RunTests.{runTests}
 use Rattle.sheet_refusal.specs.Parts.{by-parts}
-use borrow.Author.Needs.{needs}
 use Rattle.sheet_refusal.proofs.refusal.Statement.{statement}
 use Rattle.sheet_refusal.proofs.refusal.Tie as tie
 

@@ -1,15 +1,10 @@
 -- `sheet_refusal::runs_refusal` meets its contract. The loop's invariant: the runs from i on, after `from`, and the code decide.
 -- The measure is the count of runs left. Assumes nothing.
-use Prim.Native.Nat.{_-_}
-use native.Mathlib.Nat.{sub-zero}
-use mathlib.Core.Logic.{⊎-elim}
-use mathlib.Core.Path.{_≡_, _∙_, sym}
-use lib.ListN.{length}
+use Rattle.base.specs.Prelude.{_-_, sub-zero, ⊎-elim, _≡_, _∙_, sym, length, needs}
 use Rattle.model.specs.Refusal.{refusal}
 use Rattle.model.specs.Sheet.{runsFrom}
 use Rattle.sheet_layout.specs.Runs.{runs-none}
 use Rattle.sheet_refusal.specs.RunTests.{runTests, leftRefusal, early, long, not-whole, on}
-use borrow.Author.Needs.{needs}
 use Rattle.sheet_refusal.proofs.runs_refusal.Statement.{statement}
 use Rattle.sheet_refusal.proofs.runs_refusal.Tie as tie
 

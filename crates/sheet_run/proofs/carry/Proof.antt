@@ -1,19 +1,10 @@
 -- `sheet_run::carry` meets its contract. The loop's invariant is `Carrying`: the run from here on gives the answer, and the session is
 -- sound. The measure is the number of entries left. Assumes nothing.
-use Prim.Native.Nat.{ℕ, _<_}
-use native.Mathlib.Nat.{sub-zero}
-use native.Mathlib.Omega.{arith}
-use mathlib.Core.Path.{_≡_, refl, sym, _∙_}
-use mathlib.Core.Bool.{false}
-use mathlib.Core.List.{[], _∷_}
-use mathlib.Core.Logic.{⊎-elim}
-use borrow.Author.Needs.{needs}
-use lib.ListN.{length}
+use Rattle.base.specs.Prelude.{ℕ, _<_, sub-zero, arith, _≡_, refl, sym, _∙_, false, [], _∷_, ⊎-elim, needs, length}
 use types.Run.{OneOf}
 use denote.Enum.Declared as Declared
 use Rattle.model.proofs.Operation as Operations
-use Rattle.model.specs.declared.Operation.{Operation}
-use Rattle.model.specs.declared.Operation.the-variants.{Propose, Step, Learn, Crash, Malformed}
+use Rattle.model_laws.specs.Types.{Operation, Propose, Step, Learn, Crash, Malformed}
 use Rattle.model.specs.Board.{processAt}
 use Rattle.model.specs.Runner.{runFrom}
 use Rattle.model.specs.Sheet.{entries}

@@ -1,6 +1,5 @@
 -- `sheet_run::run` meets its contract: an accepted sheet opens a sound session. Assumes nothing.
-use mathlib.Core.Path.{_≡_, sym, _∙_, ap, ap₂}
-use borrow.Author.Needs.{needs}
+use Rattle.base.specs.Prelude.{_≡_, sym, _∙_, ap, ap₂, needs}
 use Rattle.model.specs.Window.{window}
 use Rattle.model.specs.Board.{opened, serverLimits}
 use Rattle.model.specs.Sheet.{processCount, roundLimit, sheetRefusal}

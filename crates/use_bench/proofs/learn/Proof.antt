@@ -1,6 +1,5 @@
 -- `use_bench::learn` meets its contract, by the walk of a function that lends a local (`session_step_lent`, `Lender.antt`). Assumes nothing.
-use mathlib.Core.Path.{ap}
-use mathlib.Core.List.{[], _∷_}
+use Rattle.base.specs.Prelude.{ap, [], _∷_}
 use mir.Syntax.{w64}
 use base.Logic.{emp, id⊢}
 use contract.Monad.{factI, fact-mono}

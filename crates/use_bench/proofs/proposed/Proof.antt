@@ -1,6 +1,5 @@
 -- `use_bench::proposed` meets its contract, which says nothing: its loop ends and no sum wraps. Assumes nothing.
-use Prim.Native.Nat.{_-_, _≤_}
-use borrow.Author.Needs.{needs}
+use Rattle.base.specs.Prelude.{_-_, _≤_, needs}
 use Rattle.use_bench.proofs.proposed.Statement.{statement}
 use Rattle.use_bench.proofs.proposed.Tie as tie
 

@@ -1,6 +1,5 @@
 -- `use_bench::told` meets its contract, which says nothing: its loop ends and each place is in its array. Assumes nothing.
-use Prim.Native.Nat.{_-_, _≤_}
-use borrow.Author.Needs.{needs}
+use Rattle.base.specs.Prelude.{_-_, _≤_, needs}
 use Rattle.use_bench.proofs.told.Statement.{statement}
 use Rattle.use_bench.proofs.told.Tie as tie
 

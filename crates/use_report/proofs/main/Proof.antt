@@ -1,10 +1,5 @@
 -- `use_report::main` meets its contract: the report's length lies within its bytes. Assumes nothing.
-use Prim.Native.Nat.{_≤_}
-use native.Mathlib.Omega.{arith}
-use mathlib.Core.Path.{sym, ap}
-use borrow.Author.Needs.{needs}
-use lib.ListN.{length, length-append}
-use lib.Seq.{length-take-le}
+use Rattle.base.specs.Prelude.{_≤_, arith, sym, ap, needs, length, length-append, length-take-le}
 use Rattle.use_report.proofs.main.Statement.{statement}
 use Rattle.use_report.proofs.main.Tie as tie
 

@@ -1,9 +1,5 @@
 -- `use_report_seats::put_seats` meets its contract. The loop's invariant: the lines of the first p seats are put. Assumes nothing.
-use Prim.Native.Nat.{_-_, _≤_, _<_}
-use native.Mathlib.Omega.{arith}
-use mathlib.Core.Path.{_≡_}
-use borrow.Author.Needs.{needs}
-use lib.ListN.{length, take}
+use Rattle.base.specs.Prelude.{_-_, _≤_, _<_, arith, _≡_, needs, length, take}
 use Rattle.base.specs.Arrays.{length-mapped}
 use Rattle.model_report.specs.Report.{seatLines}
 use Rattle.use_text.specs.Page.{Put, nothing}

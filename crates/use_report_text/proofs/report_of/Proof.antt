@@ -1,7 +1,5 @@
 -- `use_report_text::report_of` meets its contract: the lines are put on a blank page, one behind the other. Assumes nothing.
-use mathlib.Core.Path.{_≡_}
-use borrow.Author.Needs.{needs}
-use lib.ListN.{length}
+use Rattle.base.specs.Prelude.{_≡_, needs, length}
 use Rattle.base.specs.Arrays.{length-mapped}
 use Rattle.use_text.specs.Page.{after}
 use Rattle.use_report_laws.specs.Whole.{whole}

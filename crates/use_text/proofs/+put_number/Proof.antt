@@ -1,8 +1,5 @@
 -- `use_text::put_number` meets its contract. The measure is the number: a tenth of a number that is not 0 is less. Assumes nothing.
-use Prim.Native.Nat.{ℕ, _<_}
-use native.Mathlib.Omega.{arith}
-use mathlib.Core.Path.{sym}
-use borrow.Author.Needs.{needs}
+use Rattle.base.specs.Prelude.{ℕ, _<_, arith, sym, needs}
 use borrow.Fn.Kinds.{In}
 use borrow.Fn.PlainCycle.{Measures, is, falls, and}
 use Rattle.use_text.specs.Page.{after, same}

@@ -1,11 +1,5 @@
 -- `use_text::put_fields` meets its contract. The loop's invariant: the first i numbers are put behind the words. Assumes nothing.
-use Prim.Native.Nat.{_-_, _≤_}
-use native.Mathlib.Omega.{arith}
-use mathlib.Core.Path.{_≡_, refl}
-use mathlib.Core.List.{[]}
-use borrow.Author.Needs.{needs}
-use lib.ListN.{length, take}
-use lib.Seq.{take-all}
+use Rattle.base.specs.Prelude.{_-_, _≤_, arith, _≡_, refl, [], needs, length, take, take-all}
 use Rattle.use_text.specs.Page.{Put, nothing}
 use Rattle.use_text.specs.Numbers.{withFields, fields-more, fields-put}
 use Rattle.use_text.proofs.put_fields.Statement.{statement}

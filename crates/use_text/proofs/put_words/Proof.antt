@@ -1,10 +1,5 @@
 -- `use_text::put_words` meets its contract. The loop's invariant: the first i bytes of the words are put. Assumes nothing.
-use Prim.Native.Nat.{_-_, _≤_}
-use native.Mathlib.Omega.{arith}
-use mathlib.Core.Path.{_≡_, refl}
-use borrow.Author.Needs.{needs}
-use lib.ListN.{length, take}
-use lib.Seq.{take-all}
+use Rattle.base.specs.Prelude.{_-_, _≤_, arith, _≡_, refl, needs, length, take, take-all}
 use Rattle.use_text.specs.Page.{Put, nothing, same, words-more}
 use Rattle.use_text.proofs.put_words.Statement.{statement}
 use Rattle.use_text.proofs.put_words.Tie as tie

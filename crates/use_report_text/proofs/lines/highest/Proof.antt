@@ -1,9 +1,5 @@
 -- `use_report_text::lines::highest` meets its contract. The loop's invariant: the rounds from r + 1 on give the answer. Assumes nothing.
-use Prim.Native.Nat.{_-_, _≤_}
-use native.Mathlib.Omega.{arith}
-use mathlib.Core.Path.{_≡_, refl, sym, _∙_}
-use mathlib.Core.Logic.{⊎-elim}
-use lib.ListN.{length, drop}
+use Rattle.base.specs.Prelude.{_-_, _≤_, arith, _≡_, refl, sym, _∙_, ⊎-elim, length, drop}
 use Rattle.model.specs.Board.{highestFrom}
 use Rattle.use_report_laws.specs.Highest.{highest-filled, highest-blank, highest-done}
 use Rattle.use_report_text.proofs.lines.highest.Statement.{statement}
