@@ -6,12 +6,13 @@ use mathlib.Core.List.{List, [], _∷_, _++_}
 use mathlib.Core.Logic.{_⊎_, ⊎-elim}
 use native.Mathlib.Nat.{eq-or-lt-of-le, not-suc-le-zero}
 use native.Mathlib.Omega.{arith}
-use lib.ListN.{length, getD, take, length-append, List·getD-append}
-use lib.Seq.{take-suc, getD-append-seam}
+use lib.ListN.{length, getD, take, drop, length-append, List·getD-append}
+use lib.Seq.{take-suc, take-append-seam, getD-append-seam}
 use lib.Dec.{ltb, eqb}
 use borrow.Author.Tests.{ltb-true, ltb-false, eqb-true, eq-eqb, ne-eqb, lt-ltb, le-ltb}
 use Rattle.base.specs.Bools.{cond-cases}
-use Rattle.model.specs.ReadOut.{holds, valuesTo}
+use Rattle.model.specs.declared.Session.{Session}
+use Rattle.model.specs.ReadOut.{holds, valuesTo, standingValues, standingRefusal, standingAnswer, standingBuffer}
 
 -- ---- round by round
 
@@ -63,9 +64,9 @@ times-last x v (y ∷ l) = next (eqb x y) _ _ _ (times-last x v l)
     next false m n k p = p
 
 -- A number above 0 is not blank.
-filled : (x : ℕ) → ltb 0 x ≡ not (eqb x 0)
-filled zero = refl
-filled (suc x) = rw (lt-ltb 0 (suc x) (omega arith), ne-eqb (suc x) 0 (λ e. omega arith))
+not-blank : (x : ℕ) → ltb 0 x ≡ not (eqb x 0)
+not-blank zero = refl
+not-blank (suc x) = rw (lt-ltb 0 (suc x) (omega arith), ne-eqb (suc x) 0 (λ e. omega arith))
 
 -- Whether x is blank, held before, and the value of the next register: an old value changes nothing, and a new one is counted.
 same-test : (z h e : Bool) → (e ≡ true → (z || h) ≡ true) → (not z && (h || e)) ≡ (not z && h)
@@ -88,7 +89,7 @@ abbrev Once : ℕ → List ℕ → List ℕ → Type 0
 Once x ts l = times x l ≡ cond (not (eqb x 0) && holds x ts) 1 0
 
 pub each-once : (x : ℕ) (T : List ℕ) (r : ℕ) → r ≤ length T → times x (valuesTo T r) ≡ cond (ltb 0 x && holds x (take r T)) 1 0
-each-once x T r h = rw (filled x) (by-rounds (Once x) (none (eqb x 0)) same more T r h)
+each-once x T r h = rw (not-blank x) (by-rounds (Once x) (none (eqb x 0)) same more T r h)
   where
     none : (z : Bool) → _≡_ {A = ℕ} 0 (cond (not z && false) 1 0)
     none true = refl
@@ -101,6 +102,13 @@ each-once x T r h = rw (filled x) (by-rounds (Once x) (none (eqb x 0)) same more
     more : (ts l : List ℕ) (v : ℕ) → old v ts ≡ false → Once x ts l → Once x (ts ++ v ∷ []) (l ++ v ∷ [])
     more ts l v o p =
         rw (holds-last x v ts, times-last x v l, p) (more-test (eqb x 0) (holds x ts) (eqb x v) (λ e. rw (eqb-true x v e) o))
+
+-- ---- 01: "It returns how many"
+
+-- Accepted, the count is the list's length, and the buffer begins with the list.
+pub counted : (s : Session) (buffer : List ℕ) → standingRefusal s buffer ≡ 0
+    → (standingAnswer s buffer .count ≡ length (standingValues s)) × (take (length (standingValues s)) (standingBuffer s buffer) ≡ standingValues s)
+counted s buffer e = (rw e, rw (e, take-append-seam (standingValues s) (drop (length (standingValues s)) buffer)))
 
 -- ---- 02: "by the first round in which it stands, lowest first"
 

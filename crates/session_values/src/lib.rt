@@ -1,5 +1,5 @@
-// The standing values of a session (document 01, "Standing values"; 02, wish 1: their order). 3 where the session is not sound, then 15 where the buffer is too
-// short; refused, the lent buffer is as it was.
+// The standing values of a session (document 01, "Standing values"; 02, wish 1: their order). 3 where the session is not sound, then 15
+// where the buffer is too short; refused, the lent buffer is as it was.
 ghost use mathlib.Core.Path.{_≡_};
 ghost use Prim.Native.Nat.{_≤_};
 ghost use mathlib.Core.List.{_++_};

@@ -38,18 +38,18 @@ fn print_numbers(numbers: &[u32]) {
     }
 }
 
-// So many places of a buffer of 256.
-fn within(places: usize) -> usize
+// So many places are lent of a buffer of 256.
+fn places(asked: usize) -> usize
     ensures { λ r. ⌜ r ≤ 256 ⌝ }
 {
-    if places < 256 { places } else { 256 }
+    if asked < 256 { asked } else { 256 }
 }
 
 // The standing values, written to the first places of a buffer full of one number, which shows the places left alone.
 fn print_standing(s: Session, asked: usize) {
     let mut buffer = [4294967295u32; 256];
-    let places = within(asked);
-    let lent = &mut buffer[..places];
+    let n = places(asked);
+    let lent = &mut buffer[..n];
     let answer = session_values::standing_values(s, lent);
     print(answer.code as u64, b" ");
     print(answer.count as u64, b"");
@@ -61,7 +61,7 @@ fn main() {
     let mut bytes = [0u8; 6];
     io::read_full(0, &mut bytes);
     let budget = part_bytes::word32(&bytes, 0) as usize;
-    let places = part_bytes::word16(&bytes, 4) as usize;
+    let asked = part_bytes::word16(&bytes, 4) as usize;
     // A sheet of 65,535 bytes is the longest; one more that is read shows that it is longer.
     let mut sheet = io::large_buffer();
     let n = io::read_full(0, &mut sheet);
@@ -74,5 +74,5 @@ fn main() {
     print(counts.writes as u64, b" ");
     print(counts.contested as u64, b"\n");
     let left = ran.session;
-    print_standing(left, places);
+    print_standing(left, asked);
 }
