@@ -1,7 +1,7 @@
 -- What 01 says of the standing values, and 02 of their order, is so of the list that the model gives (`valuesTo`). Assumes nothing.
 use Prim.Native.Nat.{ℕ, zero, suc, _+_, _≤_, _<_}
 use mathlib.Core.Path.{_≡_, refl, sym, ap}
-use mathlib.Core.Bool.{Bool, true, false, cond, not, _&&_, _||_}
+use mathlib.Core.Bool.{Bool, true, false, cond, not, _&&_, _||_, and-false, or-false, or-assoc}
 use mathlib.Core.List.{List, [], _∷_, _++_}
 use mathlib.Core.Logic.{_⊎_, ⊎-elim}
 use native.Mathlib.Nat.{eq-or-lt-of-le, not-suc-le-zero}
@@ -9,7 +9,7 @@ use native.Mathlib.Omega.{arith}
 use lib.ListN.{length, getD, take, drop, length-append, List·getD-append}
 use lib.Seq.{take-suc, take-append-seam, getD-append-seam}
 use lib.Dec.{ltb, eqb}
-use borrow.Author.Tests.{ltb-true, ltb-false, eqb-true, eq-eqb, ne-eqb, lt-ltb, le-ltb}
+use borrow.Author.Tests.{ltb-true, ltb-false, eqb-true, eq-eqb, lt-ltb, le-ltb}
 use Rattle.base.specs.Bools.{cond-cases}
 use Rattle.model.specs.declared.Session.{Session}
 use Rattle.model.specs.ReadOut.{holds, valuesTo, standingValues, standingRefusal, standingAnswer, standingBuffer}
@@ -44,16 +44,8 @@ times x (y ∷ ys) = cond (eqb x y) (suc (times x ys)) (times x ys)
 
 -- One number more at the end.
 pub holds-last : (x v : ℕ) (l : List ℕ) → holds x (l ++ v ∷ []) ≡ (holds x l || eqb x v)
-holds-last x v [] = first (eqb x v)
-  where
-    first : (e : Bool) → (e || false) ≡ e
-    first true = refl
-    first false = refl
-holds-last x v (y ∷ l) = next (eqb x y) (holds-last x v l)
-  where
-    next : (e : Bool) → holds x (l ++ v ∷ []) ≡ (holds x l || eqb x v) → (e || holds x (l ++ v ∷ [])) ≡ ((e || holds x l) || eqb x v)
-    next true p = refl
-    next false p = p
+holds-last x v [] = or-false (eqb x v)
+holds-last x v (y ∷ l) = rw (holds-last x v l) (sym (or-assoc (eqb x y) (holds x l) (eqb x v)))
 
 times-last : (x v : ℕ) (l : List ℕ) → times x (l ++ v ∷ []) ≡ times x l + cond (eqb x v) 1 0
 times-last x v [] = omega arith
@@ -62,11 +54,6 @@ times-last x v (y ∷ l) = next (eqb x y) _ _ _ (times-last x v l)
     next : (e : Bool) (m n k : ℕ) → m ≡ n + k → cond e (suc m) m ≡ cond e (suc n) n + k
     next true m n k p = omega arith
     next false m n k p = p
-
--- A number above 0 is not blank.
-not-blank : (x : ℕ) → ltb 0 x ≡ not (eqb x 0)
-not-blank zero = refl
-not-blank (suc x) = rw (lt-ltb 0 (suc x) (omega arith), ne-eqb (suc x) 0 (λ e. omega arith))
 
 -- Whether x is blank, held before, and the value of the next register: an old value changes nothing, and a new one is counted.
 same-test : (z h e : Bool) → (e ≡ true → (z || h) ≡ true) → (not z && (h || e)) ≡ (not z && h)
@@ -84,17 +71,13 @@ more-test false false true new = refl
 more-test true h true new = let z : true ≡ false = new refl in cc
 more-test false true true new = let z : true ≡ false = new refl in cc
 
--- With `not` in place of the order, which the steps speak of.
-abbrev Once : ℕ → List ℕ → List ℕ → Type 0
+-- A number is listed once if it is a value that a register holds, and otherwise not at all.
+abbrev pub Once : ℕ → (registers listed : List ℕ) → Type 0
 Once x ts l = times x l ≡ cond (not (eqb x 0) && holds x ts) 1 0
 
-pub each-once : (x : ℕ) (T : List ℕ) (r : ℕ) → r ≤ length T → times x (valuesTo T r) ≡ cond (ltb 0 x && holds x (take r T)) 1 0
-each-once x T r h = rw (not-blank x) (by-rounds (Once x) (none (eqb x 0)) same more T r h)
+pub each-once : (x : ℕ) (T : List ℕ) (r : ℕ) → r ≤ length T → Once x (take r T) (valuesTo T r)
+each-once x = by-rounds (Once x) (rw (and-false (not (eqb x 0)))) same more
   where
-    none : (z : Bool) → _≡_ {A = ℕ} 0 (cond (not z && false) 1 0)
-    none true = refl
-    none false = refl
-
     same : (ts l : List ℕ) (v : ℕ) → old v ts ≡ true → Once x ts l → Once x (ts ++ v ∷ []) l
     same ts l v o p =
         rw (holds-last x v ts, same-test (eqb x 0) (holds x ts) (eqb x v) (λ e. rw (eqb-true x v e) o)) p
@@ -135,9 +118,9 @@ first-new v (y ∷ ts) h = next (eqb v y) (first-new v ts) h
     next false p h = ap suc (p h)
 
 -- The second of two tests that fail.
-or-false : (a b : Bool) → (a || b) ≡ false → b ≡ false
-or-false true b h = let z : true ≡ false = h in cc
-or-false false b h = h
+fails : (a b : Bool) → (a || b) ≡ false → b ≡ false
+fails true b h = let z : true ≡ false = h in cc
+fails false b h = h
 
 -- The first rounds of listed values are rounds of the board, and ascend.
 record Ascends (ts l : List ℕ) : Type 0 where
@@ -161,7 +144,7 @@ module _ (ts l : List ℕ) (v : ℕ) (a : Ascends ts l) where
   before i h = rw (List·getD-append l (v ∷ []) 0 i h) (kept i h)
 
   last : old v ts ≡ false → (i : ℕ) → i ≡ length l → firstRound (getD (l ++ v ∷ []) i 0) (ts ++ v ∷ []) ≡ suc (length ts)
-  last o i e = rw (e, getD-append-seam l v [] 0) (first-new v ts (or-false (eqb v 0) (holds v ts) o))
+  last o i e = rw (e, getD-append-seam l v [] 0) (first-new v ts (fails (eqb v 0) (holds v ts) o))
 
   -- Which of the two a place is.
   place : (i : ℕ) → i < length (l ++ v ∷ []) → (i ≡ length l) ⊎ (i < length l)

@@ -1,7 +1,7 @@
 -- One round more: what the loops over the rounds do to the list, and one place more of a copy. Assumes nothing.
 use Prim.Native.Nat.{ℕ, zero, suc, _+_, _<_}
-use mathlib.Core.Path.{_≡_, refl, sym}
-use mathlib.Core.Bool.{Bool, true, false, _||_}
+use mathlib.Core.Path.{_≡_, sym}
+use mathlib.Core.Bool.{true, false, or-true}
 use mathlib.Core.List.{List, [], _∷_, _++_}
 use native.Mathlib.Nat.{le-of-lt, not-suc-le-zero}
 use native.Mathlib.Numerals.{add-one}
@@ -19,10 +19,6 @@ unfolding valuesTo
 round-blank T l r e p = rw (add-one, e) p
 
 -- Nor does one whose value an earlier round holds.
-or-true : (a : Bool) → (a || true) ≡ true
-or-true true = refl
-or-true false = refl
-
 holds-earlier : (T : List ℕ) (r e y : ℕ) → e < r → e < length T → getD T e 0 ≡ y → holds y (take r T) ≡ true
 holds-earlier [] r e y a b h = absurd (not-suc-le-zero b)
 holds-earlier (x ∷ T) zero e y a b h = absurd (not-suc-le-zero a)
