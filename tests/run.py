@@ -1,14 +1,17 @@
 #!/usr/bin/env python3
-"""Runs sheets under budgets through the proved program and the separate one, and compares the line that each prints.
+"""Runs sheets under budgets through the proved program and the separate one, and compares the two lines that each prints: how the run
+ends, and the standing values of the session that it leaves, read out to a buffer.
 
 usage: run.py PROVED SEPARATE
 
-Document 01's case "Budget 0 with one entry: budget ended, 0", the sample sheets under every budget up to 20 and some larger ones, and
-random sheets from one seed, some of them damaged. Ends with 1 at the first difference, or where the cases reach too little.
+Document 01's case "Budget 0 with one entry: budget ended, 0", the sample sheets under every budget up to 20 and some larger ones,
+random sheets from one seed, some of them damaged, and boards whose registers hold given values, read out to buffers of several lengths.
+Ends with 1 at the first difference, or where the cases reach too little.
 """
 
 import collections
 import glob
+import math
 import random
 import struct
 import subprocess
@@ -20,27 +23,31 @@ RANDOM_SHEETS = 300
 MOST = 2**32 - 1
 # The random sheets must end in every way that a sheet of this length can.
 ENDINGS = {0, 1, 2, *range(4, 14), 100}
+# What a place of the buffer holds at first.
+MARKER = str(2**32 - 1)
+MOST_PLACES = 256
+BOARDS = 60
 
 
-def line(words, told):
+def printed(words, told):
     """What a program prints."""
     return subprocess.run(words, input=told, capture_output=True, check=True).stdout.decode()
 
 
-def proved(sheet, budget):
-    return line([PROVED], struct.pack("<I", budget) + sheet)
+def proved(sheet, budget, places=0):
+    return printed([PROVED], struct.pack("<IH", budget, places) + sheet)
 
 
-def separate(sheet, budget):
-    return line([SEPARATE, "run", str(budget)], sheet)
+def separate(sheet, budget, places=0):
+    return printed([SEPARATE, "run", str(budget), str(places)], sheet)
 
 
-def same(what, sheet, budget):
-    """The line, which must be the same from both."""
-    ours, theirs = proved(sheet, budget), separate(sheet, budget)
+def same(what, sheet, budget, places=0):
+    """The two lines, which must be the same from both."""
+    ours, theirs = proved(sheet, budget, places), separate(sheet, budget, places)
     if ours != theirs:
-        sys.exit(f"run: {what}, budget {budget}: {ours!r}, and the separate program has {theirs!r}")
-    return ours
+        sys.exit(f"run: {what}, budget {budget}, {places} places: {ours!r}, and the separate program has {theirs!r}")
+    return ours.splitlines()
 
 
 def entries(rng, n):
@@ -55,25 +62,89 @@ def entries(rng, n):
     return made
 
 
+def joined(n, limit, runs):
+    """A sheet of these runs of entries."""
+    data = [[struct.pack("<BBI", *entry) for entry in run] for run in runs]
+    made, place = struct.pack("<BBH", n, len(runs), limit), 4 + 4 * len(runs)
+    for run in data:
+        made += struct.pack("<HH", place, 6 * len(run))
+        place += 6 * len(run)
+    return made + b"".join(entry for run in data for entry in run)
+
+
 def sheet(rng):
     """A sheet of one or two runs; one in five is damaged."""
     n = rng.randint(1, 6)
-    data = [struct.pack("<BBI", *entry) for entry in entries(rng, n)]
+    data = entries(rng, n)
     cut = rng.randint(0, len(data))
     runs = [data] if rng.random() < 0.5 else [data[:cut], data[cut:]]
-    made, place = struct.pack("<BBH", n, len(runs), rng.choice([2 * n + 1, 20, 256])), 4 + 4 * len(runs)
-    for run in runs:
-        made += struct.pack("<HH", place, 6 * len(run))
-        place += 6 * len(run)
-    made = bytearray(made + b"".join(entry for run in runs for entry in run))
+    made = bytearray(joined(n, rng.choice([2 * n + 1, 20, 256]), runs))
     if rng.random() < 0.2:
         made[rng.randrange(min(12, len(made)))] = rng.randrange(256)
     return bytes(made)
 
 
+# ---------------------------------------------------------------- boards with given values
+
+
+def board(values):
+    """A sheet that leaves these values in the registers of the first rounds: all seats walk on side by side, seat s stays behind where it
+    is about to write round s + 1, and in the end each writes. With hint no a seat goes on until it stands at gate, and there it waits."""
+    n = len(values)
+    window = 2 * math.ceil(math.sqrt(n)) + 1
+    walk = [(0, seat, value) for seat, value in enumerate(values)]
+    walk += [(1, seat, 1) for seat in range(n)]
+    for behind in range(1, n):
+        most = 1 + 2 * min(behind, window) + (2 * window + 1 if behind >= window else 0)
+        for seat in range(behind, n):
+            walk += [(1, seat, 0)] * most + [(1, seat, 1)]
+    walk += [(1, seat, 0) for seat in range(n)]
+    return joined(n, max(window, n + 1), [walk])
+
+
+def drawn(rng):
+    """Values of many kinds, of few, or all of one kind."""
+    n = rng.randint(1, 12)
+    kinds = rng.sample(range(1, 100), {0: n, 1: min(n, 3), 2: 1}[rng.randrange(3)])
+    return kinds if len(kinds) == n else [rng.choice(kinds) for _ in range(n)]
+
+
+def read_out(values, listed):
+    """The read-out of a board with these values, whose list is given, to buffers of every kind of length."""
+    made = board(values)
+    for kind, places in (("short", len(listed) - 1), ("exact", len(listed)), ("longer", len(listed) + 3), ("none", 0), ("all", 65_535)):
+        told = listed if places >= len(listed) else []
+        lent = min(places, MOST_PLACES)
+        expected = " ".join([f"0 {len(told)}" if told else "15 0", *map(str, told), *[MARKER] * (lent - len(told))])
+        if same(f"a board of {values}", made, MOST, places)[1] != expected:
+            sys.exit(f"run: the standing values of {values} to {places} places are not {expected!r}")
+        yield kind
+
+
+def kinds_of(values, listed):
+    """What the order of a board's list tells from other orders, and how many values are equal."""
+    last_round = list(dict.fromkeys(reversed(values)))[::-1]
+    if listed not in (sorted(listed), last_round, last_round[::-1], listed[::-1]):
+        yield "order"
+    yield {1: "one value", len(values): "all different"}.get(len(listed), "some equal")
+
+
+def boards(rng):
+    """Boards by first round; every kind of board and of buffer must be reached."""
+    reached = collections.Counter()
+    for values in [[7], [3, 1, 3, 2, 1, 3, 5], *(drawn(rng) for _ in range(BOARDS))]:
+        listed = list(dict.fromkeys(values))
+        reached.update(kinds_of(values, listed))
+        reached.update(read_out(values, listed))
+    missing = {"order", "one value", "all different", "some equal", "short", "exact", "longer", "none", "all"} - set(reached)
+    if missing:
+        sys.exit(f"run: no board or buffer of these kinds: {sorted(missing)}")
+    return reached
+
+
 def main():
     one = bytes([1, 1, 3, 0, 8, 0, 6, 0, 0, 0, 1, 0, 0, 0])
-    if same("one entry", one, 0) != "100 0 0 0 0\n" or same("one entry", one, 1) != "0 1 0 0 0\n":
+    if same("one entry", one, 0) != ["100 0 0 0 0", "0 0"] or same("one entry", one, 1, 1) != ["0 1 0 0 0", f"0 0 {MARKER}"]:
         sys.exit("run: a sheet of one entry does not end as document 01 has it")
     count = 2
     for name in sorted(glob.glob("examples/*.sheet")):
@@ -82,19 +153,23 @@ def main():
         for budget in [*range(21), 100, 10_921, MOST]:
             same(name, sample, budget)
             count += 1
-    reached = collections.Counter()
+    reached, read = collections.Counter(), collections.Counter()
     rng = random.Random(SEED)
     for index in range(RANDOM_SHEETS):
         made = sheet(rng)
         budget = rng.choice([rng.randint(0, 70), 65_536 * rng.randint(0, 9), MOST])
-        reached[int(same(f"random sheet {index} of seed {SEED}", made, budget).split()[0])] += 1
+        ending, standing = same(f"random sheet {index} of seed {SEED}", made, budget, rng.randint(0, 4))
+        reached[int(ending.split()[0])] += 1
+        read[int(standing.split()[0])] += 1
         count += 1
-    if ENDINGS - set(reached):
-        sys.exit(f"run: no random sheet ends with {sorted(ENDINGS - set(reached))}")
-    # The comparison sees a budget that is one too large.
-    if proved(one, 1) == separate(one, 0):
-        sys.exit("run: a wrong budget is not seen")
+    if ENDINGS - set(reached) or {0, 3, 15} - set(read):
+        sys.exit(f"run: no random sheet ends with {sorted(ENDINGS - set(reached))}, or is read out with {sorted({0, 3, 15} - set(read))}")
+    kinds = boards(rng)
+    # The comparison sees a budget that is one too large, and a buffer.
+    if proved(one, 1) == separate(one, 0) or proved(one, 1, 1) == separate(one, 1, 0):
+        sys.exit("run: a wrong budget or buffer is not seen")
     print(f"run: {count} runs of a sheet as the separate program has them; random sheets end with {dict(sorted(reached.items()))}")
+    print(f"run: their standing values are read out with {dict(sorted(read.items()))}; boards and buffers: {dict(sorted(kinds.items()))}")
 
 
 main()

@@ -9,36 +9,39 @@
 //! - `reference entry BUDGET` prints `code CODE`, the C entry's answer, and a
 //!   line `seat S decided VALUE` for each place of the buffer that is not 0
 //!   (01, "Turn sheets").
-//! - `reference run BUDGET` prints one line: the C entry's number, the entries
-//!   carried out, and the reads, writes and contested writes.
+//! - `reference run BUDGET PLACES` prints two lines: the C entry's number, the
+//!   entries carried out, and the reads, writes and contested writes; and of the
+//!   session that is left the read-out of the standing values to a buffer of so
+//!   many places, 256 at most: its number, its count and the places after it,
+//!   which hold 4294967295 before.
 
 use std::io::{self, Read, Write};
 use std::process::ExitCode;
 
 use janus_reference::runner::BUFFER;
 use janus_reference::sheet::MAX_BYTES;
-use janus_reference::{entry, report, run, trace, traces, Counts, Sheet};
+use janus_reference::{entry, report, run, trace, traces, Counts, Refusal, Session, Sheet};
 
 const USAGE: &str =
-    "usage: reference report | trace | traces | entry BUDGET | run BUDGET   (sheet on standard input)";
+    "usage: reference report | trace | traces | entry BUDGET | run BUDGET PLACES   (sheet on standard input)";
 
 fn main() -> ExitCode {
     let arguments: Vec<String> = std::env::args().skip(1).collect();
     let words: Vec<&str> = arguments.iter().map(String::as_str).collect();
     // Of one sheet no more is read than it takes to see that it is too long.
     let one = MAX_BYTES as u64 + 1;
-    let (most, answer): (u64, fn(&[u8], u64) -> String) = match words[..] {
+    let (most, answer): (u64, fn(&[u8], &[u64]) -> String) = match words[..] {
         ["report"] => (one, |sheet, _| report(sheet)),
         ["trace"] => (one, |sheet, _| trace(sheet)),
         ["traces"] => (u64::MAX, |sheets, _| traces(sheets)),
         ["entry", _] => (one, entry_text),
-        ["run", _] => (one, run_text),
+        ["run", _, _] => (one, run_text),
         _ => return fail(USAGE),
     };
-    let Ok(budget) = words.get(1).map_or(Ok(0), |word| word.parse()) else {
+    let Ok(numbers) = words[1..].iter().map(|word| word.parse()).collect() else {
         return fail(USAGE);
     };
-    match answer_input(most, answer, budget) {
+    match answer_input(most, answer, numbers) {
         Ok(()) => ExitCode::SUCCESS,
         Err(error) => fail(&format!("reference: {error}")),
     }
@@ -50,15 +53,19 @@ fn fail(message: &str) -> ExitCode {
 }
 
 /// Reads so many bytes at most and prints the answer to them.
-fn answer_input(most: u64, answer: fn(&[u8], u64) -> String, budget: u64) -> io::Result<()> {
+fn answer_input(
+    most: u64,
+    answer: fn(&[u8], &[u64]) -> String,
+    numbers: Vec<u64>,
+) -> io::Result<()> {
     let mut input = Vec::new();
     io::stdin().take(most).read_to_end(&mut input)?;
-    io::stdout().write_all(answer(&input, budget).as_bytes())
+    io::stdout().write_all(answer(&input, &numbers).as_bytes())
 }
 
-fn entry_text(sheet: &[u8], budget: u64) -> String {
+fn entry_text(sheet: &[u8], numbers: &[u64]) -> String {
     let mut buffer = [0; BUFFER];
-    let mut text = format!("code {}\n", entry(sheet, budget, &mut buffer));
+    let mut text = format!("code {}\n", entry(sheet, numbers[0], &mut buffer));
     for (process, place) in buffer.chunks_exact(4).enumerate() {
         let value = u32::from_le_bytes([place[0], place[1], place[2], place[3]]);
         if value != 0 {
@@ -68,15 +75,35 @@ fn entry_text(sheet: &[u8], budget: u64) -> String {
     text
 }
 
-fn run_text(bytes: &[u8], budget: u64) -> String {
+fn run_text(bytes: &[u8], numbers: &[u64]) -> String {
     let mut counts = Counts::default();
-    let (code, carried_out) = match Sheet::read(bytes) {
+    let (code, carried_out, session) = match Sheet::read(bytes) {
         Ok(sheet) => {
-            let ending = run(&sheet, budget, &mut sheet.open(), &mut counts);
-            (ending.code(), ending.carried_out())
+            let mut session = sheet.open();
+            let ending = run(&sheet, numbers[0], &mut session, &mut counts);
+            (ending.code(), ending.carried_out(), Some(session))
         }
-        Err(refusal) => (refusal.code(), 0),
+        Err(refusal) => (refusal.code(), 0, None),
     };
     let tally = [counts.reads, counts.writes, counts.contested].map(|count| count.to_string());
-    format!("{code} {carried_out} {}\n", tally.join(" "))
+    let standing = standing_text(session.as_ref(), numbers[1]);
+    format!("{code} {carried_out} {}\n{standing}\n", tally.join(" "))
+}
+
+/// Where no session was made, none is sound.
+fn standing_text(session: Option<&Session>, places: u64) -> String {
+    let mut buffer = vec![u32::MAX; places.min(256) as usize];
+    let answer = match session {
+        Some(session) => session.standing_values(&mut buffer),
+        None => Err(Refusal::Unsound),
+    };
+    let (code, count) = match answer {
+        Ok(count) => (0, count),
+        Err(refusal) => (refusal.code(), 0),
+    };
+    let mut text = format!("{code} {count}");
+    for number in buffer {
+        text += &format!(" {number}");
+    }
+    text
 }

@@ -29,8 +29,9 @@ impl Session {
         Ok(self.registers.decision)
     }
 
-    /// Writes each value that a filled register holds once, by first round, and
-    /// returns how many. (01, "Standing values"; order: 3, 15.)
+    /// Writes each value that a filled register holds once, by the first round
+    /// in which it stands, lowest first, and returns how many. (01, "Standing
+    /// values"; 02, wish 1; order of the tests: 3, 15.)
     pub fn standing_values(&self, buffer: &mut [u32]) -> Result<usize, Refusal> {
         self.check_sound()?;
         let mut found = [0; MAX_ROUNDS];

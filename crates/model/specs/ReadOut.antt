@@ -1,9 +1,8 @@
--- Document 01, "Standing values": the read-outs. "Read-outs 3, then 4, 14 or 15 as the read-out has a seat, a round or a buffer."
+-- Document 01, "Standing values", and 02, wish 1: the read-outs. "Read-outs 3, then 4, 14 or 15 as the read-out has a seat, a round or a buffer."
 use Prim.Native.Nat.{ℕ, suc, zero, _+_}
-use mathlib.Core.Path.{_≡_}
 use mathlib.Core.Bool.{Bool, false, cond, not, _&&_, _||_}
 use mathlib.Core.List.{List, [], _∷_, _++_}
-use lib.ListN.{length, take, drop}
+use lib.ListN.{length, getD, take, drop}
 use lib.Dec.{leb, ltb, eqb}
 use Rattle.model.specs.declared.Process.{Process}
 use Rattle.model.specs.declared.Session.{Session}
@@ -51,42 +50,35 @@ abbrev pub holds : ℕ → List ℕ → Bool
 holds x [] = false
 holds x (y ∷ ys) = eqb x y || holds x ys
 
--- How often x stands in a list.
-abbrev pub times : ℕ → List ℕ → ℕ
-times x [] = 0
-times x (y ∷ ys) = cond (eqb x y) (suc (times x ys)) (times x ys)
+-- A list with v at its end, unless v is blank or, 01, "a value already found in an earlier round".
+abbrev pub withNew : (earlier : List ℕ) (v : ℕ) (listed : List ℕ) → List ℕ
+withNew earlier v listed = cond (eqb v 0 || holds v earlier) listed (listed ++ v ∷ [])
 
--- "The values held by the filled registers among T[1] to T[L] .. in whatever order, each value that a filled register holds is
--- there exactly once, and nothing else": a value above 0 that is held is listed once, any other number not at all.
-abbrev pub ListsOnce : (registers listed : List ℕ) → Type 0
-ListsOnce registers listed =
-    (x : ℕ) → times x listed ≡ cond (ltb 0 x && holds x registers) 1 0
+-- 02, wish 1: "List each value by the first round in which it stands, lowest first": the values of T[1] to T[r], round by round.
+unfoldable pub valuesTo : (T : List ℕ) (r : ℕ) → List ℕ
+valuesTo T zero = []
+valuesTo T (suc r) = withNew (take r T) (getD T r 0) (valuesTo T r)
 
--- How many values stand: the filled registers whose value stands in no later one.
-unfoldable pub distinct : List ℕ → ℕ
-distinct [] = 0
-distinct (y ∷ ys) = cond (eqb y 0 || holds y ys) (distinct ys) (suc (distinct ys))
-
--- T[1] to T[L].
-abbrev pub registers : Session → List ℕ
-registers s = take (s .limit) (s .values)
+-- "The values held by the filled registers among T[1] to T[L]."
+abbrev pub standingValues : Session → List ℕ
+standingValues s = valuesTo (s .values) (s .limit)
 
 -- "15 is returned exactly when the buffer is shorter than that count."
 unfoldable pub standingRefusal : Session → (buffer : List ℕ) → ℕ
-standingRefusal s buffer = refusal ((not (sound s), 3) ∷ (ltb (length buffer) (distinct (registers s)), 15) ∷ [])
+standingRefusal s buffer = refusal ((not (sound s), 3) ∷ (ltb (length buffer) (length (standingValues s)), 15) ∷ [])
 
 abbrev pub countAnswer : ℕ → (count : ℕ) → CountAnswer
 countAnswer zero c = record { code = 0; count = c }
 countAnswer (suc k) c = record { code = suc k; count = 0 }
 
--- The buffer after: the listed values from its first place on, "later buffer places keep their numbers"; refused, it is as it was.
+-- "It returns how many."
+abbrev pub standingAnswer : Session → (buffer : List ℕ) → CountAnswer
+standingAnswer s buffer = countAnswer (standingRefusal s buffer) (length (standingValues s))
+
 abbrev pub buffered : ℕ → (listed buffer : List ℕ) → List ℕ
 buffered zero listed buffer = listed ++ drop (length listed) buffer
 buffered (suc k) listed buffer = buffer
 
--- The answer and the buffer after, for some list of the standing values: "one thing alone is free, the order".
-pub record StandingValues (s : Session) (buffer : List ℕ) (answer : CountAnswer) (after : List ℕ) : Type 0 where
-  pub listed : List ℕ
-  pub once : ListsOnce (registers s) listed
-  pub answers : answer ≡ countAnswer (standingRefusal s buffer) (distinct (registers s))
-  pub leaves : after ≡ buffered (standingRefusal s buffer) listed buffer
+-- The buffer after: the list "from its first place on .. later buffer places keep their numbers"; refused, it is as it was.
+abbrev pub standingBuffer : Session → (buffer : List ℕ) → List ℕ
+standingBuffer s buffer = buffered (standingRefusal s buffer) (standingValues s) buffer

@@ -13,5 +13,5 @@ pub mod ByteLaws
 pub mod Passes
 pub mod SoundTests
 pub mod SoundRecords
-pub mod Listings
+pub mod FirstRounds
 pub mod ListedRounds

@@ -2,6 +2,7 @@
 pub use Rattle.model.specs.declared.Access.{Access}
 pub use Rattle.model.specs.declared.Access.the-variants.{Nothing, ReadDecision, ReadMark, ReadValue, SetMark, WriteDecision, WriteValue}
 pub use Rattle.model.specs.declared.Changed.{Changed}
+pub use Rattle.model.specs.declared.CountAnswer.{CountAnswer}
 pub use Rattle.model.specs.declared.Counts.{Counts}
 pub use Rattle.model.specs.declared.DecisionAnswer.{DecisionAnswer}
 pub use Rattle.model.specs.declared.Ending.{Ending}

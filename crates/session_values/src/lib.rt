@@ -1,11 +1,10 @@
-// The standing values of a session (document 01, "Standing values"). 3 where the session is not sound, then 15 where the buffer is too
-// short; refused, the lent buffer is as it was.
+// The standing values of a session (document 01, "Standing values"; 02, wish 1: their order). 3 where the session is not sound, then 15
+// where the buffer is too short; refused, the lent buffer is as it was.
 ghost use mathlib.Core.Path.{_≡_};
 ghost use Prim.Native.Nat.{_≤_};
 ghost use mathlib.Core.List.{_++_};
 ghost use lib.ListN.{length, take, drop};
-ghost use Rattle.model.specs.ReadOut.{StandingValues};
-ghost use Rattle.session_values.specs.Post.{FirstRounds};
+ghost use Rattle.model.specs.ReadOut.{valuesTo, standingAnswer, standingBuffer};
 use model::CountAnswer;
 use model::Session;
 
@@ -15,11 +14,11 @@ struct Listed {
     count: usize,
 }
 
-// "Standing values": "the values held by the filled registers among T[1] to T[L] ..; a value already found in an earlier round is
-// listed only once". First round first; the search of the earlier rounds ends the round at the first equal value.
+// "List each value by the first round in which it stands, lowest first"; "a value already found in an earlier round is listed only
+// once": the search of the earlier rounds ends the round at the first equal value.
 fn list(registers: &[u32], limit: usize) -> Listed
     requires { ⌜ (limit ≤ 256) × (limit ≤ length (now registers)) ⌝ }
-    ensures { λ r. ⌜ FirstRounds (take limit (now (registers .entry))) (r .values) (r .count) ⌝ }
+    ensures { λ r. ⌜ (take (r .count) (r .values) ≡ valuesTo (now (registers .entry)) limit) × (r .count ≤ length (r .values)) ⌝ }
 {
     let mut values = [0u32; 256];
     let mut count: usize = 0;
@@ -52,7 +51,8 @@ fn copy(values: &[u32], count: usize, buffer: &mut [u32])
 // "Standing values": "It returns how many". 3, then 15 "exactly when the buffer is shorter than that count", which is known before
 // the buffer is written.
 pub fn standing_values(s: Session, buffer: &mut [u32]) -> CountAnswer
-    ensures { λ r. ⌜ StandingValues s (now (buffer .entry)) r (now (buffer .exit)) ⌝ }
+    ensures answers { λ r. ⌜ r ≡ standingAnswer s (now (buffer .entry)) ⌝ }
+    ensures writes { λ _. ⌜ now (buffer .exit) ≡ standingBuffer s (now (buffer .entry)) ⌝ }
 {
     if !session_sound::sound(s) {
         return CountAnswer { code: 3, count: 0 };

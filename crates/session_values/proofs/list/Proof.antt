@@ -1,9 +1,7 @@
--- `session_values::list` meets its contract. The outer loop's invariant: the first `count` values list those of the first r rounds, each
--- once. The inner loop's: none of the first e rounds holds the value of round r. Assumes nothing.
+-- `session_values::list` meets its contract. The outer loop's invariant: the first `count` values are those of the first r rounds. The inner loop's: none of the first e rounds holds the value of round r. Assumes nothing.
 use Rattle.base.specs.Prelude.{ℕ, _-_, _≤_, _≡_, refl, false, List, le-antisymm, arith, length, getD, take, length-set}
-use Rattle.model.specs.ReadOut.{holds, ListsOnce}
-use Rattle.model_laws.specs.Listings.{none-once}
-use Rattle.model_laws.specs.ListedRounds.{round-old, round-new, old-blank, old-earlier, not-earlier, not-old}
+use Rattle.model.specs.ReadOut.{holds, valuesTo}
+use Rattle.model_laws.specs.ListedRounds.{round-blank, round-earlier, not-earlier, round-new}
 use Rattle.session_values.proofs.list.Statement.{statement}
 use Rattle.session_values.proofs.list.Tie as tie
 
@@ -18,7 +16,7 @@ Inv-rounds registers limit values₀ count₀ r₀ values count r =
     (r ≤ limit)
     × (count ≤ r)
     × (length values ≡ 256)
-    × ListsOnce (take r registers) (take count values)
+    × (take count values ≡ valuesTo registers r)
 
 abbrev μ-rounds : tie.MeasureT-rounds
 μ-rounds registers limit values₀ count₀ r₀ values count r = limit - r
@@ -40,20 +38,15 @@ abbrev W : Head → List ℕ
 W a = a .rounds .values
 
 rounds-holds : tie.Need-rounds-holds Inv-loop μ-loop Inv-rounds μ-rounds
-rounds-holds c = (omega arith, omega arith, refl, none-once)
+unfolding valuesTo
+rounds-holds c = (omega arith, omega arith, refl, refl)
 
 -- A blank round.
 rounds-again : tie.Need-rounds-again Inv-loop μ-loop Inv-rounds μ-rounds
 rounds-again c =
     let a = c .before .before .before in
-    let h = a .rounds .inv in (
-      omega arith,
-      omega arith,
-      h .2,
-      round-old (T a) (take (N a) (W a)) (R a) (omega arith)
-          (old-blank (getD (T a) (R a) 0) (take (R a) (T a)) (c .if1 .taken))
-          (h .3),
-    )
+    let h = a .rounds .inv in
+    (omega arith, omega arith, h .2, round-blank (T a) _ (R a) (c .if1 .taken) (h .3))
 
 -- A value that an earlier round holds.
 rounds-again-2 : tie.Need-rounds-again-2 Inv-loop μ-loop Inv-rounds μ-rounds
@@ -64,10 +57,7 @@ rounds-again-2 c =
       omega arith,
       omega arith,
       h .2,
-      rw (l .loop .inv .0)
-          (round-old (T a) (take (N a) (W a)) (R a) (omega arith)
-          (old-earlier (T a) (R a) (l .loop .e) _ (omega arith) (omega arith) (c .if2 .taken))
-          (h .3)),
+      rw (l .loop .inv .0) (round-earlier (T a) _ (R a) (l .loop .e) (omega arith) (omega arith) (c .if2 .taken) (h .3)),
     )
 
 loop-again : tie.Need-loop-again Inv-loop μ-loop Inv-rounds μ-rounds
@@ -90,18 +80,13 @@ rounds-again-3 c =
       omega arith,
       simp length-set (h .2),
       rw (l .loop .inv .0)
-          (round-new (T a) (W a) (R a) (N a) (omega arith) (omega arith)
-          (not-old (getD (T a) (R a) 0) (take (R a) (T a)) (l .before .if1 .left) (rw last at (l .loop .inv .2)))
-          (h .3)),
+          (round-new (T a) (W a) (R a) (N a) (omega arith) (l .before .if1 .left) (rw last at (l .loop .inv .2)) (h .3)),
     )
 
 returns : tie.Need-returns Inv-loop μ-loop Inv-rounds μ-rounds
 returns c =
     let h = c .before .rounds .inv in
-    record {
-      once = rw (← le-antisymm (h .0) (c .rounds-test .left)) (h .3);
-      low = omega arith;
-    }
+    (rw (← le-antisymm (h .0) (c .rounds-test .left)) (h .3), omega arith)
 
 -- In the order of the code: a value's address and index, the step and the measure at a blank; the same in the inner loop; the
 -- step there; the new value's place, its address and index, and the steps after it.

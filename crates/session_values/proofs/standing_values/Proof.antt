@@ -1,21 +1,26 @@
 -- `session_values::standing_values` meets its contract. The tests that led to an answer say which it is. Assumes nothing.
-use Rattle.base.specs.Prelude.{ℕ, _≡_, sym, _∙_, true, List, arith, needs, not-true, not-false, length, take, length-take-le}
+use Rattle.base.specs.Prelude.{_≡_, sym, _∙_, true, arith, needs, not-true, not-false, length, length-take-le}
+use Rattle.model.specs.declared.Session.{Session}
 use Rattle.model.specs.Sound.{sound}
+use Rattle.model.specs.ReadOut.{standingValues}
 use Rattle.model_laws.specs.Sounds.{sound-low}
 use Rattle.session_values.proofs.Standing.{unsound, short, written}
 use Rattle.session_values.proofs.standing_values.Statement.{statement}
 use Rattle.session_values.proofs.standing_values.Tie as tie
 
 -- Past the first test the session is sound.
-is-sound : (c : tie.Else1) → sound (c .before .before .before .args .t1) ≡ true
+abbrev S : tie.Else1 → Session
+S c = c .before .before .before .args .t1
+
+is-sound : (c : tie.Else1) → sound (S c) ≡ true
 is-sound c = sym (c .before .sound .ensures) ∙ not-false (c .before .sound .result) (c .if1 .left)
 
--- The listing, and its length.
-abbrev listed : tie.After-list → List ℕ
-listed c = take (c .list .result .count) (c .list .result .values)
+-- The list's length is the count.
+abbrev past-test : tie.After-list → tie.Else1
+past-test c = c .before .before .before .before
 
-size : (c : tie.After-list) → length (listed c) ≡ c .list .result .count
-size c = length-take-le (c .list .result .count) (c .list .result .values) (c .list .ensures .low)
+size : (c : tie.After-list) → length (standingValues (S (past-test c))) ≡ c .list .result .count
+size c = rw (← c .list .ensures .0) (length-take-le (c .list .result .count) (c .list .result .values) (c .list .ensures .1))
 
 returns : tie.Need-returns
 returns c = unsound _ _ (sym (c .before .sound .ensures) ∙ not-true _ (c .if1 .taken))
@@ -28,18 +33,15 @@ list-requires c κs =
     (low, omega arith)
 
 returns-2 : tie.Need-returns-2
-returns-2 c =
-    let at-list = c .before in
-    short _ _ (listed at-list) _ (is-sound (at-list .before .before .before .before)) (at-list .list .ensures .once) (size at-list)
-    (c .if2 .taken)
+returns-2 c = short _ _ _ (is-sound (past-test (c .before))) (size (c .before)) (c .if2 .taken)
 
 returns-3 : tie.Need-returns-3
 returns-3 c =
     let at-copy = c .before .before in
     let at-test = at-copy .before .before .before .before .before in
     let at-list = at-test .before in
-    written _ _ (listed at-list) _ (is-sound (at-list .before .before .before .before)) (at-list .list .ensures .once) (size at-list)
-    (at-test .if2 .left) _ (at-copy .copy .ensures)
+    written _ _ _ (is-sound (past-test at-list)) (size at-list) (at-test .if2 .left) _
+    (rw (← at-list .list .ensures .0) (at-copy .copy .ensures))
 
 pub standing-values-spec : {M : Type 1} → statement M
 standing-values-spec =

@@ -1,2 +1,0 @@
--- What the listing of the standing values gives.
-pub mod Post
