@@ -55,8 +55,9 @@ fn carry(sheet: &[u8], budget: usize, window: usize, mut s: Session, mut c: Coun
             return ran(k, s, c, entry::halt(budget, k));
         }
         let q = s.processes[p];
+        let phase = q.phase;
         if let Operation::Step(_, leader) = e {
-            let code = part_refusals::step_refusal(q.phase, c);
+            let code = part_refusals::step_refusal(phase, c);
             if code != 0 {
                 return ran(k, s, c, Ending::Refused(code, k));
             }
@@ -66,7 +67,7 @@ fn carry(sheet: &[u8], budget: usize, window: usize, mut s: Session, mut c: Coun
             s.processes[p] = part_next::next(window, s.limit, q, leader, x);
             c = part_counts::counted(a, c);
         } else {
-            let code = entry::refusal_of(q.phase, c, e);
+            let code = entry::refusal_of(phase, c, e);
             if code != 0 {
                 return ran(k, s, c, Ending::Refused(code, k));
             }
