@@ -2,13 +2,12 @@
 ghost use mathlib.Core.Path.{_≡_};
 ghost use mathlib.Core.Bool.{_||_};
 ghost use lib.Dec.{leb};
-ghost use Rattle.model.specs.Refusal.{processOf};
+ghost use Rattle.model.specs.Refusal.{refusal, processOf, stepTests};
 ghost use Rattle.sheet_run_laws.specs.Entries.{haltOf, entryRefusal, changesOf, movedTo, otherAccess};
 use model::Access;
 use model::Counts;
 use model::Ending;
 use model::Operation;
-use model::Phase;
 use model::Process;
 
 // The process that the entry names.
@@ -42,10 +41,19 @@ pub(crate) fn halt(budget: usize, k: usize) -> Ending
     }
 }
 
-// Of an entry that is no work turn, its own refusal: "each entry 13 first, then its operation's own order"; 0 for none.
-pub(crate) fn refusal_of(phase: Phase, c: Counts, e: Operation) -> u32
-    ensures { λ r. ⌜ r ≡ entryRefusal phase c e ⌝ }
+// 01, "Numbers returned", work, after the process' number.
+pub(crate) fn step_refusal(q: Process, c: Counts) -> u32
+    ensures { λ r. ⌜ r ≡ refusal (stepTests (q .phase) c) ⌝ }
 {
+    let phase = q.phase;
+    part_refusals::step_refusal(phase, c)
+}
+
+// Of an entry that is no work turn, its own refusal: "each entry 13 first, then its operation's own order"; 0 for none.
+pub(crate) fn refusal_of(q: Process, c: Counts, e: Operation) -> u32
+    ensures { λ r. ⌜ r ≡ entryRefusal (q .phase) c e ⌝ }
+{
+    let phase = q.phase;
     match e {
         Operation::Propose(_, v) => part_refusals::propose_refusal(v, phase),
         Operation::Step(_, _) => part_refusals::step_refusal(phase, c),

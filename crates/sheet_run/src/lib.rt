@@ -55,9 +55,8 @@ fn carry(sheet: &[u8], budget: usize, window: usize, mut s: Session, mut c: Coun
             return ran(k, s, c, entry::halt(budget, k));
         }
         let q = s.processes[p];
-        let phase = q.phase;
         if let Operation::Step(_, leader) = e {
-            let code = part_refusals::step_refusal(phase, c);
+            let code = entry::step_refusal(q, c);
             if code != 0 {
                 return ran(k, s, c, Ending::Refused(code, k));
             }
@@ -67,7 +66,7 @@ fn carry(sheet: &[u8], budget: usize, window: usize, mut s: Session, mut c: Coun
             s.processes[p] = part_next::next(window, s.limit, q, leader, x);
             c = part_counts::counted(a, c);
         } else {
-            let code = entry::refusal_of(phase, c, e);
+            let code = entry::refusal_of(q, c, e);
             if code != 0 {
                 return ran(k, s, c, Ending::Refused(code, k));
             }
