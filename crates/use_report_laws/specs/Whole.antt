@@ -1,8 +1,9 @@
 -- The whole report, put on a blank page.
-use Rattle.base.specs.Prelude.{ℕ, _-_, _≤_, arith, _≡_, List, _++_, length, replicate}
+use Rattle.base.specs.Prelude.{ℕ, _-_, _≤_, arith, _≡_, ap, List, _++_, length, replicate}
 use Rattle.model.specs.declared.Ran.{Ran}
 use Rattle.model.specs.Board.{maxProcesses}
-use Rattle.model_report.specs.Report.{reportOf}
+use Rattle.model.specs.Runner.{run}
+use Rattle.model_report.specs.Report.{reportBudget, reportOf, report}
 use Rattle.use_text.specs.Page.{pageSize, Put, on-blank}
 use Rattle.use_report_laws.specs.Room.{report-low, report-fits}
 
@@ -15,3 +16,8 @@ whole r size p =
     let low : length (reportOf r) ≤ pageSize = omega (arith, report-low r size, report-fits) in
     let q = on-blank (reportOf r) low p in
     ((q .0, omega (arith, q .0)), q .1)
+
+-- The report of a sheet is that of its run under the report's budget.
+pub report-of-run : (s : List ℕ) {r : Ran} → r ≡ run s reportBudget → reportOf r ≡ report s
+unfolding report
+report-of-run s e = ap reportOf e
