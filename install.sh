@@ -13,8 +13,7 @@ prefix=$(cd "$1" && pwd)
 cd "$(dirname "$0")"
 
 echo "install.sh: proving and building the library; the first time takes minutes"
-mkdir -p target
-rt staticlib janus >target/staticlib.log 2>&1 || { cat target/staticlib.log; exit 1; }
+./build.sh archive
 install -d "$prefix/include" "$prefix/lib/pkgconfig"
 install -m 644 include/janus.h "$prefix/include/janus.h"
 install -m 644 target/staticlib/libjanus.a "$prefix/lib/libjanus.a"

@@ -3,9 +3,7 @@
 # counts instructions an entry: those of 11 calls on a sheet of 10,921 entries less those of one call, by the entries of ten.
 set -euo pipefail
 cd "$(dirname "$0")/.."
-rt staticlib janus | tail -n 1
-rt check use_bench | tail -n 1
-reference/build.sh
+./build.sh archive use_bench reference
 out=target/bench
 mkdir -p "$out"
 rustc --edition 2021 -O -D warnings --crate-name bench --extern janus_reference=target/reference/libjanus_reference.rlib \

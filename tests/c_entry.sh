@@ -4,7 +4,7 @@
 set -euo pipefail
 cd "$(dirname "$0")/.."
 
-rt staticlib janus
+./build.sh archive reference
 out=target/tests
 archive=target/staticlib/libjanus.a
 mkdir -p "$out"
@@ -48,7 +48,6 @@ done <"$out/table.txt"
 # janus_report, beside the separately written program.
 build c_report "${sanitized[@]}"
 "$out/c_report"
-reference/build.sh >/dev/null
 for sheet in examples/*.sheet; do
     "$out/c_report" text <"$sheet" | cmp - <(target/reference/reference report <"$sheet")
 done

@@ -20,10 +20,7 @@ refuse() {
 [[ $seed =~ ^[0-9]{1,18}$ ]] || refuse "'$seed' is no seed"
 
 cd "$(dirname "$0")/.."
-mkdir -p target
-rt staticlib janus >target/staticlib.log || { cat target/staticlib.log; exit 1; }
-reference/build.sh target/staticlib/libjanus.a
-rt check "$report" >target/report.log || { cat target/report.log; exit 1; }
+./build.sh reference "$report"
 export BOARD_REPORT=target/bin/$report
 target/reference/differential "$sheets" "$seed"
 

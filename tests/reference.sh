@@ -2,7 +2,8 @@
 # The separately written program: its own tests, the sample sheets, the page docs/PAPER-CASES.md, and that its harness finds a wrong library.
 set -euo pipefail
 cd "$(dirname "$0")/.."
-reference/build.sh
+./build.sh reference
+tail -n 1 target/built/reference.log
 for list in examples/*.txt; do
     examples/sheet.py "$list" | cmp - "${list%.txt}.sheet"
 done

@@ -5,7 +5,7 @@ set -euo pipefail
 cd "$(dirname "$0")/.."
 crate=use_report
 program=target/bin/$crate
-reference/build.sh >/dev/null
+./build.sh reference
 out=target/tests
 mkdir -p "$out"
 

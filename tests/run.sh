@@ -2,6 +2,5 @@
 # The program use_run beside the separately written one, line by line (tests/run.py).
 set -euo pipefail
 cd "$(dirname "$0")/.."
-rt check use_run | tail -n 1
-reference/build.sh >/dev/null
+./build.sh use_run reference
 python3 tests/run.py target/bin/use_run target/reference/reference

@@ -29,8 +29,12 @@ def read_edit(path):
     return fields
 
 
-def copy_repository(to):
-    shutil.copytree(ROOT, to, ignore=shutil.ignore_patterns(".git", "must-fail"), symlinks=True)
+def copy_crates(to):
+    """The crates and what rt has proved of them; the rest of target/ other tests may be writing."""
+    shutil.copytree(ROOT / "crates", to / "crates", ignore=shutil.ignore_patterns("must-fail"))
+    shutil.copy(ROOT / "crates.txt", to)
+    for part in "rlib", "stamp":
+        shutil.copytree(ROOT / "target" / part, to / "target" / part)
 
 
 def check(copy, crate):
@@ -75,7 +79,7 @@ def fault_of(path):
     edit = read_edit(path)
     with tempfile.TemporaryDirectory() as folder:
         copy = Path(folder) / "copy"
-        copy_repository(copy)
+        copy_crates(copy)
         target = copy / edit["file"]
         text = target.read_text(encoding="utf-8")
         if text.count(edit["old"]) != 1:

@@ -2,3 +2,4 @@
 pub mod Bools
 pub mod Arrays
 pub mod Prelude
+pub mod Walks

@@ -23,7 +23,7 @@ fn put_decided(s: Session, buffer: &mut [u8])
             Phase::Decided => q.estimate,
             _ => 0,
         };
-        part_bytes::put32(buffer, 4 * p, value);
+        part_bytes_put::put32(buffer, 4 * p, value);
         p += 1;
     }
 }

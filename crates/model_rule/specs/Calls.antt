@@ -50,8 +50,8 @@ pub record Call : Type 0 where
   pub answer : Changed
   pub after : Counts
 
--- What the contract of the called function says, where the call was given session s: `session_change::propose`,
--- `session_step_lent::step`, `session_step_lent::learn`, `session_change::crash`. No function carries out a malformed operation.
+-- What the contract of the called function says, where the call was given session s: `session_propose::propose`,
+-- `session_step_lent::step`, `session_step_lent::learn`, `session_crash::crash`. No function carries out a malformed operation.
 abbrev pub Promised : Session → Counts → Operation → (answer : Changed) → (after : Counts) → Type 0
 Promised s c (Propose p v) a c′ = (a ≡ Public.propose s p v) × (c′ ≡ c)
 Promised s c (Step p leader) a c′ = withCounts a c′ ≡ Public.step s p leader c

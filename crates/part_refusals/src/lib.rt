@@ -1,8 +1,6 @@
-// The refusals: by a process' phase and the counts, functions of one record, and the tests that come before them. They change nothing.
+// The refusals by a process' phase and the counts: functions of one record. They change nothing. (`session_refusal` has the tests before them.)
 ghost use mathlib.Core.Path.{_≡_};
-ghost use mathlib.Core.Bool.{cond, not};
 ghost use mathlib.Core.List.{[], _∷_};
-ghost use lib.Dec.{leb};
 ghost use Rattle.model.specs.Refusal.{status as statusOf, full as fullOf, refusal, proposeTests, crashTests, learnTests, stepTests};
 use model::Counts;
 use model::Phase;
@@ -85,15 +83,4 @@ pub fn step_refusal(phase: Phase, c: Counts) -> u32
         Status::Spent => 9,
         Status::Active => full_refusal(c),
     }
-}
-
-// 01, "Numbers returned": 3 for a session that is not sound, 4 for a process number n or above, then the number that the
-// operation's own tests give.
-pub fn first_refusal(sound: bool, n: usize, p: usize, own: u32) -> u32
-    ensures { λ r. ⌜ r ≡ cond (not sound) 3 (cond (leb n p) 4 own) ⌝ }
-{
-    if !sound {
-        return 3;
-    }
-    if n <= p { 4 } else { own }
 }

@@ -1,7 +1,7 @@
-// The register operation of a turn, register by register: what it reads, and what it leaves in each.
+// The register operation of a turn on the registers of a round, T[r] and C[r]: what it reads, and what it leaves in each.
 ghost use mathlib.Core.Path.{_≡_};
 ghost use Rattle.model.specs.Step.{bit as bitOf};
-ghost use Rattle.part_registers.specs.Registers.{slot as slotOf, valueIn, markIn, valuesAfter, marksAfter, decisionAfter};
+ghost use Rattle.part_registers_laws.specs.Registers.{slot as slotOf, valueIn, markIn, valuesAfter, marksAfter};
 use model::Access;
 
 // The index of the register of round r: r - 1 for the rounds 1 to 256. For any other number it is some index, so that no caller is asked for
@@ -54,20 +54,5 @@ pub fn mark(v: u32, marks: &mut [bool; 256], a: Access) -> u32
         }
         Access::ReadDecision => v,
         Access::WriteDecision => v,
-    }
-}
-
-// The decision register D after the operation.
-pub fn decision(d: u32, a: Access, e: u32) -> u32
-    ensures { λ x. ⌜ x ≡ decisionAfter d a e ⌝ }
-{
-    match a {
-        Access::Nothing => d,
-        Access::ReadValue(_) => d,
-        Access::WriteValue(_) => d,
-        Access::ReadMark(_) => d,
-        Access::SetMark(_) => d,
-        Access::ReadDecision => d,
-        Access::WriteDecision => e,
     }
 }

@@ -22,7 +22,7 @@ pub fn step(s: Session, p: usize, leader: bool, counts: &mut Counts) -> Changed
 pub fn learn(s: Session, p: usize, counts: &mut Counts) -> Changed
     ensures { λ r. ⌜ withCounts r (now (counts .exit)) ≡ learnOf s p (now (counts .entry)) ⌝ }
 {
-    let answer = session_step::learn(s, p, *counts);
+    let answer = session_learn::learn(s, p, *counts);
     *counts = answer.counts;
     Changed {
         code: answer.code,

@@ -1,5 +1,7 @@
 // One entry of a sheet. 01, "Turn sheets": "An entry has 6 bytes: kind, seat, 32-bit value."
 ghost use mathlib.Core.Path.{_≡_};
+ghost use mathlib.Core.List.{[], _∷_};
+ghost use Rattle.model.specs.Bytes.{word32};
 ghost use Rattle.model.specs.Sheet.{entryOf, entryAt};
 use model::Operation;
 
@@ -32,6 +34,13 @@ fn entry_of(kind: u8, p: u8, value: u32) -> Operation
     Operation::Malformed
 }
 
+// The 32-bit number of four bytes.
+fn number32(a: u8, b: u8, c: u8, d: u8) -> u32
+    ensures { λ r. ⌜ r ≡ word32 (a ∷ b ∷ c ∷ d ∷ []) 0 ⌝ }
+{
+    a as u32 + 256 * (b as u32) + 65536 * (c as u32 + 256 * (d as u32))
+}
+
 // The entry at an offset of 16 bits, whatever the offset: past the end every byte reads as 0. Mostly all six bytes are there.
 pub fn entry_at(s: &[u8], offset: u16) -> Operation
     ensures { λ r. ⌜ r ≡ entryAt (now (s .entry)) offset ⌝ }
@@ -40,7 +49,7 @@ pub fn entry_at(s: &[u8], offset: u16) -> Operation
     if at + 6 <= s.len() {
         let low = at + 2;
         let high = low + 2;
-        let value = part_bytes::number32(s[low], s[low + 1], s[high], s[high + 1]);
+        let value = number32(s[low], s[low + 1], s[high], s[high + 1]);
         return entry_of(s[at], s[at + 1], value);
     }
     if s.len() <= at {

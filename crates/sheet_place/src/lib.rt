@@ -1,15 +1,10 @@
-// Places in a sheet: the first, what one hands out, and the next. 01, "Turn sheets": "A reader that stays attached to the
-// sheet's bytes and its place hands the entries out." A place is one number: the offset of the next entry in its lowest 16 bits,
-// how many entries of the current run are left in the 14 above them, and the next run to be opened above these.
+// Places in a sheet: the first, and the next. (`sheet_handed` has what one hands out.)
 ghost use mathlib.Core.Path.{_≡_};
 ghost use Prim.Native.Nat.{_-_, _<_};
 ghost use Rattle.model.specs.Sheet.{runCount};
-ghost use Rattle.sheet_place_laws.specs.Places.{encode, openFrom, begin as beginOf, handed as handedOf, advanced};
-use sheet_place_laws::Handed;
-
-const ENTRY: usize = 65536; // one entry left
-
-const RUN: usize = 1073741824; // one run
+ghost use Rattle.sheet_place_laws.specs.Places.{encode, openFrom, begin as beginOf, advanced};
+use sheet_place_laws::ENTRY;
+use sheet_place_laws::RUN;
 
 // The first run from the given one on that has an entry, opened. "Length 0 is allowed."
 fn open_from(s: &[u8], first: usize) -> usize
@@ -33,17 +28,6 @@ pub fn begin(s: &[u8]) -> usize
     ensures { λ r. ⌜ r ≡ beginOf (now (s .entry)) ⌝ }
 {
     open_from(s, 0)
-}
-
-// What the place hands out. "An entry has 6 bytes."
-pub fn handed(s: &[u8], place: usize) -> Handed
-    ensures { λ r. ⌜ r ≡ handedOf (now (s .entry)) place ⌝ }
-{
-    if ENTRY <= place % RUN {
-        Handed::Next(sheet_entry::entry_at(s, (place % ENTRY) as u16))
-    } else {
-        Handed::End
-    }
 }
 
 // The place behind the entry that this one hands out: in the same run where that has another entry, else in the next.

@@ -3,3 +3,4 @@ pub mod Places
 pub mod PlaceLaws
 pub mod WellFormed
 pub mod Most
+pub mod Steps

@@ -24,7 +24,7 @@ pub fn attach<'a>(sheet: &'a [u8]) -> Reader<'a>
 pub fn entry<'a>(r: Reader<'a>) -> Handed
     ensures { λ h. ⌜ h ≡ handedBy (r .entry) ⌝ }
 {
-    sheet_place::handed(r.sheet, r.place)
+    sheet_handed::handed(r.sheet, r.place)
 }
 
 // Moves on by one entry.

@@ -62,7 +62,7 @@ fn carry(sheet: &[u8], budget: usize, window: usize, mut s: Session, mut c: Coun
             }
             let a = part_access::access(s.limit, q, leader);
             let x = mark(value(&mut s.values, a, q.estimate), &mut s.marks, a);
-            s.decision = part_registers::decision(s.decision, a, q.estimate);
+            s.decision = part_decision::decision(s.decision, a, q.estimate);
             s.processes[p] = part_next::next(window, s.limit, q, leader, x);
             c = part_counts::counted(a, c);
         } else {
@@ -84,11 +84,11 @@ fn carry(sheet: &[u8], budget: usize, window: usize, mut s: Session, mut c: Coun
 pub fn run(sheet: &[u8], budget: usize) -> Ran
     ensures { λ r. ⌜ r ≡ runOf (now (sheet .entry)) budget ⌝ }
 {
-    let code = sheet_refusal::refusal(session_open::server(), sheet);
+    let code = sheet_refusal::refusal(session_opened::server(), sheet);
     if code != 0 {
         return ran(
             0,
-            session_open::opened(0, 0),
+            session_opened::opened(0, 0),
             no_counts(),
             Ending::Rejected(code),
         );
@@ -99,7 +99,7 @@ pub fn run(sheet: &[u8], budget: usize) -> Ran
         sheet,
         budget,
         part_window::window(n),
-        session_open::opened(n as usize, limit),
+        session_opened::opened(n as usize, limit),
         no_counts(),
     )
 }

@@ -8,7 +8,7 @@ use Rattle.model.specs.Refusal.{refusal, ownTests, processOf, isMalformed, test
 use Rattle.model.specs.Machine.{accessOf, becomes, after}
 use Rattle.model.specs.Sound.{soundAt}
 use Rattle.model_laws.specs.Operations.{access-in-arrays}
-use Rattle.part_registers.specs.Registers.{valueIn, markIn, valuesAfter, marksAfter, decisionAfter, worked-is}
+use Rattle.part_registers_laws.specs.Registers.{valueIn, markIn, valuesAfter, marksAfter, decisionAfter, worked-is}
 
 -- Whether it is a work turn.
 abbrev pub isStep : Operation → Bool

@@ -19,8 +19,8 @@ use Rattle.model.specs.Machine.{opening}
 use Rattle.model.specs.Public
 use Rattle.model_rule.specs.Calls.{Promised}
 use Rattle.session_open.proofs.open as opens
-use Rattle.session_change.proofs.propose as propose
-use Rattle.session_change.proofs.crash as crash
+use Rattle.session_propose.proofs.propose as propose
+use Rattle.session_crash.proofs.crash as crash
 use Rattle.session_step_lent.proofs.step as step
 use Rattle.session_step_lent.proofs.learn as learn
 

@@ -3,8 +3,8 @@ use mathlib.Core.Path.{refl}
 use Rattle.model.proofs.Counts.Laws as Ct′
 use Rattle.model.proofs.Session as Se
 use Rattle.model.proofs.Session.Laws as Se′
-use Rattle.session_step_lent.proofs.Counted.{counts}
-use Rattle.session_step_lent.proofs.Lender.{Part}
+use Rattle.session_lent_laws.proofs.Counted.{counts}
+use Rattle.session_lent_laws.proofs.Lender.{Part}
 
 abbrev pub answered : Part counts
 answered = record {

@@ -1,17 +1,15 @@
--- `session_step_lent::learn` meets its contract, by `Lent.antt`'s walk: `session_step::learn` is called on the counts, and its answer's counts are stored where they stood.
--- All that the proof knows of `session_step::learn` is that it meets its contract. Assumes nothing.
+-- `session_step_lent::learn` meets its contract, by `Lent.antt`'s walk: `session_learn::learn` is called on the counts, and its answer's counts are stored where they stood.
+-- All that the proof knows of `session_learn::learn` is that it meets its contract. Assumes nothing.
 use Rattle.base.specs.Prelude.{refl, [], _∷_}
-use mir.Syntax.{w64}
-use base.Logic.{emp, id⊢}
-use contract.Monad.{factI}
+use Rattle.base.specs.Walks.{w64, emp, id⊢, factI}
 use Rattle.model.specs.Public
-use Rattle.session_step.proofs.learn as callee
-use Rattle.session_step.proofs.learn.Symbol as callee-def
-use Rattle.session_step.proofs.learn.Symbol.{name as #session_step·learn}
-use Rattle.session_step.proofs.learn.Met as callee-thm
-use Rattle.session_step_lent.proofs.ByValue.{uint}
-use Rattle.session_step_lent.proofs.Lent.{lends}
-use Rattle.session_step_lent.proofs.Counted.{session, counts}
+use Rattle.session_learn.proofs.learn as callee
+use Rattle.session_learn.proofs.learn.Symbol as callee-def
+use Rattle.session_learn.proofs.learn.Symbol.{name as #session_learn·learn}
+use Rattle.session_learn.proofs.learn.Met as callee-thm
+use Rattle.session_lent_laws.proofs.ByValue.{uint}
+use Rattle.session_lent_laws.proofs.Lent.{lends}
+use Rattle.session_lent_laws.proofs.Counted.{session, counts}
 use Rattle.session_step_lent.proofs.learn.Key.{name as #session_step_lent·learn}
 use Rattle.session_step_lent.proofs.learn as learn
 use Rattle.session_step_lent.proofs.learn.Statement as stated
@@ -22,4 +20,4 @@ unfolding code.routine
 learn-spec 𝓤 H 𝓜 𝓖 𝓡 =
     lends counts 𝓤 H 𝓜 𝓖 𝓡 (session ∷ uint w64 ∷ []) (learn.clauses 𝓤 H (𝓖 .A) (𝓜 .mem) (𝓡 .run)) (callee.clauses 𝓤 H (𝓖 .A) (𝓜 .mem) (𝓡 .run))
     (λ e. Public.learn (e .0) (e .1 .0) (e .1 .1 .0)) (λ κs a g. factI 𝓤 _ (emp 𝓤) refl) (λ e. tt) (λ e. id⊢ 𝓤 (emp 𝓤)) (λ e z end. id⊢ 𝓤 _)
-    code.env #session_step_lent·learn #session_step·learn (code.unfolded 𝓤 H 𝓜 𝓡) callee-def.routine code.calls-session-step·learn (callee-thm.met 𝓤 H 𝓜 𝓖 𝓡)
+    code.env #session_step_lent·learn #session_learn·learn (code.unfolded 𝓤 H 𝓜 𝓡) callee-def.routine code.calls-session-learn·learn (callee-thm.met 𝓤 H 𝓜 𝓖 𝓡)

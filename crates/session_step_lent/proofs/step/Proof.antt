@@ -1,17 +1,15 @@
 -- `session_step_lent::step` meets its contract, by `Lent.antt`'s walk: `session_step::step` is called on the counts, and its answer's counts are stored where they stood.
 -- All that the proof knows of `session_step::step` is that it meets its contract. Assumes nothing.
 use Rattle.base.specs.Prelude.{refl, [], _∷_}
-use mir.Syntax.{w64}
-use base.Logic.{emp, id⊢}
-use contract.Monad.{factI}
+use Rattle.base.specs.Walks.{w64, emp, id⊢, factI}
 use Rattle.model.specs.Public
 use Rattle.session_step.proofs.step as callee
 use Rattle.session_step.proofs.step.Symbol as callee-def
 use Rattle.session_step.proofs.step.Symbol.{name as #session_step·step}
 use Rattle.session_step.proofs.step.Met as callee-thm
-use Rattle.session_step_lent.proofs.ByValue.{uint, truth}
-use Rattle.session_step_lent.proofs.Lent.{lends}
-use Rattle.session_step_lent.proofs.Counted.{session, counts}
+use Rattle.session_lent_laws.proofs.ByValue.{uint, truth}
+use Rattle.session_lent_laws.proofs.Lent.{lends}
+use Rattle.session_lent_laws.proofs.Counted.{session, counts}
 use Rattle.session_step_lent.proofs.step.Key.{name as #session_step_lent·step}
 use Rattle.session_step_lent.proofs.step as step
 use Rattle.session_step_lent.proofs.step.Statement as stated

@@ -3,7 +3,7 @@
 use Rattle.base.specs.Prelude.{_-_, _<_, arith, _≡_, _∙_, sym, ap, needs}
 use Rattle.model.specs.Sheet.{runCount}
 use Rattle.sheet_place_laws.specs.Places.{encode, openFrom}
-use Rattle.sheet_place.specs.Steps.{open-here, open-on, open-none}
+use Rattle.sheet_place_laws.specs.Steps.{open-here, open-on, open-none}
 use Rattle.sheet_place.proofs.open_from.Statement.{statement}
 use Rattle.sheet_place.proofs.open_from.Tie as tie
 

@@ -1,17 +1,15 @@
 -- `use_bench::step` meets its contract, by the walk of a function that lends a local (`session_step_lent`, `Lender.antt`). Assumes nothing.
 use Rattle.base.specs.Prelude.{ap, [], _∷_}
-use mir.Syntax.{w64}
-use base.Logic.{emp, id⊢}
-use contract.Monad.{factI, fact-mono}
+use Rattle.base.specs.Walks.{w64, emp, id⊢, factI, fact-mono}
 use Rattle.model.specs.declared.Stepped.{Stepped}
 use Rattle.model.specs.Public
 use Rattle.session_step_lent.proofs.step as callee
 use Rattle.session_step_lent.proofs.step.Symbol as callee-def
 use Rattle.session_step_lent.proofs.step.Symbol.{name as #session_step_lent·step}
 use Rattle.session_step_lent.proofs.step.Met as callee-thm
-use Rattle.session_step_lent.proofs.ByValue.{uint, truth}
-use Rattle.session_step_lent.proofs.Counted.{session, counts}
-use Rattle.session_step_lent.proofs.Lender.{borrows}
+use Rattle.session_lent_laws.proofs.ByValue.{uint, truth}
+use Rattle.session_lent_laws.proofs.Counted.{session, counts}
+use Rattle.session_lent_laws.proofs.Lender.{borrows}
 use Rattle.use_bench.proofs.Local.{answered}
 use Rattle.use_bench.proofs.step.Key.{name as #use_bench·step}
 use Rattle.use_bench.proofs.step as step

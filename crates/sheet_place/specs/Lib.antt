@@ -1,2 +1,0 @@
--- What the next place is, case by case.
-pub mod Steps
