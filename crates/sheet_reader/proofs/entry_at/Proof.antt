@@ -5,10 +5,10 @@ use Rattle.base.specs.Walks.{URA, Heap, Atoms, Lfts, givenOf, Given, _$_, !, by
 use Rattle.base.specs.Walks.{land, returns, alloc1, alloc0, params1, pass1, pass0, free0}
 use Rattle.sheet_reader_held.proofs.entry.Symbol as callee
 use Rattle.sheet_reader_held.proofs.entry.Met as callee-thm
-use Rattle.sheet_reader_held.specs.Reading.{handedBy}
-use Rattle.sheet_reader_held.proofs.Rows.{hands, reads, at, together}
-use Rattle.sheet_reader_held.proofs.Promise.{Args, Claim, saying}
-use Rattle.sheet_reader_held.proofs.Walk.{Walk, lends, gone, asks, leaves, proved}
+use Rattle.sheet_reader_laws.specs.Reading.{handedBy}
+use Rattle.sheet_reader_laws.proofs.Rows.{hands, reads, at, together}
+use Rattle.sheet_reader_laws.proofs.Promise.{Args, Claim, saying}
+use Rattle.sheet_reader_laws.proofs.Walk.{Walk, lends, gone, asks, leaves, proved}
 use Rattle.sheet_reader.proofs.entry_at.Key
 use Rattle.sheet_reader.proofs.entry_at.Statement as stated
 use Rattle.sheet_reader.proofs.entry_at.Code as code

@@ -5,11 +5,11 @@ use Rattle.base.specs.Walks.{URA, Heap, Atoms, Lfts, givenOf, Given, _$_, !, by
 use Rattle.base.specs.Walks.{load, of-opd, and-then, no-more, assigns, land, returns, alloc1, alloc0, params1, pass1, pass0, free0, id⊢}
 use Rattle.sheet_reader_held.proofs.attach.Symbol as callee
 use Rattle.sheet_reader_held.proofs.attach.Met as callee-thm
-use Rattle.sheet_reader_held.specs.declared.Reader.{Reader}
-use Rattle.sheet_reader_held.specs.Reading.{attached}
-use Rattle.sheet_reader_held.proofs.Rows.{place, begins, attaches, place-of}
-use Rattle.sheet_reader_held.proofs.Promise.{Args, Claim, saying}
-use Rattle.sheet_reader_held.proofs.Walk.{Walk, lends, gone, asks, leaves, proved}
+use Rattle.sheet_reader_laws.specs.declared.Reader.{Reader}
+use Rattle.sheet_reader_laws.specs.Reading.{attached}
+use Rattle.sheet_reader_laws.proofs.Rows.{place, begins, attaches, place-of}
+use Rattle.sheet_reader_laws.proofs.Promise.{Args, Claim, saying}
+use Rattle.sheet_reader_laws.proofs.Walk.{Walk, lends, gone, asks, leaves, proved}
 use Rattle.sheet_reader.proofs.first_place.Key
 use Rattle.sheet_reader.proofs.first_place.Statement as stated
 use Rattle.sheet_reader.proofs.first_place.Code as code

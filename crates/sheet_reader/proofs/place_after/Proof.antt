@@ -5,11 +5,11 @@ use Rattle.base.specs.Walks.{URA, Heap, Atoms, Lfts, givenOf, Given, _$_, !, by
 use Rattle.base.specs.Walks.{load, of-opd, and-then, no-more, assigns, land, returns, alloc1, alloc0, params1, pass1, pass0, free0}
 use Rattle.sheet_reader_held.proofs.moved.Symbol as callee
 use Rattle.sheet_reader_held.proofs.moved.Met as callee-thm
-use Rattle.sheet_reader_held.specs.declared.Reader.{Reader}
-use Rattle.sheet_reader_held.specs.Reading.{movedOn}
-use Rattle.sheet_reader_held.proofs.Rows.{place, advances, moves, at, together, place-of}
-use Rattle.sheet_reader_held.proofs.Promise.{Args, Claim, saying}
-use Rattle.sheet_reader_held.proofs.Walk.{Walk, lends, gone, asks, leaves, proved}
+use Rattle.sheet_reader_laws.specs.declared.Reader.{Reader}
+use Rattle.sheet_reader_laws.specs.Reading.{movedOn}
+use Rattle.sheet_reader_laws.proofs.Rows.{place, advances, moves, at, together, place-of}
+use Rattle.sheet_reader_laws.proofs.Promise.{Args, Claim, saying}
+use Rattle.sheet_reader_laws.proofs.Walk.{Walk, lends, gone, asks, leaves, proved}
 use Rattle.sheet_reader.proofs.place_after.Key
 use Rattle.sheet_reader.proofs.place_after.Statement as stated
 use Rattle.sheet_reader.proofs.place_after.Code as code

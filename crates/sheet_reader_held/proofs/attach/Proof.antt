@@ -6,9 +6,9 @@ use Rattle.base.specs.Walks.{land, returns, alloc1, alloc0, params1, pass1, pas
 use Rattle.sheet_place.proofs.begin.Symbol as callee
 use Rattle.sheet_place.proofs.begin.Met as callee-thm
 use Rattle.sheet_place_laws.specs.Places.{begin}
-use Rattle.sheet_reader_held.proofs.Rows.{begins, attaches, at, with-place}
-use Rattle.sheet_reader_held.proofs.Promise.{Args, Claim, saying}
-use Rattle.sheet_reader_held.proofs.Walk.{Walk, lends, gone, asks, leaves, proved}
+use Rattle.sheet_reader_laws.proofs.Rows.{begins, attaches, at, with-place}
+use Rattle.sheet_reader_laws.proofs.Promise.{Args, Claim, saying}
+use Rattle.sheet_reader_laws.proofs.Walk.{Walk, lends, gone, asks, leaves, proved}
 use Rattle.sheet_reader_held.proofs.attach.Key
 use Rattle.sheet_reader_held.proofs.attach.Statement as stated
 use Rattle.sheet_reader_held.proofs.attach.Code as code

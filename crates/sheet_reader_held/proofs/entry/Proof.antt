@@ -6,9 +6,9 @@ use Rattle.base.specs.Walks.{and-then, no-more, assigns, land, returns, alloc1,
 use Rattle.sheet_handed.proofs.handed.Symbol as callee
 use Rattle.sheet_handed.proofs.handed.Met as callee-thm
 use Rattle.sheet_place_laws.specs.Places.{handed}
-use Rattle.sheet_reader_held.proofs.Rows.{hands, reads, parts, apart}
-use Rattle.sheet_reader_held.proofs.Promise.{Args, Claim, saying}
-use Rattle.sheet_reader_held.proofs.Walk.{Walk, lends, gone, asks, leaves, proved}
+use Rattle.sheet_reader_laws.proofs.Rows.{hands, reads, parts, apart}
+use Rattle.sheet_reader_laws.proofs.Promise.{Args, Claim, saying}
+use Rattle.sheet_reader_laws.proofs.Walk.{Walk, lends, gone, asks, leaves, proved}
 use Rattle.sheet_reader_held.proofs.entry.Key
 use Rattle.sheet_reader_held.proofs.entry.Statement as stated
 use Rattle.sheet_reader_held.proofs.entry.Code as code

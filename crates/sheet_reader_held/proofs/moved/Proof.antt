@@ -6,9 +6,9 @@ use Rattle.base.specs.Walks.{of-opd, and-then, no-more, assigns, land, returns,
 use Rattle.sheet_place.proofs.advance.Symbol as callee
 use Rattle.sheet_place.proofs.advance.Met as callee-thm
 use Rattle.sheet_place_laws.specs.Places.{advanced}
-use Rattle.sheet_reader_held.proofs.Rows.{advances, moves, at, parts, apart, slice-of, with-place}
-use Rattle.sheet_reader_held.proofs.Promise.{Args, Claim, saying}
-use Rattle.sheet_reader_held.proofs.Walk.{Walk, lends, gone, asks, leaves, proved}
+use Rattle.sheet_reader_laws.proofs.Rows.{advances, moves, at, parts, apart, slice-of, with-place}
+use Rattle.sheet_reader_laws.proofs.Promise.{Args, Claim, saying}
+use Rattle.sheet_reader_laws.proofs.Walk.{Walk, lends, gone, asks, leaves, proved}
 use Rattle.sheet_reader_held.proofs.moved.Key
 use Rattle.sheet_reader_held.proofs.moved.Statement as stated
 use Rattle.sheet_reader_held.proofs.moved.Code as code

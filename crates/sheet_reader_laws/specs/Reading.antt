@@ -4,7 +4,7 @@ use Rattle.base.specs.Prelude.{ℕ, List}
 use denote.Ref.{RefT, now}
 use Rattle.sheet_place_laws.specs.Places.{begin, handed, advanced}
 use Rattle.sheet_place_laws.specs.declared.Handed.{Handed}
-use Rattle.sheet_reader_held.specs.declared.Reader.{Reader}
+use Rattle.sheet_reader_laws.specs.declared.Reader.{Reader}
 
 -- A reader of the sheet, at the place of its first entry.
 abbrev pub attached : RefT (List ℕ) → Reader

@@ -15,7 +15,7 @@ use Rattle.base.specs.Walks.{_∵_, !, qed, move, use1, use2, split, pick, suff
 use Rattle.base.specs.Walks.{Typed, shows, only, peeks, heard, twices, calls-from, ensured, alive, Triple, entered, cited, says, ends-at, walked}
 use Rattle.base.specs.Walks.{walk-meets, hasOf}
 use denote.Triple.Clauses as Clauses
-use Rattle.sheet_reader_held.proofs.Promise.{slots, kept, AllTyped, all-typed, stays, rows, spells, all-tell, lasts, fits, all-vals, own-all, all-go, all-copy, Promise, ended, Args, clauses, triple, on-entry, bound, Post}
+use Rattle.sheet_reader_laws.proofs.Promise.{slots, kept, AllTyped, all-typed, stays, rows, spells, all-tell, lasts, fits, all-vals, own-all, all-go, all-copy, Promise, ended, Args, clauses, triple, on-entry, bound, Post}
 
 -- the lifetime's token
 abbrev pub token : {M : Type 1} (𝓤 : URA M) (H : Heap 𝓤) (A : Atoms 𝓤) → Promise → Lfts 1 → Shares 1 → SProp 𝓤

@@ -16,11 +16,11 @@ use denote.Struct.Laws as LL
 use Rattle.sheet_place_laws.specs.Places.{begin, handed as handedAt, advanced}
 use Rattle.sheet_place_laws.proofs.Handed as H′
 use Rattle.sheet_place_laws.proofs.Handed.Laws as H″
-use Rattle.sheet_reader_held.specs.declared.Reader.{Reader}
-use Rattle.sheet_reader_held.specs.Reading.{attached, handedBy, movedOn}
-use Rattle.sheet_reader_held.proofs.Reader as T
-use Rattle.sheet_reader_held.proofs.Reader.Laws as T′
-use Rattle.sheet_reader_held.proofs.Promise.{Row, rows, all-vals, own-all, all-copy, Args, Promise}
+use Rattle.sheet_reader_laws.specs.declared.Reader.{Reader}
+use Rattle.sheet_reader_laws.specs.Reading.{attached, handedBy, movedOn}
+use Rattle.sheet_reader_laws.proofs.Reader as T
+use Rattle.sheet_reader_laws.proofs.Reader.Laws as T′
+use Rattle.sheet_reader_laws.proofs.Promise.{Row, rows, all-vals, own-all, all-copy, Args, Promise}
 
 abbrev pub sheet : Row
 sheet = record {
