@@ -14,7 +14,7 @@ use Rattle.model.specs.declared.Operation.the-variants.{Propose, Step, L
 use Rattle.model.specs.declared.Changed.{Changed}
 use Rattle.model.specs.declared.Stepped.{Stepped}
 use Rattle.model.specs.Board.{processAt, opened, serverLimits}
-use Rattle.model.specs.Step.{access, next, learnt, turn, counted, process}
+use Rattle.model.specs.Step.{access, next, learnt, found, turn, counted, process}
 use Rattle.model.specs.Refusal.{Test, refusal, openTests, processOf, tests, changed, stepped}
 
 -- ---- opening
@@ -57,7 +57,7 @@ after W s o =
 
 -- The counts after it.
 unfoldable pub countsAfter : Session → Counts → Operation → Counts
-countsAfter s c o = counted (accessOf (s .limit) (processAt s (processOf o)) o) c
+countsAfter s c o = let a = accessOf (s .limit) (processAt s (processOf o)) o in counted a (found s a) c
 
 -- An operation that brings the counts c, after the given tests: the number, the session and the counts.
 unfoldable pub answered : List Test → (W : ℕ) → Session → Counts → Operation → Stepped

@@ -1,6 +1,6 @@
 -- Document 01, "One turn at a time": what an accepted turn does. A turn makes at most one register operation. So it is
 -- given in three parts: which register it accesses (`access`), what the process becomes by the value read (`next`), and
--- what is written (`written`). The counts follow from the access alone (`counted`).
+-- what is written (`written`). The counts follow from the access and, at a flag write, from the mark that it found (`counted`).
 use Prim.Native.Nat.{ℕ, _+_, _-_, min}
 use mathlib.Core.Bool.{Bool, true, false, cond}
 use lib.ListN.{set}
@@ -44,13 +44,14 @@ abbrev pub bit : Bool → ℕ
 bit false = 0
 bit true = 1
 
--- The value read; 0 where nothing is read.
+-- What the register operation finds: the value read; at a flag write, which reads nothing, the mark that stood there, by which no process goes
+-- (`nextAt`, flag), but the counts do (`counted`); 0 otherwise.
 unfoldable pub found : Session → Access → ℕ
 found s Nothing = 0
 found s (ReadValue r) = valueAt s r
 found s (WriteValue r) = 0
 found s (ReadMark r) = bit (markAt s r)
-found s (SetMark r) = 0
+found s (SetMark r) = bit (markAt s r)
 found s ReadDecision = s .decision
 found s WriteDecision = 0
 
@@ -119,12 +120,17 @@ written s WriteDecision e = withDecision s e
 unfoldable pub turn : Session → (p : ℕ) → Access → (ℕ → Process) → Session
 turn s p a becomes = withProcess (written s a (processAt s p .estimate)) p (becomes (found s a))
 
--- "Register reads, register writes (T, C and D), and contested, the number of flag writes."
-unfoldable pub counted : Access → Counts → Counts
-counted Nothing c = c
-counted (ReadValue r) c = record { reads = c .reads + 1; writes = c .writes; contested = c .contested }
-counted (WriteValue r) c = record { reads = c .reads; writes = c .writes + 1; contested = c .contested }
-counted (ReadMark r) c = record { reads = c .reads + 1; writes = c .writes; contested = c .contested }
-counted (SetMark r) c = record { reads = c .reads; writes = c .writes + 1; contested = c .contested + 1 }
-counted ReadDecision c = record { reads = c .reads + 1; writes = c .writes; contested = c .contested }
-counted WriteDecision c = record { reads = c .reads; writes = c .writes + 1; contested = c .contested }
+-- 1 where a flag write found its round unmarked (x is the mark that it found), else 0.
+abbrev pub newlyMarked : (x : ℕ) → ℕ
+newlyMarked x = cond (eqb x 0) 1 0
+
+-- "Register reads, register writes (T, C and D), and contested": in 01 "the number of flag writes"; in 02, wish 2, "the number of flag writes that
+-- found their round unmarked". "A second flag on a marked round is still a register write." x is what the operation found.
+unfoldable pub counted : Access → (x : ℕ) → Counts → Counts
+counted Nothing x c = c
+counted (ReadValue r) x c = record { reads = c .reads + 1; writes = c .writes; contested = c .contested }
+counted (WriteValue r) x c = record { reads = c .reads; writes = c .writes + 1; contested = c .contested }
+counted (ReadMark r) x c = record { reads = c .reads + 1; writes = c .writes; contested = c .contested }
+counted (SetMark r) x c = record { reads = c .reads; writes = c .writes + 1; contested = c .contested + newlyMarked x }
+counted ReadDecision x c = record { reads = c .reads + 1; writes = c .writes; contested = c .contested }
+counted WriteDecision x c = record { reads = c .reads; writes = c .writes + 1; contested = c .contested }

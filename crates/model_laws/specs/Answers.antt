@@ -56,14 +56,14 @@ admitted s c o e = go (sound s) refl e
     go false eb e′ = absurd (omega arith)
 
 -- Where an accepted operation counts a register operation, the counts are not full: the code's own test of that changes nothing.
-pub accepted-counts : (L : ℕ) (q : Process) (c : Counts) (o : Operation) → NoneHolds (ownTests (q .phase) c o) →
-    cond (full c) c (counted (accessOf L q o) c) ≡ counted (accessOf L q o) c
+pub accepted-counts : (L : ℕ) (q : Process) (x : ℕ) (c : Counts) (o : Operation) → NoneHolds (ownTests (q .phase) c o) →
+    cond (full c) c (counted (accessOf L q o) x c) ≡ counted (accessOf L q o) x c
 unfolding accessOf counted
-accepted-counts L q c (Propose p v) own = cond-same (full c) c
-accepted-counts L q c (Step p leader) own = rw (own .1 .1 .1 .0)
-accepted-counts L q c (Learn p) own = rw (own .1 .1 .0)
-accepted-counts L q c (Crash p) own = cond-same (full c) c
-accepted-counts L q c Malformed own = cond-same (full c) c
+accepted-counts L q x c (Propose p v) own = cond-same (full c) c
+accepted-counts L q x c (Step p leader) own = rw (own .1 .1 .1 .0)
+accepted-counts L q x c (Learn p) own = rw (own .1 .1 .0)
+accepted-counts L q x c (Crash p) own = cond-same (full c) c
+accepted-counts L q x c Malformed own = cond-same (full c) c
 
 -- A sound session has few processes, so that the index at which the code reads one is its number.
 pub index-is : (s : Session) (p : ℕ) → sound s ≡ true → p < s .n → p % 64 ≡ p
@@ -99,10 +99,10 @@ module _ (s : Session) (c : Counts) (o : Operation) where
 
       -- The session and the counts that the code leaves.
       pub operate-accepted : {t : Session} {d : Counts} → t ≡ after (window (s .n)) s o →
-          d ≡ cond (full c) c (counted (accessOf (s .limit) (processAt s (processOf o)) o) c) →
+          d ≡ cond (full c) c (countsAfter s c o) →
           record { code = k; session = t; counts = d } ≡ operate s c o
       unfolding operate answered countsAfter
-      operate-accepted et ed = stepped-accepted s c code none et (ed ∙ accepted-counts (s .limit) _ c o (known .1 .own))
+      operate-accepted et ed = stepped-accepted s c code none et (ed ∙ accepted-counts (s .limit) _ _ c o (known .1 .own))
 
 -- The same of an operation that is lent no counts.
 module _ (s : Session) (o : Operation) {k : ℕ} (code : k ≡ codeOf s noCounts o) where

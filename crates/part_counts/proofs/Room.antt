@@ -1,5 +1,5 @@
 -- Laws of counts that are not full. Assumes nothing.
-use Rattle.base.specs.Prelude.{_<_, _≡_, refl, Bool, true, false, cond, _||_, true≢false, leb-false}
+use Rattle.base.specs.Prelude.{ℕ, _<_, _≡_, refl, Bool, true, false, cond, _||_, true≢false, leb-false}
 use Rattle.model.specs.declared.Access.{Access}
 use Rattle.model.specs.declared.Counts.{Counts}
 use Rattle.model.specs.Step.{counted}
@@ -22,9 +22,9 @@ room c h =
 
 -- What counts that are not full become, by the case of the access.
 pub counts-one :
-    (a : Access) (c : Counts) {α : Access} {d : Counts} →
+    (a : Access) (x : ℕ) (c : Counts) {α : Access} {d : Counts} →
     full c ≡ false →
     a ≡ α →
-    d ≡ counted α c →
-    d ≡ cond (full c) c (counted a c)
-counts-one a c unfull told e = rw (unfull, told) e
+    d ≡ counted α x c →
+    d ≡ cond (full c) c (counted a x c)
+counts-one a x c unfull told e = rw (unfull, told) e

@@ -1,7 +1,7 @@
 // The counts of register operations (01: the tally): when they are full, and what an operation makes of them.
 ghost use mathlib.Core.Path.{_≡_};
 ghost use mathlib.Core.Bool.{cond};
-ghost use Rattle.model.specs.Step.{counted as countedOf};
+ghost use Rattle.model.specs.Step.{newlyMarked, counted as countedOf};
 ghost use Rattle.model.specs.Refusal.{full as fullOf};
 use model::Access;
 use model::Counts;
@@ -24,9 +24,16 @@ fn counts(reads: u32, writes: u32, contested: u32) -> Counts
     }
 }
 
-// 01, "One turn at a time": the tally after a register operation. A full tally stays as it is.
-pub fn counted(a: Access, c: Counts) -> Counts
-    ensures { λ r. ⌜ r ≡ cond (fullOf c) c (countedOf a c) ⌝ }
+// 02, wish 2: a flag write that found its round unmarked counts as contested, and no other does.
+fn newly_marked(x: u32) -> u32
+    ensures { λ r. ⌜ r ≡ newlyMarked x ⌝ }
+{
+    if x == 0 { 1 } else { 0 }
+}
+
+// 01, "One turn at a time": the tally after a register operation that found x. A full tally stays as it is.
+pub fn counted(a: Access, x: u32, c: Counts) -> Counts
+    ensures { λ r. ⌜ r ≡ cond (fullOf c) c (countedOf a x c) ⌝ }
 {
     if full(c) {
         return c;
@@ -38,7 +45,7 @@ pub fn counted(a: Access, c: Counts) -> Counts
         Access::ReadValue(_) => counts(reads, c.writes, c.contested),
         Access::WriteValue(_) => counts(c.reads, writes, c.contested),
         Access::ReadMark(_) => counts(reads, c.writes, c.contested),
-        Access::SetMark(_) => counts(c.reads, writes, c.contested + 1),
+        Access::SetMark(_) => counts(c.reads, writes, c.contested + newly_marked(x)),
         Access::ReadDecision => counts(reads, c.writes, c.contested),
         Access::WriteDecision => counts(c.reads, writes, c.contested),
     }

@@ -31,14 +31,14 @@ pub fn value(values: &mut [u32; 256], a: Access, e: u32) -> u32
     }
 }
 
-// A mark that is read, as a number.
+// A mark that is found, as a number.
 fn bit(marked: bool) -> u32
     ensures { λ r. ⌜ r ≡ bitOf marked ⌝ }
 {
     if marked { 1 } else { 0 }
 }
 
-// The same of the mark C[r], read or set; v where the operation reads no mark.
+// The same of the mark C[r], read or set: the mark that stood there before; v where the operation goes to no mark.
 pub fn mark(v: u32, marks: &mut [bool; 256], a: Access) -> u32
     ensures reads { λ x. ⌜ x ≡ markIn v (now (marks .entry)) a ⌝ }
     ensures writes { λ _. ⌜ now (marks .exit) ≡ marksAfter (now (marks .entry)) a ⌝ }
@@ -49,8 +49,10 @@ pub fn mark(v: u32, marks: &mut [bool; 256], a: Access) -> u32
         Access::WriteValue(_) => v,
         Access::ReadMark(r) => bit(marks[slot(r)]),
         Access::SetMark(r) => {
-            marks[slot(r)] = true;
-            v
+            let i = slot(r);
+            let before = marks[i];
+            marks[i] = true;
+            bit(before)
         }
         Access::ReadDecision => v,
         Access::WriteDecision => v,

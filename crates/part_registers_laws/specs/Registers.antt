@@ -1,9 +1,9 @@
 -- The registers one by one: what an access reads and leaves in each, and the turn made of them.
-use Rattle.base.specs.Prelude.{ℕ, _+_, _-_, _%_, _≤_, arith, _≡_, refl, sym, Bool, true, false, List, getD, set, ltb}
-use Rattle.model_laws.specs.Types.{Phase, Idle, Waiting, Write, Scan, Adopt, Compare, Flag, CheckMark, CheckValue, Commit, Exhausted, Crashed, Decided, Access, Nothing, ReadValue, WriteValue, ReadMark, SetMark, ReadDecision, WriteDecision, Process, Session, Step}
+use Rattle.base.specs.Prelude.{ℕ, _+_, _-_, _%_, _≤_, arith, _≡_, refl, sym, ap, Bool, true, false, List, getD, set, ltb}
+use Rattle.model_laws.specs.Types.{Phase, Idle, Waiting, Write, Scan, Adopt, Compare, Flag, CheckMark, CheckValue, Commit, Exhausted, Crashed, Decided, Access, Nothing, ReadValue, WriteValue, ReadMark, SetMark, ReadDecision, WriteDecision, Process, Session, Counts, Step}
 use Rattle.model.specs.Board.{processAt, with, maxRounds}
-use Rattle.model.specs.Step.{accessAt, access, next, bit, found, written, turn}
-use Rattle.model.specs.Machine.{accessOf, becomes, after}
+use Rattle.model.specs.Step.{accessAt, access, next, bit, found, written, turn, counted}
+use Rattle.model.specs.Machine.{accessOf, becomes, after, countsAfter}
 use Rattle.base.specs.Bools.{cond-cases}
 use Rattle.model_laws.specs.Ranges.{InRange}
 
@@ -21,13 +21,13 @@ valueIn values (SetMark r) = 0
 valueIn values ReadDecision = 0
 valueIn values WriteDecision = 0
 
--- The mark read from C; v where none is.
+-- The mark found in C, read or set; v where there is none.
 abbrev pub markIn : (v : ℕ) → List Bool → Access → ℕ
 markIn v marks Nothing = v
 markIn v marks (ReadValue r) = v
 markIn v marks (WriteValue r) = v
 markIn v marks (ReadMark r) = bit (getD marks (slot r) false)
-markIn v marks (SetMark r) = v
+markIn v marks (SetMark r) = bit (getD marks (slot r) false)
 markIn v marks ReadDecision = v
 markIn v marks WriteDecision = v
 
@@ -75,14 +75,14 @@ NoLook (SetMark r) = Unit {0}
 NoLook ReadDecision = ⊥
 NoLook WriteDecision = Unit {0}
 
--- What an access other than a look reads from the registers, where it is one of them.
+-- What an access other than a look finds in the registers, where it is one of them.
 pub read-is : (s : Session) (a : Access) → NoLook a → InRange maxRounds a → markIn (valueIn (s .values) a) (s .marks) a ≡ found s a
 unfolding found
 read-is s Nothing look ok = refl
 read-is s (ReadValue r) look ok = rw (slot-is r (ok .0) (ok .1))
 read-is s (WriteValue r) look ok = refl
 read-is s (ReadMark r) look ok = rw (slot-is r (ok .0) (ok .1))
-read-is s (SetMark r) look ok = refl
+read-is s (SetMark r) look ok = rw (slot-is r (ok .0) (ok .1))
 read-is s ReadDecision look ok = absurd look
 read-is s WriteDecision look ok = refl
 
@@ -117,6 +117,20 @@ step-no-look L r Commit leader = tt
 step-no-look L r Exhausted leader = tt
 step-no-look L r Crashed leader = tt
 step-no-look L r Decided leader = tt
+
+-- What the code counts in a work turn of a sound session, by what it found, are the machine's counts; i is the index of process p.
+pub counted-is : (s : Session) (p : ℕ) (leader : Bool) (c : Counts) {i v x : ℕ} {a : Access} →
+    InRange maxRounds (accessOf (s .limit) (processAt s p) (Step p leader)) →
+    i ≡ p →
+    a ≡ access (s .limit) (processAt s i) leader →
+    v ≡ valueIn (s .values) a →
+    x ≡ markIn v (s .marks) a →
+    counted a x c ≡ countsAfter s c (Step p leader)
+unfolding countsAfter accessOf access
+counted-is s p leader c ok ei ea er ex =
+    let r = processAt s p in
+    let a = access (s .limit) r leader in
+    rw (ex, er, ea, ei) (ap (λ x. counted a x c) (read-is s a (step-no-look (s .limit) (r .round) (r .phase) leader) ok))
 
 -- What the code leaves in each register, and the record that it makes by the value read, are what the machine leaves after a work turn of a
 -- sound session; i is the index of process p.

@@ -20,7 +20,7 @@ pub fn learn(s: Session, p: usize, c: Counts) -> Stepped
     let mut counts = c;
     if code == 0 {
         after.processes[i] = part_moves::learnt(q, after.decision);
-        counts = part_counts::counted(Access::ReadDecision, c);
+        counts = part_counts::counted(Access::ReadDecision, 0, c);
     }
     Stepped {
         code: code,

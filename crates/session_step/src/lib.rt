@@ -28,7 +28,7 @@ pub fn step(s: Session, p: usize, leader: bool, c: Counts) -> Stepped
         after.decision = part_decision::decision(after.decision, a, q.estimate);
         let window = part_window::window(n as u8);
         after.processes[i] = part_next::next(window, limit, q, leader, x);
-        counts = part_counts::counted(a, c);
+        counts = part_counts::counted(a, x, c);
     }
     Stepped {
         code: code,

@@ -64,7 +64,7 @@ fn carry(sheet: &[u8], budget: usize, window: usize, mut s: Session, mut c: Coun
             let x = mark(value(&mut s.values, a, q.estimate), &mut s.marks, a);
             s.decision = part_decision::decision(s.decision, a, q.estimate);
             s.processes[p] = part_next::next(window, s.limit, q, leader, x);
-            c = part_counts::counted(a, c);
+            c = part_counts::counted(a, x, c);
         } else {
             let code = entry::refusal_of(q, c, e);
             if code != 0 {
@@ -73,7 +73,7 @@ fn carry(sheet: &[u8], budget: usize, window: usize, mut s: Session, mut c: Coun
             if entry::changes(s.decision, e) {
                 s.processes[p] = entry::becomes(q, s.decision, e);
             }
-            c = part_counts::counted(entry::access_of(e), c);
+            c = part_counts::counted(entry::access_of(e), 0, c);
         }
         k += 1;
         place = sheet_reader::place_after(sheet, place);

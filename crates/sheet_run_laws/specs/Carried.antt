@@ -3,7 +3,7 @@ use Rattle.base.specs.Prelude.{ℕ, suc, zero, _+_, _-_, _≤_, _<_, arith, add
 use Rattle.model_laws.specs.Types.{Access, Session, Counts, Operation, Finished, Refused, BudgetEnded, Rejected, Ran}
 use Rattle.model.specs.Window.{window}
 use Rattle.model.specs.Board.{processAt, opened, noCounts, serverLimits}
-use Rattle.model.specs.Step.{counted}
+use Rattle.model.specs.Step.{found, counted}
 use Rattle.model.specs.Refusal.{refusal, full, processOf, tests}
 use Rattle.model.specs.Machine.{accessOf, after, countsAfter, answered, perform}
 use Rattle.model.specs.Sound.{soundAt}
@@ -98,11 +98,10 @@ module _ {s : Session} {c : Counts} {e : Operation} {p : ℕ} where
   entered-accepted : Entered s c e p 0 → Accepted s c e
   entered-accepted f = accepted s c e (sym (entered-code f))
 
-  -- The counts that the code leaves are the machine's.
-  pub tallied : {b : Access} {d : Counts} → Entered s c e p 0 → b ≡ accessOf (s .limit) (processAt s p) e →
-      d ≡ cond (full c) c (counted b c) → d ≡ countsAfter s c e
+  -- The counts that the code leaves are the machine's: they are not full.
+  pub tallied : {d d′ : Counts} → Entered s c e p 0 → d′ ≡ countsAfter s c e → d ≡ cond (full c) c d′ → d ≡ countsAfter s c e
   unfolding countsAfter
-  tallied f eb ed = ed ∙ rw (eb, f .named) (accepted-counts (s .limit) (processAt s (processOf e)) c e (entered-accepted f .own))
+  tallied f e′ ed = ed ∙ rw e′ (accepted-counts (s .limit) (processAt s (processOf e)) _ c e (entered-accepted f .own))
 
 -- What the loop keeps: the answer is that of the run from here on, with k entries carried out; the session is sound.
 pub record Carrying (answer : Ran) (t : List ℕ) (budget W : ℕ) (s : Session) (c : Counts) (k : ℕ) (place : ℕ) : Type 0 where

@@ -3,12 +3,12 @@
 use Rattle.base.specs.Prelude.{ℕ, _<_, _≤_, arith, _≡_, refl, sym, _∙_, ap, Bool, true, false, cond, not, true≢false, List, set, leb, eqb, set-getD, le-leb, lt-leb, not-false}
 use Rattle.model_laws.specs.Types.{Phase, Waiting, Crashed, Access, Nothing, ReadDecision, Process, Session, Counts, Operation, Propose, Step, Learn, Crash, Malformed, Ending, BudgetEnded, Refused}
 use Rattle.model.specs.Board.{processAt, with, withProcess, idle}
-use Rattle.model.specs.Step.{access, next, learnt, found, written, turn, process}
+use Rattle.model.specs.Step.{access, next, learnt, found, written, turn, counted, process}
 use Rattle.model.specs.Refusal.{refusal, ownTests, processOf, isMalformed, tests, stepTests}
-use Rattle.model.specs.Machine.{accessOf, becomes, after}
+use Rattle.model.specs.Machine.{accessOf, becomes, after, countsAfter}
 use Rattle.model.specs.Sound.{soundAt}
 use Rattle.model_laws.specs.Operations.{access-in-arrays}
-use Rattle.part_registers_laws.specs.Registers.{valueIn, markIn, valuesAfter, marksAfter, decisionAfter, worked-is}
+use Rattle.part_registers_laws.specs.Registers.{valueIn, markIn, valuesAfter, marksAfter, decisionAfter, counted-is, worked-is}
 
 -- Whether it is a work turn.
 abbrev pub isStep : Operation → Bool
@@ -70,13 +70,9 @@ module _ (s : Session) (c : Counts) (o : Operation) where
       go (Crash p) h = rw (le-leb (s .n) p h)
       go Malformed h = absurd (omega arith)
 
--- The refusal and the register operation of a work turn.
+-- The refusal of a work turn.
 pub step-refusal : (φ : Phase) (c : Counts) {o : Operation} {p : ℕ} {leader : Bool} → o ≡ Step p leader → refusal (stepTests φ c) ≡ entryRefusal φ c o
 step-refusal φ c told = rw told
-
-pub step-access : (L : ℕ) (q : Process) {o : Operation} {p : ℕ} {leader : Bool} → o ≡ Step p leader → access L q leader ≡ accessOf L q o
-unfolding accessOf
-step-access L q told = rw told
 
 -- What the code leaves after a work turn of a sound session, register by register.
 pub step-leaves : (W : ℕ) (s : Session) (p : ℕ) (leader : Bool) {o : Operation} {m v x y : ℕ} {a : Access} {values : List ℕ} {marks : List Bool} {q : Process} →
@@ -94,6 +90,18 @@ pub step-leaves : (W : ℕ) (s : Session) (p : ℕ) (leader : Bool) {o : Operati
 step-leaves W s p leader {m = m} t told named ea er ex ev em ey eq =
     rw told
     (worked-is W s m leader (access-in-arrays W s (Step m leader) t) (named ∙ ap processOf told) ea er ex ev em ey eq)
+
+-- And what it counts.
+pub step-counts : (W : ℕ) (s : Session) (p : ℕ) (leader : Bool) (c : Counts) {o : Operation} {m v x : ℕ} {a : Access} →
+    soundAt W s ≡ true →
+    o ≡ Step m leader →
+    p ≡ processOf o →
+    a ≡ access (s .limit) (processAt s p) leader →
+    v ≡ valueIn (s .values) a →
+    x ≡ markIn v (s .marks) a →
+    counted a x c ≡ countsAfter s c o
+step-counts W s p leader c {m = m} t told named ea er ex =
+    rw told (counted-is s m leader c (access-in-arrays W s (Step m leader) t) (named ∙ ap processOf told) ea er ex)
 
 -- ---- what an entry that is no work turn leaves
 
@@ -118,11 +126,11 @@ module _ (W : ℕ) (s : Session) (p : ℕ) where
   other-stays c (Crash m) not-step h ok = absurd (true≢false h)
   other-stays c Malformed not-step h ok = absurd (omega arith)
 
--- Its register operation.
-pub other-access : (L : ℕ) (q : Process) (o : Operation) → isStep o ≡ false → otherAccess o ≡ accessOf L q o
-unfolding accessOf
-other-access L q (Propose m v) not-step = refl
-other-access L q (Step m leader) not-step = absurd (true≢false not-step)
-other-access L q (Learn m) not-step = refl
-other-access L q (Crash m) not-step = refl
-other-access L q Malformed not-step = refl
+-- What it counts: its register operation is no flag write, so that any x will do for what it found.
+pub other-counts : (s : Session) (c : Counts) (o : Operation) (x : ℕ) → isStep o ≡ false → counted (otherAccess o) x c ≡ countsAfter s c o
+unfolding countsAfter accessOf counted
+other-counts s c (Propose m v) x not-step = refl
+other-counts s c (Step m leader) x not-step = absurd (true≢false not-step)
+other-counts s c (Learn m) x not-step = refl
+other-counts s c (Crash m) x not-step = refl
+other-counts s c Malformed x not-step = refl

@@ -2,7 +2,8 @@
 use Rattle.base.specs.Prelude.{_≡_, refl, needs}
 use Rattle.model_laws.specs.Types.{Operation, Learn}
 use Rattle.model.specs.Public
-use Rattle.model.specs.Machine.{accessOf}
+use Rattle.model.specs.Machine.{accessOf, countsAfter}
+use Rattle.model.specs.Step.{counted}
 use Rattle.model_laws.specs.Answers.{codeOf, code-is, operate-refused, operate-accepted, index-of, learnt-is}
 use Rattle.session_learn.proofs.learn.Statement.{statement}
 use Rattle.session_learn.proofs.learn.Tie as tie
@@ -19,7 +20,7 @@ code c =
 
 -- Accepted, and refused.
 returns : tie.Need-returns
-unfolding Public.learn accessOf
+unfolding Public.learn accessOf countsAfter counted
 returns c =
     let first = c .before .before .before in
     let none = c .before .before .if1 .taken in

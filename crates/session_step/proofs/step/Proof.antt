@@ -1,14 +1,15 @@
 -- `session_step::step` meets its contract: by the number of its first refusal, and by the registers, the record and the counts that it leaves. Assumes nothing.
-use Rattle.base.specs.Prelude.{_≡_, refl, arith, needs}
+use Rattle.base.specs.Prelude.{_≡_, refl, _∙_, ap, cond, arith, needs}
 use Rattle.model_laws.specs.Types.{Operation, Step}
 use Rattle.model.specs.Window.{window}
+use Rattle.model.specs.Refusal.{full}
 use Rattle.model.specs.Sound.{sound}
 use Rattle.model.specs.Machine.{accessOf}
 use Rattle.model.specs.Public
 use Rattle.model_laws.specs.Answers.{codeOf, code-is, operate-refused, operate-accepted, index-of, known}
 use Rattle.model_laws.specs.Operations.{access-in-arrays}
 use Rattle.model_laws.specs.Sounds.{sound-few}
-use Rattle.part_registers_laws.specs.Registers.{worked-is}
+use Rattle.part_registers_laws.specs.Registers.{counted-is, worked-is}
 use Rattle.session_step.proofs.step.Statement.{statement}
 use Rattle.session_step.proofs.step.Tie as tie
 
@@ -47,8 +48,9 @@ returns c =
     let o = operation (first .before .before .before .before) in
     let args = first .before .before .before .before .args in
     let i = index-of _ _ o (code first) none in
+    let ranged = access-in-arrays _ _ o (known _ _ o (code first) none .0) in
     operate-accepted _ _ o (code first) none
-    (worked-is (window (args .t1 .n)) _ _ _ (access-in-arrays _ _ o (known _ _ o (code first) none .0)) i
+    (worked-is (window (args .t1 .n)) _ _ _ ranged i
     (accessed .access .ensures)
     (valued .value .ensures .0)
     (marked .mark .ensures .0)
@@ -56,7 +58,9 @@ returns c =
     (marked .mark .ensures .1)
     (written .decision .ensures)
     (rw (← c .before .before .window .ensures) (c .before .next .ensures)))
-    (rw (accessed .access .ensures, i) at (c .counted .ensures))
+    (c .counted .ensures
+    ∙ ap (cond (full (args .c)) (args .c))
+    (counted-is (args .t1) (args .p) (args .leader) (args .c) ranged i (accessed .access .ensures) (valued .value .ensures .0) (marked .mark .ensures .0)))
 
 returns-2 : tie.Need-returns-2
 unfolding Public.step

@@ -5,13 +5,12 @@ use types.Run.{OneOf}
 use denote.Enum.Declared as Declared
 use Rattle.model.proofs.Operation as Operations
 use Rattle.model_laws.specs.Types.{Operation, Propose, Step, Learn, Crash, Malformed}
-use Rattle.model.specs.Board.{processAt}
 use Rattle.model.specs.Runner.{runFrom}
 use Rattle.model.specs.Sheet.{entries}
 use Rattle.sheet_place_laws.specs.declared.Handed.the-variants.{Next}
 use Rattle.sheet_place_laws.specs.Places.{handed, rest}
 use Rattle.sheet_place_laws.specs.PlaceLaws.{begin-rest, begin-proper}
-use Rattle.sheet_run_laws.specs.Entries.{isStep, step-refusal, step-access, step-leaves, other-changes, other-stays, other-access}
+use Rattle.sheet_run_laws.specs.Entries.{isStep, step-refusal, step-leaves, step-counts, other-changes, other-stays, other-counts}
 use Rattle.sheet_run_laws.specs.Carried.{Carrying, Entered, entered-none, tallied}
 use Rattle.sheet_run_laws.specs.Carried.{ends, row-low, shorter, halted, due, refused, goes-on}
 use Rattle.sheet_run.proofs.carry.Statement.{statement}
@@ -166,7 +165,9 @@ loop-again c =
     (w .14
     ∙ step-leaves W (l .s) (process-of h) _ (l .inv .opened .sound) told (f .named) (w .5 .ensures) (w .7 .ensures .0) (w .9 .ensures .0)
     (w .7 .ensures .1) (w .9 .ensures .1) (w .10 .ensures) (w .11 .ensures))
-    (w .13 ∙ tallied f (w .5 .ensures ∙ step-access _ _ told) (w .12 .ensures))
+    (w .13
+    ∙ tallied f (step-counts W (l .s) (process-of h) _ (l .c) (l .inv .opened .sound) told (f .named) (w .5 .ensures) (w .7 .ensures .0) (w .9 .ensures .0))
+    (w .12 .ensures))
     (c .place-after .ensures))
     (λ w.
     let e = entry-of (h .before .before) in
@@ -178,7 +179,7 @@ loop-again c =
     (λ v. v .2 ∙ other-changes W (l .s) (process-of h) e other (f .named) (sym (w .3 .ensures) ∙ v .0 .taken) (v .1 .ensures))
     (λ v. v .1 ∙ other-stays W (l .s) (process-of h) (l .c) e other (sym (w .3 .ensures) ∙ v .0 .left) (sym (f .code)))
     (w .4 .came))
-    (w .7 ∙ tallied f (w .5 .ensures ∙ other-access (l .s .limit) (processAt (l .s) (process-of h)) e other) (w .6 .ensures))
+    (w .7 ∙ tallied f (rw (w .5 .ensures) (other-counts (l .s) (l .c) e _ other)) (w .6 .ensures))
     (c .place-after .ensures))
     (j .match2 .came)
 
