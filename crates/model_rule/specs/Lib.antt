@@ -2,3 +2,4 @@
 pub mod Event
 pub mod Calls
 pub mod Rule
+pub mod Contested

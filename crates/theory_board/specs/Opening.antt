@@ -6,7 +6,7 @@ use Rattle.theory_past.specs.Lawful.{lawful-none}
 use Rattle.theory_board.specs.Invariant.{Invariant}
 
 -- A list of one value holds that value everywhere, past its end too.
-same-everywhere : {A : Type 0} (k i : ℕ) (a : A) → getD (replicate k a) i a ≡ a
+pub same-everywhere : {A : Type 0} (k i : ℕ) (a : A) → getD (replicate k a) i a ≡ a
 same-everywhere zero i a = refl
 same-everywhere (suc k) zero a = refl
 same-everywhere (suc k) (suc i) a = same-everywhere k i a

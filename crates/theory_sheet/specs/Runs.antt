@@ -116,7 +116,7 @@ module _ (t : List ℕ) (budget : ℕ) (ok : sheetRefusal serverLimits t ≡ 0) 
   unfolding sheetRefusal
   sheet-opens = let a = none-holds (sheetTests serverLimits t) (omega arith) ok in rw (a .1 .0, a .1 .1 .0)
 
-  sheet-reached : (1 ≤ processCount t) × Reached (windowOf t) (processCount t) (roundLimit t) (openedBy t) []
+  pub sheet-reached : (1 ≤ processCount t) × Reached (windowOf t) (processCount t) (roundLimit t) (openedBy t) []
   sheet-reached =
       let a = open-accepted serverLimits (processCount t) (roundLimit t) sheet-opens in
       (a .0, opened-reached (windowOf t) (processCount t) (roundLimit t) (a .0) (a .1) (a .2) (a .3))

@@ -1,0 +1,42 @@
+-- Contested as rounds (document 02, wish 2): "after a run from an opening, all of it and nothing else on one tally that began empty, it equals the
+-- marked rounds on the board."
+use Prim.Native.Nat.{ℕ, zero, suc, _+_}
+use mathlib.Core.Path.{_≡_}
+use mathlib.Core.Bool.{Bool, false}
+use mathlib.Core.List.{List, [], _∷_}
+use lib.ListN.{getD}
+use Rattle.model.specs.declared.Session.{Session}
+use Rattle.model.specs.declared.Counts.{Counts}
+use Rattle.model.specs.Board.{noCounts}
+use Rattle.model.specs.Step.{bit}
+use Rattle.model.specs.Machine.{opening}
+use Rattle.model.specs.Runner.{run}
+use Rattle.model_rule.specs.Calls.{Call, Run}
+
+-- How many of the rounds 1 to r are marked.
+abbrev pub markedTo : (marks : List Bool) → (r : ℕ) → ℕ
+markedTo marks zero = 0
+markedTo marks (suc r) = markedTo marks r + bit (getD marks r false)
+
+-- The marked rounds on the board, of C[1] to C[L].
+abbrev pub markedRounds : Session → ℕ
+markedRounds s = markedTo (s .marks) (s .limit)
+
+-- The calls, newest first, are on one tally that began empty and stands at c now: each is given the counts that the one before left.
+abbrev pub OneTally : List Call → Counts → Type 0
+OneTally [] c = c ≡ noCounts
+OneTally (k ∷ ks) c = (c ≡ k .after) × OneTally ks (k .input .counts)
+
+-- The claim, of every list of calls from every accepted opening.
+abbrev pub ContestedRule : Type 0
+ContestedRule =
+    (n L : ℕ)
+    → opening n L .code ≡ 0
+    → (cs : List Call) (s : Session) (c : Counts)
+    → Run (opening n L .session) cs s
+    → OneTally cs c
+    → c .contested ≡ markedRounds s
+
+-- And of every sheet, refused or not, and every budget.
+abbrev pub ContestedRun : Type 0
+ContestedRun = (sheet : List ℕ) (budget : ℕ) → run sheet budget .counts .contested ≡ markedRounds (run sheet budget .session)

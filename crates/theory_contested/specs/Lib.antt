@@ -1,0 +1,3 @@
+-- Contested is the number of marked rounds: one register operation, lists of calls, sheets.
+pub mod Marks
+pub mod Theorem

@@ -1,0 +1,1 @@
+// Contested is the number of marked rounds: no code.
