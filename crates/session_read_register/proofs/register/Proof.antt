@@ -1,4 +1,4 @@
--- `session_read::register` meets its contract. The tests that led to an answer say which it is. Assumes nothing.
+-- `session_read_register::register` meets its contract. The tests that led to an answer say which it is. Assumes nothing.
 use Rattle.base.specs.Prelude.{ℕ, _≤_, _≡_, sym, _∙_, Bool, true, false, not, _&&_, arith, leb, needs, leb-true, not-false}
 use Rattle.base.specs.Bools.{and-left, and-right}
 use Rattle.model_laws.specs.Types.{Session, RegisterAnswer}
@@ -6,8 +6,8 @@ use Rattle.model.specs.Board.{valueAt, markAt}
 use Rattle.model.specs.Sound.{sound}
 use Rattle.model.specs.ReadOut.{register}
 use Rattle.model_laws.specs.Sounds.{sound-low}
-use Rattle.session_read.proofs.register.Statement.{statement}
-use Rattle.session_read.proofs.register.Tie as tie
+use Rattle.session_read_register.proofs.register.Statement.{statement}
+use Rattle.session_read_register.proofs.register.Tie as tie
 
 -- The answers, by the session's test b and the round's.
 module _ (s : Session) (r : ℕ) {b : Bool} (told : b ≡ sound s) where

@@ -1,10 +1,10 @@
--- `session_read::decision` meets its contract. Assumes nothing.
+-- `session_read_decision::decision` meets its contract. Assumes nothing.
 use Rattle.base.specs.Prelude.{_≡_, sym, Bool, true, false, needs}
 use Rattle.model_laws.specs.Types.{Session, DecisionAnswer}
 use Rattle.model.specs.Sound.{sound}
 use Rattle.model.specs.ReadOut.{decision}
-use Rattle.session_read.proofs.decision.Statement.{statement}
-use Rattle.session_read.proofs.decision.Tie as tie
+use Rattle.session_read_decision.proofs.decision.Statement.{statement}
+use Rattle.session_read_decision.proofs.decision.Tie as tie
 
 -- The answers, by the session's test b.
 module _ (s : Session) {b : Bool} (told : b ≡ sound s) where

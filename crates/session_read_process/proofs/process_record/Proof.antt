@@ -1,12 +1,12 @@
--- `session_read::process_record` meets its contract. The tests that led to an answer say which it is. Assumes nothing.
+-- `session_read_process::process_record` meets its contract. The tests that led to an answer say which it is. Assumes nothing.
 use Rattle.base.specs.Prelude.{ℕ, _≤_, _<_, _≡_, sym, _∙_, Bool, true, false, not, arith, needs, not-false, le-leb, lt-leb}
 use Rattle.model_laws.specs.Types.{Session, ProcessAnswer}
 use Rattle.model.specs.Board.{idle, processAt}
 use Rattle.model.specs.Sound.{sound}
 use Rattle.model.specs.ReadOut.{processRecord}
 use Rattle.model_laws.specs.Sounds.{sound-few}
-use Rattle.session_read.proofs.process_record.Statement.{statement}
-use Rattle.session_read.proofs.process_record.Tie as tie
+use Rattle.session_read_process.proofs.process_record.Statement.{statement}
+use Rattle.session_read_process.proofs.process_record.Tie as tie
 
 -- The answers, by the session's test b and the process' number.
 module _ (s : Session) (p : ℕ) {b : Bool} (told : b ≡ sound s) where
