@@ -1,7 +1,7 @@
--- `part_refusals::step_refusal` meets its contract: the status of the phase says which test holds. Assumes nothing.
+-- `part_refusals_counted::step_refusal` meets its contract: the status of the phase says which test holds. Assumes nothing.
 use Rattle.base.specs.Prelude.{refl, sym, _∙_, needs}
-use Rattle.part_refusals.proofs.step_refusal.Statement.{statement}
-use Rattle.part_refusals.proofs.step_refusal.Tie as tie
+use Rattle.part_refusals_counted.proofs.step_refusal.Statement.{statement}
+use Rattle.part_refusals_counted.proofs.step_refusal.Tie as tie
 
 pub step-refusal-spec : {M : Type 1} → statement M
 step-refusal-spec =

@@ -1,7 +1,7 @@
--- `part_refusals::status` meets its contract: each arm is told the phase. Assumes nothing.
+-- `part_status::status` meets its contract: each arm is told the phase. Assumes nothing.
 use Rattle.base.specs.Prelude.{refl, needs}
-use Rattle.part_refusals.proofs.status.Statement.{statement}
-use Rattle.part_refusals.proofs.status.Tie as tie
+use Rattle.part_status.proofs.status.Statement.{statement}
+use Rattle.part_status.proofs.status.Tie as tie
 
 pub status-spec : {M : Type 1} → statement M
 status-spec =

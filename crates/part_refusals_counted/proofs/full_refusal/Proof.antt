@@ -1,7 +1,7 @@
--- `part_refusals::full_refusal` meets its contract: the test is `full`. Assumes nothing.
+-- `part_refusals_counted::full_refusal` meets its contract: the test is `full`. Assumes nothing.
 use Rattle.base.specs.Prelude.{sym, _∙_, needs}
-use Rattle.part_refusals.proofs.full_refusal.Statement.{statement}
-use Rattle.part_refusals.proofs.full_refusal.Tie as tie
+use Rattle.part_refusals_counted.proofs.full_refusal.Statement.{statement}
+use Rattle.part_refusals_counted.proofs.full_refusal.Tie as tie
 
 pub full-refusal-spec : {M : Type 1} → statement M
 full-refusal-spec =
