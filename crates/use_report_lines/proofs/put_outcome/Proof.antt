@@ -1,9 +1,9 @@
--- `use_report_text::lines::put_outcome` meets its contract: each arm is told the ending. Assumes nothing.
+-- `use_report_lines::put_outcome` meets its contract: each arm is told the ending. Assumes nothing.
 use borrow.Author.Needs.{needs}
 use Rattle.use_text.specs.Page.{same}
 use Rattle.use_report_laws.specs.Cases.{outcome-finished}
-use Rattle.use_report_text.proofs.lines.put_outcome.Statement.{statement}
-use Rattle.use_report_text.proofs.lines.put_outcome.Tie as tie
+use Rattle.use_report_lines.proofs.put_outcome.Statement.{statement}
+use Rattle.use_report_lines.proofs.put_outcome.Tie as tie
 
 refused : tie.Need-returns
 refused c = rw (c .before .before .before .before .before .ending .given .1) (c .put-line .ensures)

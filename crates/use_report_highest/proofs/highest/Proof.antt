@@ -1,9 +1,9 @@
--- `use_report_text::lines::highest` meets its contract. The loop's invariant: the rounds from r + 1 on give the answer. Assumes nothing.
+-- `use_report_highest::highest` meets its contract. The loop's invariant: the rounds from r + 1 on give the answer. Assumes nothing.
 use Rattle.base.specs.Prelude.{_-_, _≤_, arith, _≡_, refl, sym, _∙_, ⊎-elim, length, drop}
 use Rattle.model.specs.Board.{highestFrom}
-use Rattle.use_report_laws.specs.Highest.{highest-filled, highest-blank, highest-done}
-use Rattle.use_report_text.proofs.lines.highest.Statement.{statement}
-use Rattle.use_report_text.proofs.lines.highest.Tie as tie
+use Rattle.use_report_highest.specs.Highest.{highest-filled, highest-blank, highest-done}
+use Rattle.use_report_highest.proofs.highest.Statement.{statement}
+use Rattle.use_report_highest.proofs.highest.Tie as tie
 
 abbrev Inv-loop : tie.InvT-loop
 Inv-loop values top₀ r₀ top r = (r ≤ length values) × (highestFrom 0 0 values ≡ highestFrom top r (drop r values))

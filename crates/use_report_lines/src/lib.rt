@@ -1,17 +1,16 @@
-// The lines of a report (01, "The board report"), but for those of the seats.
-ghost use mathlib.Core.Path.{_≡_};
-ghost use Rattle.model.specs.Board.{highestFrom};
-ghost use Rattle.model_report.specs.Report.{outcomeLine, tallyLine, boardLine, moreLines};
+// The lines of a report (01, "The board report"), put on a page.
+ghost use Rattle.model_report.specs.Report.{outcomeLine, tallyLine, boardLine, reportOf};
 ghost use Rattle.use_text.specs.Page.{Put};
 use model::Counts;
 use model::Ending;
+use model::Ran;
 use model::Session;
 use use_report_seats::put_seats;
 use use_text::Bytes;
 use use_text::put_line;
 
 // "Outcome refused CODE INDEX", "sheet refused CODE", "outcome finished" and "the number of entries carried out".
-pub(crate) fn put_outcome(out: &mut Bytes, at: usize, ending: Ending, carried: usize) -> usize
+fn put_outcome(out: &mut Bytes, at: usize, ending: Ending, carried: usize) -> usize
     ensures { λ r. ⌜ Put (now (out .entry)) at (outcomeLine ending carried) (now (out .exit)) r ⌝ }
 {
     match ending {
@@ -38,37 +37,24 @@ fn put_tally(out: &mut Bytes, at: usize, c: Counts) -> usize
     )
 }
 
-// "The highest filled round (0 for none)".
-fn highest(values: &[u32]) -> usize
-    ensures { λ r. ⌜ r ≡ highestFrom 0 0 (now (values .entry)) ⌝ }
-{
-    let mut top: usize = 0;
-    let mut r: usize = 0;
-    while r < values.len() {
-        if values[r] != 0 {
-            top = r + 1;
-        }
-        r += 1;
-    }
-    top
-}
-
 // "The board line is the highest filled round (0 for none) and D".
 fn put_board(out: &mut Bytes, at: usize, s: Session) -> usize
     ensures { λ r. ⌜ Put (now (out .entry)) at (boardLine s) (now (out .exit)) r ⌝ }
 {
-    let top = highest(&s.values);
+    let top = use_report_highest::highest(&s.values);
     put_line(out, at, b"board", &[top, s.decision as usize])
 }
 
-// "A refused sheet gives only" its line; any other the tally, the board and the seats.
-pub(crate) fn put_more(out: &mut Bytes, at: usize, ending: Ending, s: Session, c: Counts) -> usize
-    ensures { λ r. ⌜ Put (now (out .entry)) at (moreLines ending s c) (now (out .exit)) r ⌝ }
+// The report of a run, from `at` on. "A refused sheet gives only" its line; any other the tally, the board and the seats.
+pub fn put_lines(out: &mut Bytes, at: usize, ran: Ran) -> usize
+    ensures { λ r. ⌜ Put (now (out .entry)) at (reportOf ran) (now (out .exit)) r ⌝ }
 {
+    let ending = ran.ending;
+    let tally = put_outcome(out, at, ending, ran.carried);
     if let Ending::Rejected(_) = ending {
-        return at;
+        return tally;
     }
-    let board = put_tally(out, at, c);
-    let first = put_board(out, board, s);
-    put_seats(out, first, s)
+    let board = put_tally(out, tally, ran.counts);
+    let first = put_board(out, board, ran.session);
+    put_seats(out, first, ran.session)
 }

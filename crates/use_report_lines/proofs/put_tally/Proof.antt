@@ -1,7 +1,7 @@
--- `use_report_text::lines::put_tally` meets its contract. Assumes nothing.
+-- `use_report_lines::put_tally` meets its contract. Assumes nothing.
 use borrow.Author.Needs.{needs}
-use Rattle.use_report_text.proofs.lines.put_tally.Statement.{statement}
-use Rattle.use_report_text.proofs.lines.put_tally.Tie as tie
+use Rattle.use_report_lines.proofs.put_tally.Statement.{statement}
+use Rattle.use_report_lines.proofs.put_tally.Tie as tie
 
 returns : tie.Need-returns
 returns c = c .put-line .ensures

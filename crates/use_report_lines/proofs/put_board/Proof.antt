@@ -1,7 +1,7 @@
--- `use_report_text::lines::put_board` meets its contract. Assumes nothing.
+-- `use_report_lines::put_board` meets its contract. Assumes nothing.
 use borrow.Author.Needs.{needs}
-use Rattle.use_report_text.proofs.lines.put_board.Statement.{statement}
-use Rattle.use_report_text.proofs.lines.put_board.Tie as tie
+use Rattle.use_report_lines.proofs.put_board.Statement.{statement}
+use Rattle.use_report_lines.proofs.put_board.Tie as tie
 
 returns : tie.Need-returns
 returns c = rw (← c .before .before .before .before .highest .ensures) (c .put-line .ensures)
