@@ -58,9 +58,10 @@ returns-3 c =
     ⊎-elim
     (λ w. (w .2 ∙ rw (w .1 .given .1), rw (w .1 .given .1)))
     (⊎-elim (λ w. (w .3 ∙ rw (w .1 .given .1), rw (w .1 .given .1))) (λ w. (w .2 ∙ rw (w .1 .given .1), rw (w .1 .given .1))))
-    (m .match .came) in
-    (answered _ _ _ size (a .run .ensures) (told .0),
-    leaves _ _ _ size (a .run .ensures) (put .put-decided .ensures ∙ filled b qs size (long a) ∙ told .1))
+    (m .match .came) in (
+      answered _ _ _ size (a .run .ensures) (told .0),
+      leaves _ _ _ size (a .run .ensures) (put .put-decided .ensures ∙ filled b qs size (long a) ∙ told .1),
+    )
 
 pub janus-run-spec : {M : Type 1} → statement M
 janus-run-spec =
