@@ -1,9 +1,9 @@
--- `use_report_seats::put_status` meets its contract: each arm is told the phase. Assumes nothing.
+-- `use_report_status::put_status` meets its contract: each arm is told the phase. Assumes nothing.
 use borrow.Author.Needs.{needs}
 use Rattle.use_text.specs.Page.{same}
 use Rattle.use_report_laws.specs.Cases.{status-working}
-use Rattle.use_report_seats.proofs.put_status.Statement.{statement}
-use Rattle.use_report_seats.proofs.put_status.Tie as tie
+use Rattle.use_report_status.proofs.put_status.Statement.{statement}
+use Rattle.use_report_status.proofs.put_status.Tie as tie
 
 out : tie.Need-returns
 out c = rw (c .before .before .before .enum-told .given .1) (c .put-words .ensures)
@@ -21,7 +21,9 @@ decided c = rw (c .before .before .before .before .enum-told4 .given .1) (c .put
 working : tie.Need-returns-5
 working c =
     let arm = c .before .before .before .before in
-    same (status-working (arm .before .before .args .q .phase) _ _ (arm .match .keys5)) (c .put-line3 .ensures)
+    let q = arm .before .before .args .q in
+    let line = c .put-line3 in
+    same {r = line .result} {x = line .last .0} (status-working (q .phase) (q .round) (q .estimate) (arm .match .keys5)) (line .ensures)
 
 pub put-status-spec : {M : Type 1} → statement M
 put-status-spec =
