@@ -1,32 +1,11 @@
 // The functions for callers in C, which include/janus.h declares: the runner (01, "Turn sheets", last paragraph) with a sheet, a
 // budget and a buffer of exactly 256 bytes, and the board report.
 ghost use mathlib.Core.Path.{_≡_};
-ghost use lib.ListN.{length};
 ghost use Rattle.model.specs.Runner.{run as runOf};
-ghost use Rattle.model.specs.Export.{decidedBytes, exportCode, exportBuffer};
+ghost use Rattle.model.specs.Export.{exportCode, exportBuffer};
 ghost use Rattle.model_report.specs.ReportExport.{reportCode, reportBuffer};
 use model::Ending;
-use model::Phase;
 use model::Ran;
-use model::Session;
-
-// The bytes of the decided values, four to a process, for all 64; 0 where there is none.
-fn put_decided(s: Session, buffer: &mut [u8])
-    requires { ⌜ length (now buffer) ≡ 256 ⌝ }
-    ensures { λ _. ⌜ now (buffer .exit) ≡ decidedBytes (s .processes) ⌝ }
-{
-    let mut p: usize = 0;
-    while p < 64 {
-        let q = s.processes[p];
-        let phase = q.phase;
-        let value = match phase {
-            Phase::Decided => q.estimate,
-            _ => 0,
-        };
-        part_bytes_put::put32(buffer, 4 * p, value);
-        p += 1;
-    }
-}
 
 // The run of a sheet, called by both entries: so that the loop stands once in the archive, and the functions that only it calls stand in it.
 fn run(sheet: &[u8], budget: usize) -> Ran
@@ -53,7 +32,7 @@ pub extern "C" fn janus_run(sheet: &[u8], budget: usize, buffer: &mut [u8]) -> u
         Ending::BudgetEnded => 100,
         Ending::Rejected(code) => return code,
     };
-    put_decided(ran.session, buffer);
+    janus_decided::put_decided(ran.session, buffer);
     code
 }
 

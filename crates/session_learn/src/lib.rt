@@ -14,7 +14,7 @@ pub fn learn(s: Session, p: usize, c: Counts) -> Stepped
     let i = p % 64;
     let q = s.processes[i];
     let phase = q.phase;
-    let own = part_refusals::learn_refusal(phase, c);
+    let own = part_refusals_counted::learn_refusal(phase, c);
     let code = session_refusal::first_refusal(session_sound::sound(s), s.n, p, own);
     let mut after = s;
     let mut counts = c;

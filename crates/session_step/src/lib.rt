@@ -18,7 +18,7 @@ pub fn step(s: Session, p: usize, leader: bool, c: Counts) -> Stepped
     let i = p % 64;
     let q = s.processes[i];
     let phase = q.phase;
-    let own = part_refusals::step_refusal(phase, c);
+    let own = part_refusals_counted::step_refusal(phase, c);
     let code = session_refusal::first_refusal(session_sound::sound(s), n, p, own);
     let mut after = s;
     let mut counts = c;

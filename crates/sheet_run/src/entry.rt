@@ -46,7 +46,7 @@ pub(crate) fn step_refusal(q: Process, c: Counts) -> u32
     ensures { λ r. ⌜ r ≡ refusal (stepTests (q .phase) c) ⌝ }
 {
     let phase = q.phase;
-    part_refusals::step_refusal(phase, c)
+    part_refusals_counted::step_refusal(phase, c)
 }
 
 // Of an entry that is no work turn, its own refusal: "each entry 13 first, then its operation's own order"; 0 for none.
@@ -56,8 +56,8 @@ pub(crate) fn refusal_of(q: Process, c: Counts, e: Operation) -> u32
     let phase = q.phase;
     match e {
         Operation::Propose(_, v) => part_refusals::propose_refusal(v, phase),
-        Operation::Step(_, _) => part_refusals::step_refusal(phase, c),
-        Operation::Learn(_) => part_refusals::learn_refusal(phase, c),
+        Operation::Step(_, _) => part_refusals_counted::step_refusal(phase, c),
+        Operation::Learn(_) => part_refusals_counted::learn_refusal(phase, c),
         Operation::Crash(_) => part_refusals::crash_refusal(phase),
         Operation::Malformed => 13,
     }

@@ -7,9 +7,9 @@ use model::Session;
 use session_crash::crash;
 use session_open::open;
 use session_propose::propose;
-use session_read::decision;
-use session_read::process_record;
-use session_read::register;
+use session_read_decision::decision;
+use session_read_process::process_record;
+use session_read_register::register;
 use session_values::standing_values;
 use std::num::wrapping_add_u32;
 

@@ -8,8 +8,6 @@ ghost use Rattle.use_text.specs.Page.{pageSize};
 use model::Ran;
 use use_text::Bytes;
 
-mod lines;
-
 // A report: the first `len` of the bytes, with zeros behind them. The longest fits.
 pub struct Text {
     pub bytes: Bytes,
@@ -21,12 +19,8 @@ pub fn report_of(ran: Ran) -> Text
     ensures { λ r. ⌜ (r .len ≡ length (reportOf ran)) × (r .len ≤ pageSize) ⌝ }
     ensures { λ r. ⌜ r .bytes ≡ reportOf ran ++ replicate (pageSize - r .len) 0 ⌝ }
 {
-    let ending = ran.ending;
-    let session = ran.session;
-    let counts = ran.counts;
     let mut bytes = [0u8; use_text::SIZE];
-    let at = lines::put_outcome(&mut bytes, 0, ending, ran.carried);
-    let len = lines::put_more(&mut bytes, at, ending, session, counts);
+    let len = use_report_lines::put_lines(&mut bytes, 0, ran);
     Text { bytes, len }
 }
 

@@ -1,9 +1,12 @@
 -- `janus::janus_run` meets its contract: the test of the buffer's length and the run's ending say what is answered and written.
 -- Assumes nothing.
-use Rattle.base.specs.Prelude.{ℕ, _≡_, _∙_, ap, List, ⊎-elim, needs, eq-eqb, ne-eqb, length}
+use Rattle.base.specs.Prelude.{ℕ, _+_, arith, _≡_, _∙_, ap, List, append-nil, ⊎-elim, needs, eq-eqb, ne-eqb, length, drop-of-length-le, sets, sets-eq}
+use Rattle.base.specs.Arrays.{length-mapped}
+use Rattle.model.specs.declared.Process.{Process}
 use Rattle.model.specs.declared.Ran.{Ran}
 use Rattle.model.specs.Runner.{run}
 use Rattle.model.specs.Export.{decidedBytes, endingCode, endingBuffer, exportCode, exportBuffer}
+use Rattle.janus_decided.specs.Bytes.{length-bytes}
 use Rattle.janus.proofs.janus_run.Statement.{statement}
 use Rattle.janus.proofs.janus_run.Tie as tie
 
@@ -18,6 +21,17 @@ module _ (s : List ℕ) (budget : ℕ) (b : List ℕ) {r : Ran} (size : length b
   leaves h =
       rw (eq-eqb (length b) 256 size)
       (h ∙ ap (λ (x : Ran). endingBuffer (x .ending) (x .session .processes) b) e)
+
+-- The bytes of 64 processes fill it.
+filled : (b : List ℕ) (qs : List Process) → length b ≡ 256 → length qs ≡ 64 → sets b 0 (decidedBytes qs) ≡ decidedBytes qs
+filled b qs h k =
+    let n : length (decidedBytes qs) ≡ 256 = length-bytes qs ∙ rw k in
+    sets-eq (decidedBytes qs) b 0 (omega arith)
+    ∙ rw (drop-of-length-le b {i = 0 + length (decidedBytes qs)} (omega arith)) (append-nil (decidedBytes qs))
+
+-- The records are 64, as the session's own type has it.
+long : (c : tie.After-run) → length (c .run .result .session .processes) ≡ 64
+long c = search (needs, length-mapped)
 
 returns : tie.Need-returns
 unfolding exportCode exportBuffer
@@ -39,12 +53,15 @@ returns-3 c =
     let size = a .before .if1 .left in
     let r = a .run .result in
     let b = a .before .before .before .before .args .buffer .now in
-    let told : (m .match .code ≡ endingCode (r .ending)) × (decidedBytes (r .session .processes) ≡ endingBuffer (r .ending) (r .session .processes) b) =
+    let qs = r .session .processes in
+    let told : (m .match .code ≡ endingCode (r .ending)) × (decidedBytes qs ≡ endingBuffer (r .ending) qs b) =
     ⊎-elim
     (λ w. (w .2 ∙ rw (w .1 .given .1), rw (w .1 .given .1)))
     (⊎-elim (λ w. (w .3 ∙ rw (w .1 .given .1), rw (w .1 .given .1))) (λ w. (w .2 ∙ rw (w .1 .given .1), rw (w .1 .given .1))))
-    (m .match .came) in
-    (answered _ _ _ size (a .run .ensures) (told .0), leaves _ _ _ size (a .run .ensures) (put .put-decided .ensures ∙ told .1))
+    (m .match .came) in (
+      answered _ _ _ size (a .run .ensures) (told .0),
+      leaves _ _ _ size (a .run .ensures) (put .put-decided .ensures ∙ filled b qs size (long a) ∙ told .1),
+    )
 
 pub janus-run-spec : {M : Type 1} → statement M
 janus-run-spec =

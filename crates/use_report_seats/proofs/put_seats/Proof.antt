@@ -33,7 +33,11 @@ loop-again c =
     let seat = c .before .before in
     let a = seat .before .before .before .before .before .before .before in
     let h : a .loop .p < length (a .before .args .t3 .processes) = omega (arith, long (a .before)) in
-    (omega arith, omega arith, seat-put _ _ (a .loop .p) h (a .loop .inv .2) (seat .put-fields .ensures) (c .put-status .ensures))
+    let number = seat .put-fields in (
+      omega arith,
+      omega arith,
+      seat-put _ _ (a .loop .p) {m = number .result} {y = number .last .0} h (a .loop .inv .2) (number .ensures) (c .put-status .ensures),
+    )
 
 -- Every seat is put.
 returns-2 : tie.Need-returns-2 Inv-loop μ-loop

@@ -1,7 +1,6 @@
--- `use_report_text::report_of` meets its contract: the lines are put on a blank page, one behind the other. Assumes nothing.
+-- `use_report_text::report_of` meets its contract: the lines are put on a blank page. Assumes nothing.
 use Rattle.base.specs.Prelude.{_≡_, needs, length}
 use Rattle.base.specs.Arrays.{length-mapped}
-use Rattle.use_text.specs.Page.{after}
 use Rattle.use_report_laws.specs.Whole.{whole}
 use Rattle.use_report_text.proofs.report_of.Statement.{statement}
 use Rattle.use_report_text.proofs.report_of.Tie as tie
@@ -12,9 +11,8 @@ long c = search (needs, length-mapped)
 
 returns : tie.Need-returns
 returns c =
-    let outcome = c .before .before in
-    let start = outcome .before .before .before .before in
-    whole (start .args .ran) (long start) (after (outcome .put-outcome .ensures) (c .put-more .ensures))
+    let start = c .before .before in
+    whole {n = c .put-lines .result} {x = c .put-lines .last .0} (start .args .ran) (long start) (c .put-lines .ensures)
 
 pub report-of-spec : {M : Type 1} → statement M
-report-of-spec = tie.close (tie.spec (search needs) (search needs) returns)
+report-of-spec = tie.close (tie.spec (search needs) returns)

@@ -1,2 +1,0 @@
--- What the entry from C leans on.
-pub mod Bytes

@@ -1,0 +1,2 @@
+-- The bytes of the decided values.
+pub mod Bytes

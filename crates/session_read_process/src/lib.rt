@@ -1,0 +1,40 @@
+// The read-out of a seat's record (document 01, "Standing values"), given any session at all. Refused, the answer holds blank data.
+ghost use mathlib.Core.Path.{_≡_};
+ghost use Rattle.model.specs.Board.{idle};
+ghost use Rattle.model.specs.ReadOut.{processRecord};
+use model::Phase;
+use model::Process;
+use model::ProcessAnswer;
+use model::Session;
+
+// The answer of a refused read-out of a record: blank data.
+fn no_record(code: u32) -> ProcessAnswer
+    ensures { λ r. ⌜ r ≡ record { code = code; process = idle } ⌝ }
+{
+    ProcessAnswer {
+        code: code,
+        process: Process {
+            phase: Phase::Idle,
+            round: 0,
+            estimate: 0,
+        },
+    }
+}
+
+// "Standing values": ".. a seat's record". 3, then 4 for a process n or above.
+pub fn process_record(s: Session, p: usize) -> ProcessAnswer
+    ensures { λ r. ⌜ r ≡ processRecord s p ⌝ }
+{
+    let sound = session_sound::sound(s);
+    if !sound {
+        return no_record(3);
+    }
+    if s.n <= p {
+        return no_record(4);
+    }
+    let q = s.processes[p];
+    ProcessAnswer {
+        code: 0,
+        process: q,
+    }
+}
