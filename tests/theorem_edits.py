@@ -1,11 +1,13 @@
 #!/usr/bin/env python3
-"""Edits of the machine's definition of which the agreement rule is false, and of a contract on which it rests.
+"""Edits of the machine's definition of which the agreement rule, or that contested is the number of marked rounds, is false, and of a
+contract on which the rule rests.
 
 Each file of tests/theorem-edits names a file, a text of it and another text, the crate to check after the change, and the file
 and lemma at which the check must refuse it first. It also has a list of calls: the processes and rounds of the opening, the
-proposals of process 0, 1, .., and the steps, `p*k` for k steps of process p; and what they commit and write. From these a proof
-that the rule is false of the changed machine is made, and that must be accepted. An edit of a contract names a crate in place of the
-list, which must still be proved: the function meets the changed contract. All of it runs in a copy of the repository.
+proposals of process 0, 1, .., and the steps, `p*k` for k steps of process p; and what they commit and write, or how many rounds are
+contested and marked after a sheet of them. From these a proof that the rule is false of the changed machine is made, and that must be
+accepted. An edit of a contract names a crate in place of the list, which must still be proved: the function meets the changed contract. All
+of it runs in a copy of the repository.
 """
 import os
 import re
@@ -49,20 +51,43 @@ def first_error(output):
     return "no error"
 
 
-def moves(edit):
-    """The calls as the proof has them, newest first."""
-    calls = [f"proposes {p} {v}" for p, v in enumerate(edit["proposals"].split())]
+def calls(edit):
+    """The calls, oldest first: the process, and the number that it proposes, None for a step."""
+    for p, v in enumerate(edit["proposals"].split()):
+        yield p, int(v)
     for part in edit["steps"].split():
         p, _, times = part.partition("*")
-        calls += [f"works {p}"] * int(times or 1)
-    return " ∷ ".join(calls[::-1] + ["[]"])
+        yield from [(int(p), None)] * int(times or 1)
+
+
+def listed(terms):
+    return " ∷ ".join([*map(str, terms), "[]"])
+
+
+def moves(edit):
+    """The calls as the rule's proof has them, newest first."""
+    return listed([f"works {p}" if v is None else f"proposes {p} {v}" for p, v in calls(edit)][::-1])
+
+
+def sheet(edit):
+    """The bytes of a sheet of the calls, in one run."""
+    entries = [bytes([1, p, 1, 0, 0, 0]) if v is None else bytes([0, p]) + v.to_bytes(4, "little") for p, v in calls(edit)]
+    header = bytes([int(edit["processes"]), 1]) + int(edit["rounds"]).to_bytes(2, "little")
+    return header + (8).to_bytes(2, "little") + (6 * len(entries)).to_bytes(2, "little") + b"".join(entries)
+
+
+def refutation(edit):
+    """The template of the proof that the edit refutes the theorem, and what it is filled with."""
+    if "contested" in edit:
+        return "contested.template", {"sheet": listed(sheet(edit)), "contested": edit["contested"], "marked": edit["marked"]}
+    v, R = re.fullmatch(r"(\d+) in round (\d+)", edit["commits"]).groups()
+    u, r = re.fullmatch(r"(\d+) in round (\d+)", edit["writes"]).groups()
+    return "refuted.template", {"moves": moves(edit), "n": edit["processes"], "L": edit["rounds"], "R": R, "v": v, "r": r, "u": u}
 
 
 def write_refutation(copy, edit):
-    v, R = re.fullmatch(r"(\d+) in round (\d+)", edit["commits"]).groups()
-    u, r = re.fullmatch(r"(\d+) in round (\d+)", edit["writes"]).groups()
-    values = {"moves": moves(edit), "n": edit["processes"], "L": edit["rounds"], "R": R, "v": v, "r": r, "u": u}
-    text = (EDITS / "refuted.template").read_text(encoding="utf-8")
+    template, values = refutation(edit)
+    text = (EDITS / template).read_text(encoding="utf-8")
     for key, value in values.items():
         text = text.replace(f"@{key}@", value)
     crate = copy / "crates" / "refuted"
