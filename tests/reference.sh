@@ -32,8 +32,8 @@ miscounts() { # WHAT EDIT DIFFERENCE: a copy of the program, its board edited by
     rustc --edition 2021 --crate-type rlib --crate-name janus_reference "$out/src/lib.rs" -o "$out/libjanus_reference.rlib"
     harness --extern janus_reference="$out/libjanus_reference.rlib" -L native=target/staticlib -l static=janus
     grep -q "^difference: seed 1 index .*: $3" "$out/differential.log" || { cat "$out/differential.log"; exit 1; }
-    echo "differential: a count of $1 is found in 200 sheets"
+    echo "differential: a program that counts $1 is found in 200 sheets"
 }
-miscounts "every flag as contested" 's/u32::from(!\*mark)/1/' 'reference: contested [0-9]*, marked rounds [0-9]*$'
-miscounts "the flags of marked rounds as contested" 's/u32::from(!\*mark)/u32::from(*mark)/' 'reference: contested [0-9]*, marked rounds [0-9]*$'
-miscounts "a flag as a read, too" 's/ \*mark = true;/ *mark = true; self.counts.reads += 1;/' 'report: library$'
+miscounts "every flag write as contested" 's/u32::from(!\*mark)/1/' 'reference: contested [0-9]*, marked rounds [0-9]*$'
+miscounts "only flag writes of marked rounds as contested" 's/u32::from(!\*mark)/u32::from(*mark)/' 'reference: contested [0-9]*, marked rounds [0-9]*$'
+miscounts "a read for a flag write" 's/ \*mark = true;/ *mark = true; self.counts.reads += 1;/' 'report: library$'
