@@ -110,7 +110,8 @@ uint32_t janus_run(const uint8_t *sheet, size_t sheet_length, size_t budget, uin
  * changes nothing if the buffer is shorter than the text; one of JANUS_REPORT_LENGTH bytes never is.
  *
  * The text tells which entry was refused: its first line is then "outcome refused CODE INDEX", with indices from 0. The other
- * first lines are "outcome finished" and the number of entries carried out, and, alone, "sheet refused CODE".
+ * first lines are "outcome finished" and the number of entries carried out, and, alone, "sheet refused CODE". The line "tally" has
+ * the register reads, the register writes and contested, which is the number of marked rounds on the board.
  */
 size_t janus_report(const uint8_t *sheet, size_t sheet_length, uint8_t *buffer, size_t buffer_length) JANUS_NOEXCEPT;
 

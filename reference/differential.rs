@@ -1,5 +1,7 @@
 //! Runs random sheets through the library under test and through the reference
-//! and compares what the C entry answers and leaves in its buffer.
+//! and compares what the C entry answers and leaves in its buffer, and the board
+//! report's text, which has the counts. Contested must be the number of marked
+//! rounds of the session that a sheet leaves.
 //!
 //! `differential [COUNT] [SEED]`: so many sheets (100,000 where left out) from
 //! that seed (the clock where left out). Sheet I of a seed is the same whatever
@@ -7,14 +9,15 @@
 //! time either side took. It ends with 1 at the first difference, after writing
 //! the sheet to `difference-SEED-INDEX.sheet`; a fault or an endless run of the
 //! library counts as one. From 100,000 sheets on it ends with 1, too, if anything
-//! that the table expects was never reached; fewer sheets may be too few for that,
-//! and it says so.
+//! was not reached as often as the table expects; fewer sheets may be too few for
+//! that, and it says so.
 //!
 //! The library is linked in statically as `entry` and exports
 //! `uint32_t janus_run(const uint8_t *sheet, size_t sheet_len, uint64_t budget,
-//! uint8_t *buffer, size_t buffer_len)`. Where the environment variable
-//! BOARD_REPORT names the report's program, that is run on every 50th of the
-//! first 100,000 sheets, and its text is compared with the reference's.
+//! uint8_t *buffer, size_t buffer_len)` and `size_t janus_report(const uint8_t
+//! *sheet, size_t sheet_len, uint8_t *buffer, size_t buffer_len)`. Where the
+//! environment variable BOARD_REPORT names the report's program, that is run on
+//! every 50th of the first 100,000 sheets, and its text is compared too.
 
 use std::ffi::OsStr;
 use std::io::{self, Read, Write};
@@ -25,7 +28,7 @@ use std::time::{Duration, Instant, SystemTime, UNIX_EPOCH};
 use janus_reference::runner::BUFFER;
 use janus_reference::sheet::MAX_BYTES;
 use janus_reference::{
-    entry, window, Access, Counts, Operation, Phase, Process, Refusal, Session, Sheet,
+    entry, run, window, Access, Counts, Operation, Phase, Process, Refusal, Session, Sheet,
 };
 
 // ---------------------------------------------------------------- the library
@@ -40,12 +43,24 @@ mod library {
             buffer: *mut u8,
             buffer_len: usize,
         ) -> u32;
+        fn janus_report(
+            sheet: *const u8,
+            sheet_len: usize,
+            buffer: *mut u8,
+            buffer_len: usize,
+        ) -> usize;
     }
 
     pub fn run(sheet: &[u8], budget: u64, buffer: &mut [u8]) -> u32 {
         let (from, to) = (sheet.as_ptr(), buffer.as_mut_ptr());
         // SAFETY: both pointers stand with their own lengths.
         unsafe { janus_run(from, sheet.len(), budget, to, buffer.len()) }
+    }
+
+    pub fn report(sheet: &[u8], buffer: &mut [u8]) -> usize {
+        let (from, to) = (sheet.as_ptr(), buffer.as_mut_ptr());
+        // SAFETY: both pointers stand with their own lengths.
+        unsafe { janus_report(from, sheet.len(), to, buffer.len()) }
     }
 }
 
@@ -645,12 +660,13 @@ fn budget(random: &mut Random, entries: u64) -> u64 {
 
 // ---------------------------------------------------------------- coverage
 
-/// Names each thing that the sheets are expected to reach.
+/// Names each thing that the sheets are expected to reach, and how often a full
+/// run must reach it at least: once where nothing is said.
 macro_rules! events {
-    ($($event:ident: $name:literal,)*) => {
+    ($($event:ident: $name:literal $(at least $least:literal)?,)*) => {
         #[derive(Clone, Copy)]
         enum Event { $($event,)* }
-        const EVENTS: &[&str] = &[$($name,)*];
+        const EVENTS: &[(&str, u64)] = &[$(($name, [$($least,)? 1][0]),)*];
     };
 }
 
@@ -677,10 +693,12 @@ events! {
     CompareGate: "compare i, equal: gate",
     CompareFlag: "compare 0, different: flag 0",
     CompareFlagBack: "compare i, different: flag i, i above 0",
-    FlagOn: "flag i: compare i + 1",
-    FlagChecks: "flag i: check-mark 0",
-    FlagGate: "flag i: gate",
-    FlagAgain: "flag of a round marked before",
+    FlagOn: "flag i, unmarked: compare i + 1" at least 10_000,
+    FlagChecks: "flag i, unmarked: check-mark 0" at least 100,
+    FlagGate: "flag i, unmarked: gate" at least 10_000,
+    FlagAgainOn: "flag i, marked: compare i + 1" at least 100_000,
+    FlagAgainChecks: "flag i, marked: check-mark 0" at least 10_000,
+    FlagAgainGate: "flag i, marked: gate" at least 100_000,
     MarkedNow: "check-mark 0, marked: gate",
     MarkedBack: "check-mark i, marked: gate, i above 0",
     Unmarked: "check-mark i, unmarked: check-value i",
@@ -743,6 +761,9 @@ events! {
     BudgetEnded: "100",
     BudgetZero: "100, budget 0",
     BudgetLast: "100, one entry short",
+    Marked: "session with marked rounds" at least 10_000,
+    MarkedAgain: "session with a round marked again" at least 10_000,
+    MarkedByTwo: "session with a round marked by two seats" at least 10_000,
 }
 
 const STANCES: [&str; 13] = [
@@ -819,15 +840,20 @@ impl Coverage {
         self.events[event as usize] += u64::from(happened);
     }
 
-    /// Runs the sheet once more, entry by entry, noting what it reaches.
-    fn observe(&mut self, bytes: &[u8], budget: u64) {
+    /// Runs the sheet once more, entry by entry, noting what it reaches. Tells
+    /// what is wrong with the session that it leaves.
+    fn observe(&mut self, bytes: &[u8], budget: u64) -> Result<(), String> {
         let sheet = match Sheet::read(bytes) {
             Ok(sheet) => sheet,
-            Err(refusal) => return self.sheet_refused(bytes, refusal),
+            Err(refusal) => {
+                self.sheet_refused(bytes, refusal);
+                return Ok(());
+            }
         };
         let mut observer = Observer {
             session: sheet.open(),
             counts: Counts::default(),
+            flags: Vec::new(),
             seen: [0; 64],
         };
         let least = observer.session.limit == window(observer.session.n);
@@ -851,9 +877,28 @@ impl Coverage {
             self.note_if(done == budget, Event::FinishedExactly);
             self.note_if(done == 0, Event::FinishedEmpty);
         }
-        for process in &observer.session.processes[..observer.session.n] {
+        self.left(observer)
+    }
+
+    /// Notes how a run left its session. Contested must be the number of marked
+    /// rounds. (02, wish 2.)
+    fn left(&mut self, observer: Observer) -> Result<(), String> {
+        let (session, mut flags) = (observer.session, observer.flags);
+        for process in &session.processes[..session.n] {
             self.stances[stance(process.phase)].stood += 1;
         }
+        let (contested, marked) = (observer.counts.contested, session.marked_rounds());
+        self.note_if(marked > 0, Event::Marked);
+        self.note_if(flags.len() > marked as usize, Event::MarkedAgain);
+        flags.sort_unstable();
+        flags.dedup();
+        self.note_if(flags.len() > marked as usize, Event::MarkedByTwo);
+        if contested != marked {
+            return Err(format!(
+                "reference: contested {contested}, marked rounds {marked}"
+            ));
+        }
+        Ok(())
     }
 
     /// Notes why a sheet was refused, by the bytes alone.
@@ -949,6 +994,15 @@ impl Coverage {
         self.note_if(refusal == Refusal::Entry && beyond, ThirteenFirst);
     }
 
+    /// Notes what a case reaches under one of its budgets.
+    fn case(&mut self, case: &Case, budget: u64) -> Result<(), String> {
+        if case.buffer == BUFFER {
+            return self.observe(&case.sheet, budget);
+        }
+        self.wrong_buffer(case);
+        Ok(())
+    }
+
     fn wrong_buffer(&mut self, case: &Case) {
         self.note(match case.buffer {
             0 => Event::Buffer0,
@@ -964,6 +1018,8 @@ impl Coverage {
 struct Observer {
     session: Session,
     counts: Counts,
+    /// The round and the process of each flag write.
+    flags: Vec<(u32, usize)>,
     /// What each process last saw in a filled register at gate or in seek.
     seen: [u32; 64],
 }
@@ -988,6 +1044,9 @@ impl Observer {
         if let Err(refusal) = answer {
             coverage.entry_refused(entry, &self.session, refusal);
             return false;
+        }
+        if let Some(Access::Marked(round)) = access {
+            self.flags.push((round, number));
         }
         let after = self.session.processes[number];
         let at = &mut coverage.stances[stance(before.phase)];
@@ -1077,10 +1136,11 @@ fn later_step(before: Process, after: Process, overwritten: u32) -> Event {
         (Phase::Compare(_), Phase::Compare(_)) => CompareOn,
         (Phase::Compare(_), Phase::CheckMark(_)) => CompareChecks,
         (Phase::Compare(_), _) => CompareGate,
-        (Phase::Flag(_), _) if overwritten == 1 => FlagAgain,
-        (Phase::Flag(_), Phase::Compare(_)) => FlagOn,
-        (Phase::Flag(_), Phase::CheckMark(_)) => FlagChecks,
-        (Phase::Flag(_), _) => FlagGate,
+        (Phase::Flag(_), Phase::Compare(_)) => [FlagOn, FlagAgainOn][overwritten as usize],
+        (Phase::Flag(_), Phase::CheckMark(_)) => {
+            [FlagChecks, FlagAgainChecks][overwritten as usize]
+        }
+        (Phase::Flag(_), _) => [FlagGate, FlagAgainGate][overwritten as usize],
         (Phase::CheckMark(0), Phase::Waiting) => MarkedNow,
         (Phase::CheckMark(_), Phase::Waiting) => MarkedBack,
         (Phase::CheckMark(_), _) => Unmarked,
@@ -1114,10 +1174,10 @@ impl Coverage {
     fn print(&self) -> Vec<String> {
         let mut missing = Vec::new();
         println!("{:46} {:>12}", "reached", "times");
-        for (name, &times) in EVENTS.iter().zip(&self.events) {
+        for ((name, least), &times) in EVENTS.iter().zip(&self.events) {
             println!("{name:46} {times:12}");
-            if times == 0 {
-                missing.push((*name).to_string());
+            if times < *least {
+                missing.push(format!("{name} ({times} of {least} times)"));
             }
         }
         self.print_stances(&mut missing);
@@ -1166,7 +1226,9 @@ struct Clock {
     library: Duration,
     reference: Duration,
     calls: u64,
-    reports: u64,
+    /// The time spent in the library's report, and how often its program was run.
+    report: Duration,
+    programs: u64,
 }
 
 /// Bytes on either side of the lent buffer, which no call may touch.
@@ -1197,6 +1259,55 @@ fn compare(case: &Case, budget: u64, fill: u8, clock: &mut Clock) -> Result<(), 
     })
 }
 
+/// No report's text is longer. (include/janus.h.)
+const REPORT_LENGTH: usize = 5120;
+
+/// Compares the report's text, and its contested with the marked rounds of the
+/// session that the sheet leaves.
+fn compare_report(case: &Case, fill: u8, clock: &mut Clock) -> Result<(), String> {
+    let mut room = [fill; GUARD + REPORT_LENGTH + GUARD];
+    let start = Instant::now();
+    let size = library::report(&case.sheet, &mut room[GUARD..GUARD + REPORT_LENGTH]);
+    clock.report += start.elapsed();
+    let (before, rest) = room.split_at(GUARD);
+    let (text, behind) = rest.split_at(size.min(REPORT_LENGTH));
+    if before.iter().chain(behind).any(|byte| *byte != fill) {
+        return Err("report: a byte beside the text is changed".to_string());
+    }
+    let text = same_text(text, case)?;
+    let (contested, marked) = (contested(&text), marked_rounds(&case.sheet));
+    if contested != marked {
+        return Err(format!(
+            "report: contested {contested:?}, marked rounds {marked:?}"
+        ));
+    }
+    Ok(())
+}
+
+/// The text of a report, if it is the reference's.
+fn same_text(text: &[u8], case: &Case) -> Result<String, String> {
+    let expected = janus_reference::report(&case.sheet);
+    if text == expected.as_bytes() {
+        return Ok(expected);
+    }
+    let text = String::from_utf8_lossy(text);
+    Err(format!("report: library\n{text}reference\n{expected}"))
+}
+
+/// The third number of a report's tally line; none where the sheet is refused.
+fn contested(text: &str) -> Option<u32> {
+    let tally = text.lines().find_map(|line| line.strip_prefix("tally "))?;
+    tally.split(' ').nth(2)?.parse().ok()
+}
+
+/// The marked rounds of the session that a sheet leaves; none where it is refused.
+fn marked_rounds(bytes: &[u8]) -> Option<u32> {
+    let sheet = Sheet::read(bytes).ok()?;
+    let (mut session, mut counts) = (sheet.open(), Counts::default());
+    run(&sheet, u64::MAX, &mut session, &mut counts);
+    Some(session.marked_rounds())
+}
+
 /// Set to the path of the report's program, if its text is to be compared.
 const REPORT: &str = "BOARD_REPORT";
 
@@ -1217,25 +1328,21 @@ fn reported(program: &OsStr, sheet: &[u8]) -> io::Result<Vec<u8>> {
     Ok(output.stdout)
 }
 
-/// Compares the board report of a sheet, where it is one of those to be compared.
-fn compare_report(index: u64, case: &Case, clock: &mut Clock) -> Result<(), String> {
+/// Compares what the report's program writes for a sheet, where it is one of those
+/// to be compared.
+fn compare_program(index: u64, case: &Case, clock: &mut Clock) -> Result<(), String> {
     let Some(program) = std::env::var_os(REPORT) else {
         return Ok(());
     };
     if index % 50 != 0 || index >= 100_000 {
         return Ok(());
     }
-    let expected = janus_reference::report(&case.sheet);
     let text = reported(&program, &case.sheet).map_err(|error| error.to_string())?;
-    clock.reports += 1;
-    if text == expected.as_bytes() {
-        return Ok(());
-    }
-    let text = String::from_utf8_lossy(&text);
-    Err(format!("report: library\n{text}reference\n{expected}"))
+    clock.programs += 1;
+    same_text(&text, case).map(|_| ())
 }
 
-/// Runs one case with each of its budgets.
+/// Runs one case with each of its budgets, then its report.
 fn run_case(
     index: u64,
     random: &mut Random,
@@ -1245,17 +1352,15 @@ fn run_case(
     let case = Case::of(random);
     let fill = random.byte();
     for &budget in &case.budgets {
-        if let Err(words) = compare(&case, budget, fill, clock) {
+        let same = compare(&case, budget, fill, clock);
+        if let Err(words) = same.and_then(|()| coverage.case(&case, budget)) {
             let words = format!("budget {budget}, buffer {}: {words}", case.buffer);
             return Err((case, words));
         }
-        if case.buffer == BUFFER {
-            coverage.observe(&case.sheet, budget);
-        } else {
-            coverage.wrong_buffer(&case);
-        }
     }
-    compare_report(index, &case, clock).map_err(|words| (case, words))
+    compare_report(&case, fill, clock)
+        .and_then(|()| compare_program(index, &case, clock))
+        .map_err(|words| (case, words))
 }
 
 /// COUNT, 1 or more, and SEED of the command line, or none where they are not
@@ -1275,7 +1380,8 @@ fn arguments() -> Option<(u64, u64)> {
 fn print_clock(count: u64, coverage: &Coverage, clock: &Clock) {
     let (calls, entries) = (clock.calls, coverage.entries);
     println!("{count} sheets, {calls} calls, {entries} entries carried out");
-    println!("{} reports", clock.reports);
+    let (seconds, programs) = (clock.report.as_secs_f64(), clock.programs);
+    println!("{count} reports in {seconds:.3} s, {programs} by the program");
     for (name, time) in [("library", clock.library), ("reference", clock.reference)] {
         let seconds = time.as_secs_f64();
         let (sheets, rate) = (calls as f64 / seconds, entries as f64 / seconds);
@@ -1309,7 +1415,7 @@ fn work(count: u64, seed: u64) -> io::Result<ExitCode> {
     let missing = coverage.print();
     print_clock(count, &coverage, &clock);
     for name in &missing {
-        println!("never reached: {name}");
+        println!("not reached: {name}");
     }
     if !missing.is_empty() && count >= FULL {
         return Ok(ExitCode::FAILURE);

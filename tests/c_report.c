@@ -63,6 +63,28 @@ static void refused_entries(void)
     lines("an unknown kind", "outcome refused 13 0\ntally 0 0 0\nboard 0 0\nseat 0 out\nseat 1 out\n");
 }
 
+/* Both seats mark round 1, as in examples/flag_twice.txt: two register writes, one contested round. */
+static void marks(void)
+{
+    begin(2, 5);
+    add(JANUS_PROPOSE, 0, 3);
+    add(JANUS_PROPOSE, 1, 8);
+    work(0, 1);
+    work(1, 1);
+    work(0, 1);
+    work(1, 1);
+    work(0, 1);
+    lines("a flag", "outcome finished 7\ntally 3 2 0\nboard 1 0\nseat 0 working 1 3\nseat 1 working 1 8\n");
+    work(0, 1);
+    lines("a mark", "outcome finished 8\ntally 3 3 1\nboard 1 0\nseat 0 working 1 3\nseat 1 working 1 8\n");
+    work(1, 1);
+    work(0, 2);
+    work(1, 5);
+    lines("a second flag", "outcome finished 16\ntally 10 4 1\nboard 2 0\nseat 0 working 2 3\nseat 1 working 2 3\n");
+    work(1, 1);
+    lines("a second mark", "outcome finished 17\ntally 10 5 1\nboard 2 0\nseat 0 working 2 3\nseat 1 working 2 3\n");
+}
+
 /* Every word that a seat can get. */
 static void standings(void)
 {
@@ -106,6 +128,7 @@ int main(int argc, char **argv)
     decision();
     refused_sheets();
     refused_entries();
+    marks();
     standings();
     long_report();
     printf("c report: %u checks passed\n", passed);

@@ -3,7 +3,8 @@
 
     paper_lists.py [LISTS [SEED]]
 
-Every rule and every refusal must be met, and the windows must be the program's for every n.
+Every rule and every refusal must be met, and marks of rounds that are unmarked and of rounds that are marked. Each list must leave as
+many rounds marked as contested says. The windows must be the program's for every n.
 """
 import random
 import subprocess
@@ -17,7 +18,7 @@ sys.dont_write_bytecode = True
 sys.path.append(str(ROOT / "examples"))
 import sheet
 from paper_play import Play
-from paper_rules import MOST_SEATS, REFUSALS, RULES, window
+from paper_rules import COUNTS, MOST_SEATS, REFUSALS, RULES, window
 
 LISTS, SEED = 3000, 1
 MOST_TURNS = 130
@@ -125,6 +126,20 @@ def check_used(lists):
     return len(rules), len(refusals), min(rules.values())
 
 
+def check_marks(lists):
+    """Fails if contested is not the number of marked rounds, or if one kind of mark is seldom made."""
+    contested = [count for count, _, _ in COUNTS].index("contested")
+    for number, one in enumerate(lists):
+        if one.play.counts[contested] != len(one.play.board["C"]):
+            sys.exit(f"paper lists: list {number}: contested {one.play.counts[contested]}, marked rounds {sorted(one.play.board['C'])}")
+    made = Counter(made for one in lists for made in one.play.made)
+    first = made["mark of an unmarked round"]
+    again = made["mark"] - first
+    if min(first, again) * 10 < len(lists):
+        sys.exit(f"paper lists: {first} marks of an unmarked round and {again} of a marked one are too few")
+    return first, again
+
+
 def check_windows():
     """Fails unless W is the least L that the program opens, for every n."""
     sizes = [(n, window(n) + less) for n in range(1, MOST_SEATS + 1) for less in (0, -1)]
@@ -139,9 +154,11 @@ def main():
     lists = [Composer(chance).compose() for _ in range(count)]
     compare(lists)
     rules, refusals, least = check_used(lists)
+    first, again = check_marks(lists)
     check_windows()
     turns = sum(len(one.turns) for one in lists)
-    print(f"paper lists: {count} lists from seed {seed}, {turns} turns as traced; {rules} rules, each {least} times or more; {refusals} refusals")
+    print(f"paper lists: {count} lists from seed {seed}, {turns} turns as traced; {rules} rules, each {least} times or more; {refusals} refusals; "
+          f"{first} marks of unmarked rounds, {again} of marked ones")
 
 
 if __name__ == "__main__":

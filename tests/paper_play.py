@@ -135,7 +135,7 @@ def mark(turn, row, at):
     """Marks a register."""
     first = not turn.play.board[row].get(at)
     turn.play.board[row][at] = True
-    return "marked", ["mark", "mark of an unmarked round"][:1 + first]
+    return "marked", ["mark", "mark of an unmarked round"] if first else ["mark"]
 
 
 def register(use):
@@ -192,6 +192,20 @@ def stands(words):
     def act(turn):
         turn.seat.head, turn.seat.place = head, place(turn)
     return act
+
+
+# ---------------------------------------------------------------- words that count
+
+# What a turn may have made. A mark of an unmarked round is a mark as well.
+MADE = ["read", "write", "mark", "mark of an unmarked round"]
+
+
+def counted(words):
+    """What a count grows with."""
+    made = words.split(" or ")
+    if not set(made) <= set(MADE):
+        raise ValueError(f"paper_rules.py: no turn makes this: {words}")
+    return made
 
 
 # ---------------------------------------------------------------- rows
@@ -251,7 +265,7 @@ REFUSED = {
     kind: [(place, row[0], condition(row[2])) for place, row in enumerate(REFUSALS) if kind in row[1].split(", ")]
     for _, kind in ROWS
 }
-COUNTED = [made.split(" or ") for _, made, _ in COUNTS]
+COUNTED = [counted(made) for _, made, _ in COUNTS]
 
 
 class Play:
@@ -262,7 +276,7 @@ class Play:
         self.seats = [Seat() for _ in range(n)]
         self.board = {row: {} for row in BLANK}
         self.counts = [0] * len(COUNTS)
-        self.used, self.refusals = [], []
+        self.used, self.refusals, self.made = [], [], []
 
     def refused(self, turn):
         """The row of REFUSALS that a turn meets, or None."""
@@ -280,6 +294,7 @@ class Play:
             self.refusals.append(refused[0])
             return f"refused {refused[1]}"
         next(row for row in ROWS[turn.seat.head, turn.kind] if row.fits(turn)).follow(turn)
+        self.made += turn.made
         for made in turn.made:
             self.counts = [count + (made in counted) for count, counted in zip(self.counts, COUNTED)]
         return turn.register

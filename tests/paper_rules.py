@@ -96,8 +96,8 @@ REFUSALS = [
 # Count, what makes it grow by 1, a remark.
 COUNTS = [
     ("reads", "read", "of T, C or D, at work or in a look"),
-    ("writes", "write or mark", "to T, C or D"),
-    ("contested", "mark", "also where the round was marked before"),
+    ("writes", "write or mark", "to T, C or D, also where the round was marked before"),
+    ("contested", "mark of an unmarked round", "so it is the number of marked rounds"),
 ]
 
 MOST_SEATS = 64

@@ -1,5 +1,5 @@
 //! The shared registers and the counts. (01, "The board and the seats"; "The
-//! caller lends its tally", in "One turn at a time".)
+//! caller lends its tally", in "One turn at a time"; 02, wish 2.)
 
 use crate::session::MAX_ROUNDS;
 
@@ -30,12 +30,14 @@ pub struct Counts {
     pub reads: u32,
     /// Register writes, to T, C and D.
     pub writes: u32,
-    /// Flag writes. (01: contested.)
+    /// Flag writes that found their round unmarked. (01: contested; 02, wish 2,
+    /// in place of 01's "the number of flag writes".)
     pub contested: u32,
 }
 
 impl Counts {
-    /// 01, "Numbers returned", 16: some count can grow no more.
+    /// 01, "Numbers returned", 16: some count can grow no more, be it one that
+    /// the operation makes grow or not.
     #[inline]
     pub fn full(&self) -> bool {
         self.reads == u32::MAX || self.writes == u32::MAX || self.contested == u32::MAX
@@ -97,11 +99,15 @@ impl<W: FnMut(Access)> Board<'_, W> {
         marked
     }
 
+    /// 02, wish 2: "Contested becomes the number of flag writes that found their
+    /// round unmarked"; "A second flag on a marked round is still a register
+    /// write." What stood there is no register read.
     #[inline]
     pub fn mark(&mut self, round: u32) {
-        self.registers.marks[place(round)] = true;
+        let mark = &mut self.registers.marks[place(round)];
+        self.counts.contested += u32::from(!*mark);
         self.counts.writes += 1;
-        self.counts.contested += 1;
+        *mark = true;
         (self.watch)(Access::Marked(round));
     }
 

@@ -1,7 +1,8 @@
-//! A board of the Janus algorithm, written by hand from document 01 alone.
+//! A board of the Janus algorithm, written by hand from document 01 and the
+//! change requests of document 02 alone.
 //!
 //! It shares no table, code or generator with the proved implementation. It is
-//! the second reading of document 01 that random sheets are run against, and
+//! the second reading of the documents that random sheets are run against, and
 //! the yardstick of the benchmark; so state is changed in place, no entry
 //! allocates, and no session is copied.
 //!

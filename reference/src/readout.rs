@@ -52,6 +52,13 @@ impl Session {
         count
     }
 
+    /// How many rounds are marked. (02, wish 2: "the marked rounds on the board",
+    /// which contested equals after a run from an opening.)
+    pub fn marked_rounds(&self) -> u32 {
+        let marks = &self.registers.marks[..self.limit as usize];
+        marks.iter().map(|mark| u32::from(*mark)).sum()
+    }
+
     /// The highest filled round, 0 for none. (01, "The board report".)
     pub(crate) fn highest_filled(&self) -> usize {
         let filled = |value: &u32| *value != 0;

@@ -19,7 +19,8 @@
 //!   VALUE of 0; set to the left in 25 places.
 //! - RECORD is the seat's record after the entry: its stance with its place,
 //!   then `round R value V`; set to the left in 40 places.
-//! - TALLY is reads, writes and contested, from the sheet's start on.
+//! - TALLY is reads, writes and contested, from the sheet's start on; contested
+//!   grows where `C[r] marked` found C[r] unmarked.
 //!
 //! A refused entry has `refused CODE` in place of the last three columns and is
 //! the last line. A refused sheet gives the one line `sheet refused CODE`.

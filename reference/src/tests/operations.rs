@@ -211,7 +211,60 @@ fn flag_marks_the_round_that_differs() {
     assert_eq!(case.process(0).to_string(), "gate round 2 value 3");
     assert_eq!(case.session.read_round(1), Ok((8, true)));
     assert_eq!(case.session.read_round(2), Ok((3, false)));
-    assert_eq!(case.tally(), (7, 5, 2));
+    assert_eq!(case.tally(), (7, 5, 1));
+}
+
+/// Seats 0 and 1 at flag 0 in round 1, which is unmarked: seat 2 wrote last.
+fn two_at_flag() -> Case {
+    let mut case = Case::open(3, 5);
+    case.propose(0, 3);
+    case.propose(1, 8);
+    case.propose(2, 5);
+    case.work(&[0, 1, 2, 0, 1, 2, 0, 1]);
+    assert_eq!(case.session.read_round(1), Ok((5, false)));
+    assert_eq!(case.tally(), (5, 3, 0));
+    case
+}
+
+#[test]
+fn two_flags_of_one_round() {
+    for [first, second] in [[0, 1], [1, 0]] {
+        let mut case = two_at_flag();
+        case.work(&[first]);
+        assert_eq!(case.session.read_round(1), Ok((5, true)));
+        assert_eq!(case.tally(), (5, 4, 1));
+        case.work(&[second]);
+        assert_eq!(case.session.read_round(1), Ok((5, true)));
+        assert_eq!(case.tally(), (5, 5, 1));
+        assert_eq!(case.session.marked_rounds(), 1);
+        assert_eq!(case.process(0).to_string(), "gate round 1 value 3");
+        assert_eq!(case.process(1).to_string(), "gate round 1 value 8");
+    }
+}
+
+#[test]
+fn contested_goes_by_the_mark_alone() {
+    for marked in [false, true] {
+        let mut case = two_at_flag();
+        case.session.registers.marks[0] = marked;
+        case.counts.contested = 7;
+        case.work(&[0]);
+        assert_eq!(case.tally(), (5, 4, if marked { 7 } else { 8 }));
+    }
+}
+
+#[test]
+fn a_full_contested_refuses_either_flag() {
+    for marked in [false, true] {
+        let mut case = two_at_flag();
+        case.session.registers.marks[0] = marked;
+        case.counts.contested = u32::MAX;
+        step_refused(&mut case, 0, 16);
+        case.counts.contested = u32::MAX - 1;
+        case.work(&[0]);
+        let most = if marked { u32::MAX - 1 } else { u32::MAX };
+        assert_eq!(case.tally(), (5, 4, most));
+    }
 }
 
 #[test]

@@ -1,4 +1,5 @@
-//! The paper cases of 01, starred and not.
+//! The paper cases of 01, starred and not, and the one of 02, wish 2: two seats
+//! mark one round.
 
 use super::*;
 use crate::{entry, report, window, Phase};
@@ -84,6 +85,18 @@ fn two_seats_from_there() {
     assert_eq!(case.session.read_round(2), Ok((3, false)));
     assert_eq!(case.process(1).to_string(), "compare 0 round 2 value 3");
     assert_eq!(case.tally(), (8, 4, 1));
+}
+
+#[test]
+fn two_seats_mark_one_round() {
+    let mut case = Case::contested();
+    case.work(&[0, 0, 1, 1, 1, 1, 1]);
+    assert_eq!(case.process(1).to_string(), "flag 1 round 2 value 3");
+    assert_eq!(case.tally(), (10, 4, 1));
+    case.work(&[1]);
+    assert_eq!(case.session.read_round(1), Ok((8, true)));
+    assert_eq!(case.tally(), (10, 5, 1));
+    assert_eq!(case.session.marked_rounds(), 1);
 }
 
 #[test]

@@ -1,5 +1,6 @@
 //! Random lists of operations: the agreement rule holds, every session stays
-//! sound, and a sheet gives what its entries give one after another.
+//! sound, contested is the number of marked rounds, and a sheet gives what its
+//! entries give one after another.
 
 use super::*;
 use crate::{run, Ending, Phase, Sheet};
@@ -17,12 +18,14 @@ impl Random {
     }
 }
 
-/// What the agreement rule of 01 speaks of, gathered along a list.
+/// What the agreement rule of 01 speaks of, and the round of each flag write (02,
+/// wish 2), gathered along a list.
 #[derive(Default)]
 struct History {
     proposed: Vec<u32>,
     written: Vec<(u32, u32)>,
     committed: Vec<(u32, u32)>,
+    flagged: Vec<u32>,
 }
 
 impl History {
@@ -36,11 +39,24 @@ impl History {
                 assert!(self.proposed.contains(&value));
                 self.committed.push((round, value));
             }
+            (Operation::Step { .. }, Phase::Flag(i)) => self.flagged.push(round - i),
             _ => {}
         }
     }
 
-    fn check(&self, session: &Session) {
+    /// How many rounds were flagged, each counted once.
+    fn disputed(&self) -> usize {
+        let mut rounds = self.flagged.clone();
+        rounds.sort_unstable();
+        rounds.dedup();
+        rounds.len()
+    }
+
+    fn check(&self, session: &Session, counts: &Counts) {
+        let writes = self.written.len() + self.flagged.len() + self.committed.len();
+        assert_eq!(counts.writes as usize, writes);
+        assert_eq!(counts.contested as usize, self.disputed());
+        assert_eq!(counts.contested, session.marked_rounds());
         for &(round, value) in &self.committed {
             let mut later = self.written.iter().filter(|(written, _)| *written >= round);
             assert!(later.all(|(_, written)| *written == value));
@@ -78,15 +94,20 @@ fn public(session: &mut Session, operation: Operation, counts: &mut Counts) -> R
     }
 }
 
-/// A list in bursts: where it led, its accepted operations, its commits.
-fn random_list(seed: u64, length: usize) -> (Case, Vec<[u8; 6]>, usize) {
+/// A list in bursts, or in single turns after a proposal by each process: where
+/// it led, its accepted operations, its history.
+fn random_list(seed: u64, length: usize) -> (Case, Vec<[u8; 6]>, History) {
     let mut random = Random(seed);
     let n = 1 + random.below(6) as usize;
     let limit = crate::window(n) as usize + random.below(9) as usize;
     let (mut case, mut history) = (Case::open(n, limit), History::default());
     let (mut accepted, mut operation) = (Vec::new(), random_operation(&mut random, n));
-    for _ in 0..length {
-        if random.below(3) == 0 || !matches!(operation, Operation::Step { .. }) {
+    let (proposals, burst) = if seed % 2 == 0 { (0, 3) } else { (n, 1) };
+    for place in 0..length {
+        if place < proposals {
+            let (process, value) = (place, 1 + place as u32);
+            operation = Operation::Propose { process, value };
+        } else if random.below(burst) == 0 || !matches!(operation, Operation::Step { .. }) {
             operation = random_operation(&mut random, n);
         }
         let before = case.session.clone();
@@ -99,18 +120,23 @@ fn random_list(seed: u64, length: usize) -> (Case, Vec<[u8; 6]>, usize) {
             }
             Err(_) => assert_eq!(case.session, before),
         }
-        history.check(&case.session);
+        history.check(&case.session, &case.counts);
     }
-    (case, accepted, history.committed.len())
+    (case, accepted, history)
 }
 
 #[test]
-fn agreement_and_soundness_on_random_lists() {
-    let mut commits = 0;
+fn agreement_soundness_and_counts_on_random_lists() {
+    let (mut commits, mut first, mut second) = (0, 0, 0);
     for seed in 0..300 {
-        commits += random_list(seed, 600).2;
+        let history = random_list(seed, 600).2;
+        commits += history.committed.len();
+        first += history.disputed();
+        second += history.flagged.len() - history.disputed();
     }
     assert!(commits > 100, "{commits} commits");
+    assert!(first > 100, "{first} flags of an unmarked round");
+    assert!(second > 1000, "{second} flags of a marked round");
 }
 
 #[test]
