@@ -2,6 +2,7 @@
 use Rattle.base.specs.Prelude.{_≡_, refl, _∙_, ap, cond, arith, needs}
 use Rattle.model_laws.specs.Types.{Operation, Step}
 use Rattle.model.specs.Window.{window}
+use Rattle.model.specs.Step.{counted}
 use Rattle.model.specs.Refusal.{full}
 use Rattle.model.specs.Sound.{sound}
 use Rattle.model.specs.Machine.{accessOf}
@@ -48,6 +49,9 @@ returns c =
     let o = operation (first .before .before .before .before) in
     let args = first .before .before .before .before .args in
     let i = index-of _ _ o (code first) none in
+    let counts :
+    c .counted .result ≡ cond (full (args .c)) (args .c) (counted (accessed .access .result) (marked .mark .result) (args .c)) =
+    c .counted .ensures in
     let ranged = access-in-arrays _ _ o (known _ _ o (code first) none .0) in
     operate-accepted _ _ o (code first) none
     (worked-is (window (args .t1 .n)) _ _ _ ranged i
@@ -58,7 +62,7 @@ returns c =
     (marked .mark .ensures .1)
     (written .decision .ensures)
     (rw (← c .before .before .window .ensures) (c .before .next .ensures)))
-    (c .counted .ensures
+    (counts
     ∙ ap (cond (full (args .c)) (args .c))
     (counted-is (args .t1) (args .p) (args .leader) (args .c) ranged i (accessed .access .ensures) (valued .value .ensures .0) (marked .mark .ensures .0)))
 
