@@ -4,7 +4,7 @@ use Rattle.base.specs.Bools.{cond-cases}
 use Rattle.model_rule.specs.Event.{Event, proposal, write, flag, commit, decision, Past, Proposed, Written, Committed}
 use Rattle.model_rule.specs.Event.Past.{here, there}
 use Rattle.theory_past.specs.Epoch.{top, last, Wrote, Flagged, Passed}
-use Rattle.theory_past.specs.Past.{past-total, in-cases}
+use Rattle.theory_past.specs.Past.{past-before, past-total, happened-past, in-cases}
 use Rattle.theory_past.specs.Registers.{top-le, wrote-round}
 
 -- What a write of v to register r by process p rests on: p is one of the n, its earlier writes were in epochs below r, and the round
@@ -65,15 +65,23 @@ blank-above (also {x = flag i} l k) j a z = blank-above l j a z
 blank-above (also {x = commit r v} l k) j a z = blank-above l j a z
 blank-above (also {x = decision p v} l k) j a z = blank-above l j a z
 
--- No round of a commit's window is flagged before its round's epoch, after the commit either: a later flag is of no lower epoch.
-pub commit-unflagged : {W n r v : ℕ} {h : List Event} → Lawful W n h → Committed r v h → Unflagged W r h
-commit-unflagged l c j e low inside f =
+-- A commit stays lawful: a later flag is of no lower epoch.
+pub commit-lawful : {W n r v : ℕ} {h : List Event} → Lawful W n h → Committed r v h → CommitLawful W r v h
+commit-lawful l c =
     let k = lawful-at l (c .past) in
-    elim (past-total (f .past) (c .past)) [
-      | inl older ↦
-          elim (in-cases (record { before = f .before; past = older; epoch = f .epoch })) [
-            | inl same ↦ let z : _≡_ {A = ℕ} 0 1 = cc in absurd (omega arith)
-            | inr before ↦ k .unflagged j e low inside before
-          ]
-      | inr newer ↦ omega (arith, f .epoch, top-le newer, wrote-round (k .written .1))
-    ]
+    let before = past-before (c .past) in
+    record {
+      window = k .window;
+      written = (k .written .0, happened-past before (k .written .1));
+      unflagged =
+          λ j e low inside f.
+          elim (past-total (f .past) (c .past)) [
+            | inl older ↦
+                elim (in-cases (record { before = f .before; past = older; epoch = f .epoch })) [
+                  | inl same ↦ let z : _≡_ {A = ℕ} 0 1 = cc in absurd (omega arith)
+                  | inr flagged ↦ k .unflagged j e low inside flagged
+                ]
+            | inr newer ↦ omega (arith, f .epoch, top-le newer, wrote-round (k .written .1))
+          ];
+      proposed = happened-past before (k .proposed);
+    }

@@ -33,6 +33,10 @@ wrote-round x = omega (arith, top-le (x .past))
 pub written-fresh : {r v : ℕ} {h : List Event} → Written r v h → top h ≤ r → WrittenIn r v r h
 written-fresh w low = (w .0, record { before = w .1 .before; past = w .1 .past; epoch = omega (arith, top-le (w .1 .past)) })
 
+-- What was written in an epoch was written.
+pub written-in : {r v e : ℕ} {h : List Event} → WrittenIn r v e h → Written r v h
+written-in w = (w .0, record { before = w .1 .before; past = w .1 .past })
+
 -- ---- the registers
 
 -- v was written to register j since a.
