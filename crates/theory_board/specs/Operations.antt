@@ -10,7 +10,8 @@ use Rattle.model.specs.Sound.{soundAt}
 use Rattle.model_laws.specs.Phases.{PhaseSound, ProcessSound, process-facts, inside-some}
 use Rattle.model_laws.specs.Sounds.{sound-process}
 use Rattle.model_laws.specs.Accepted.{Accepted}
-use Rattle.model_laws.specs.Ranges.{InRange, access-range}
+use Rattle.model_laws.specs.Ranges.{InRange}
+use Rattle.model_laws.specs.Operations.{operation-range}
 use Rattle.model_rule.specs.Event.{Event, proposal, stepEvents, lookEvents, eventsOf}
 use Rattle.theory_past.specs.Lawful.{also}
 use Rattle.theory_walk.specs.Step.{step-lawful, step-spares, step-stands}
@@ -87,7 +88,7 @@ module _ {W : ℕ} {s : Session} {h : List Event} (i : Invariant W s h) (sound :
   operation-invariant (Step p leader) a =
       let q = processAt s p in
       let inside = a .own .0 in
-      let range = access-range W (s .limit) (q .round) (q .phase) leader (facts p .round) (facts p .phase) in
+      let range = operation-range W (s .limit) q (Step p leader) (sound-process W s p sound) in
       turn-invariant i p _ _ (stepEvents p (q .round) (q .estimate) (q .phase)) (a .below)
       (step-events p (q .round) (q .estimate) (q .phase) leader (i .long) (i .matches) range)
       (step-lawful (s .limit) p (q .round) (q .estimate) (q .phase) (a .below) (inside-some (facts p) inside) (facts p .phase) (i .lawful)
