@@ -3,7 +3,7 @@ use Rattle.base.specs.Prelude.{ℕ, _-_, _≤_, arith, ℕ-discrete, _≡_, ref
 use Rattle.base.specs.Bools.{cond-cases}
 use Rattle.model_laws.specs.Types.{Access, Nothing, ReadValue, WriteValue, ReadMark, SetMark, ReadDecision, WriteDecision, Session}
 use Rattle.model.specs.Board.{valueAt, markAt}
-use Rattle.model.specs.Step.{found, written, bit}
+use Rattle.model.specs.Step.{found, written}
 use Rattle.model_laws.specs.Ranges.{InRange}
 use Rattle.model_rule.specs.Event.{Event, write, flag, commit, here, there, Happened}
 use Rattle.theory_past.specs.Epoch.{last}

@@ -17,7 +17,10 @@ opened-invariant W n L few low =
     record {
       long = record { values = simp length-replicate low; marks = simp length-replicate low; processes = simp length-replicate few };
       lawful = none;
-      stands = λ p. rw (same-everywhere maxProcesses p idle) (record { placed = λ i. absurd (true≢false i); decided = λ v d. absurd (past-none (d .past)) });
+      stands =
+          λ p.
+          rw (same-everywhere maxProcesses p idle)
+          (record { placed = λ i. absurd (true≢false i); decided = λ v d. absurd (past-none (d .past)) });
       matches =
           record {
             values = λ j a. same-everywhere maxRounds (j - 1) 0;

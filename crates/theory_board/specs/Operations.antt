@@ -1,7 +1,7 @@
 -- Each accepted operation of the machine, at any window, keeps the invariant: the one lemma, applied.
 use Rattle.base.specs.Prelude.{ℕ, zero, suc, _-_, _≡_, refl, sym, _∙_, Bool, true, false, true≢false, List, [], _∷_, _++_, ltb, not, not-false, arith}
 use Rattle.base.specs.Bools.{cond-cases}
-use Rattle.model_laws.specs.Types.{Phase, Idle, Waiting, Write, Scan, Adopt, Compare, Flag, CheckMark, CheckValue, Commit, Exhausted, Crashed, Decided, Process, Session, Counts, Operation, Propose, Step, Learn, Crash, Malformed}
+use Rattle.model_laws.specs.Types.{Phase, Idle, Waiting, Write, Scan, Adopt, Compare, Flag, CheckMark, CheckValue, Commit, Exhausted, Crashed, Decided, Session, Counts, Operation, Propose, Step, Learn, Crash, Malformed}
 use Rattle.model.specs.Board.{processAt}
 use Rattle.model.specs.Step.{accessAt, access, found, written}
 use Rattle.model.specs.Refusal.{status, isOutside, isGone, processOf}

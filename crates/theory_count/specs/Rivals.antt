@@ -1,5 +1,5 @@
 -- Two values at the register of a round in which one of them was committed.
-use Rattle.base.specs.Prelude.{ℕ, suc, zero, _+_, _-_, _≤_, _<_, arith, ℕ-discrete, _≡_, refl, List, inl, inr}
+use Rattle.base.specs.Prelude.{ℕ, suc, zero, _+_, _≤_, _<_, arith, ℕ-discrete, _≡_, refl, List, inl, inr}
 use Rattle.model_rule.specs.Event.{Event, Written}
 use Rattle.theory_past.specs.Epoch.{Wrote, Held, Passed}
 use Rattle.theory_past.specs.Lawful.{CommitLawful, Lawful, lawful-at}

@@ -1,5 +1,5 @@
 -- Older parts of a past: what was true of one stays true, and what an event on top of it can add.
-use Rattle.base.specs.Prelude.{ℕ, _≡_, refl, List, [], _∷_, _⊎_, inl, inr, ⊎-elim, arith}
+use Rattle.base.specs.Prelude.{ℕ, _≡_, refl, List, [], _∷_, _⊎_, inl, inr, ⊎-elim}
 use Rattle.model_rule.specs.Event.{Event, Past, Happened}
 use Rattle.model_rule.specs.Event.Past.{here, there}
 use Rattle.theory_past.specs.Epoch.{top, HappenedIn, Compared, Passed}

@@ -1,5 +1,5 @@
 -- What the highest written round and the registers tell of the writes of a past.
-use Rattle.base.specs.Prelude.{ℕ, max, _≤_, _<_, _≡_, refl, subst, List, _∷_, _⊎_, inl, inr, ⊎-elim, eqb, eqb-true, le-refl, le-trans, arith}
+use Rattle.base.specs.Prelude.{ℕ, _≤_, _<_, _≡_, refl, List, _∷_, _⊎_, inl, inr, ⊎-elim, eqb, eqb-true, le-refl, le-trans, arith}
 use Rattle.model_rule.specs.Event.{Event, proposal, write, flag, commit, decision, Past, Happened, Written}
 use Rattle.model_rule.specs.Event.Past.{here, there}
 use Rattle.theory_past.specs.Epoch.{top, last, HappenedIn, WrittenIn}

@@ -1,6 +1,6 @@
 -- What the C entry writes to its buffer, in the words of the agreement rule.
 use Rattle.base.specs.Prelude.{ℕ, _*_, _<_, arith, ℕ-discrete, _≡_, refl, List, [], ⊎-elim, length}
-use Rattle.model_laws.specs.Types.{Phase, Idle, Waiting, Write, Scan, Adopt, Compare, Flag, CheckMark, CheckValue, Commit, Exhausted, Crashed, Decided, Session}
+use Rattle.model_laws.specs.Types.{Phase, Idle, Waiting, Write, Scan, Adopt, Compare, Flag, CheckMark, CheckValue, Commit, Exhausted, Crashed, Decided}
 use Rattle.model.specs.Board.{processAt, noCounts, maxProcesses, serverLimits}
 use Rattle.model.specs.Bytes.{word32}
 use Rattle.model.specs.Sheet.{entries, sheetRefusal}
@@ -61,7 +61,9 @@ module _ (t : List ℕ) (budget : ℕ) (ok : sheetRefusal serverLimits t ≡ 0) 
 
   -- It was decided.
   value-decided : (p : ℕ) → (valueOf p ≡ 0 → ⊥) → DecidedOn p (valueOf p) (past (windowOf t) (openedBy t) (runInputs t budget))
-  value-decided p some = let q = processAt (run t budget .session) p in run-rule t budget ok .looked p (valueOf p) (decided-phase (q .phase) (q .estimate) some)
+  value-decided p some =
+      let q = processAt (run t budget .session) p in
+      run-rule t budget ok .looked p (valueOf p) (decided-phase (q .phase) (q .estimate) some)
 
   -- It was proposed by an entry that was carried out.
   value-proposed : (p : ℕ) → (valueOf p ≡ 0 → ⊥) → ProposedBy (valueOf p) (run t budget .carried) (entries t)
@@ -70,6 +72,9 @@ module _ (t : List ℕ) (budget : ℕ) (ok : sheetRefusal serverLimits t ≡ 0) 
       ⊎-elim (λ x. x) (λ x. absurd (past-none (x .past)))
       (fed-proposed (windowOf t) (openedBy t) noCounts (run t budget .carried) (entries t) []
       (happened-past (past-before (f .commits)) (f .proposed)))
+
+  value-equal : (p q : ℕ) → (valueOf p ≡ 0 → ⊥) → (valueOf q ≡ 0 → ⊥) → valueOf p ≡ valueOf q
+  value-equal p q some other = run-rule t budget ok .agreement p q _ _ (value-decided p some) (value-decided q other)
 
   -- The buffer holds it.
   number-value : (b : List ℕ) → AreBytes t → length b ≡ 256 → (p : ℕ) → numberOf t budget b p ≡ valueOf p
@@ -81,12 +86,9 @@ module _ (t : List ℕ) (budget : ℕ) (ok : sheetRefusal serverLimits t ≡ 0) 
 pub export-agreement : ExportAgreement
 export-agreement t budget b bytes ok size =
     record {
-      equal =
-          λ p q low high some other.
-          rw (e p, e q)
-          (run-rule t budget ok .agreement p q _ _ (value-decided t budget ok p (rw (e p) at some)) (value-decided t budget ok q (rw (e q) at other)));
+      equal = λ p q low high some other. rw (e p, e q) (value-equal t budget ok p q (rw (e p) at some) (rw (e q) at other));
       proposed = λ p low some. rw (e p) (value-proposed t budget ok p (rw (e p) at some));
     }
   where
-    e : (p : ℕ) → numberOf t budget b p ≡ decidedAt (run t budget .session .processes) p
+    e : (p : ℕ) → numberOf t budget b p ≡ valueOf t budget ok p
     e = number-value t budget ok b bytes size

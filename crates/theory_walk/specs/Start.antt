@@ -39,8 +39,8 @@ module _ {W p : ℕ} {q : Process} {h : List Event} (not : q .phase ≡ Decided 
         also l committed,
         λ o other. (other, tt),
         rw (ne-eqb (suc v) 0 (λ e. omega arith))
-        (record {
-          placed = λ i. (happened-past (there here) (commit-lawful l (committed .1) .proposed), record { before = h; past = here });
-          decided = λ u d. (refl, ⊎-elim (λ e. cc) (λ f. absurd (not (a .decided u f .0))) (happened-cases d));
-        }),
+            (record {
+              placed = λ i. (happened-past (there here) (commit-lawful l (committed .1) .proposed), record { before = h; past = here });
+              decided = λ u d. (refl, ⊎-elim (λ e. cc) (λ f. absurd (not (a .decided u f .0))) (happened-cases d));
+            }),
       )
