@@ -1,6 +1,6 @@
 -- Each accepted operation of the machine leaves a sound session, and so does each operation, accepted or refused.
 use Rattle.base.specs.Prelude.{ℕ, suc, zero, _≤_, _<_, arith, _≡_, refl, Bool, true, false, not, _&&_, leb, eqb, not-false, leb-true, eqb-false}
-use Rattle.model_laws.specs.Types.{Access, Nothing, ReadValue, WriteValue, ReadMark, SetMark, ReadDecision, WriteDecision, Process, Session, Counts, Limits, Operation, Propose, Step, Learn, Crash, Malformed}
+use Rattle.model_laws.specs.Types.{Access, Nothing, ReadValue, WriteValue, ReadMark, SetMark, ReadDecision, WriteDecision, Process, Session, Counts, Limits, Waiting, Crashed, Operation, Propose, Step, Learn, Crash, Malformed}
 use Rattle.model.specs.Window.{window}
 use Rattle.model.specs.Board.{processAt, opened, idle, maxProcesses, maxRounds}
 use Rattle.model.specs.Step.{access, written, turn, found}
@@ -57,13 +57,12 @@ pub becomes-sound : (W L : ℕ) (q : Process) (c : Counts) (o : Operation) (x : 
     NoneHolds (ownTests (q .phase) c o) → soundProcess W L (becomes W L q o x) ≡ true
 unfolding becomes
 becomes-sound W L q c (Propose p v) x wide t own =
-    let some = eqb-false v 0 (own .0) in
-    placed-sound W L wide (q .round) v (omega arith) (process-facts W L q t .round) .0
+    placed-sound W L Waiting _ v refl (omega (arith, eqb-false v 0 (own .0), process-facts W L q t .round))
 becomes-sound W L q c (Step p leader) x wide t own = next-sound W L wide q leader x (own .0) t
-becomes-sound W L q c (Learn p) x wide t own = learnt-sound W L wide q x t
+becomes-sound W L q c (Learn p) x wide t own = learnt-sound W L q x t
 becomes-sound W L q c (Crash p) x wide t own =
     let f = process-facts W L q t in
-    placed-sound W L wide (q .round) (q .estimate) (inside-some f (own .0)) (f .round) .1
+    placed-sound W L Crashed _ _ refl (inside-some f (own .0), f .round, tt)
 becomes-sound W L q c Malformed x wide t own = t
 
 module _ (W : ℕ) (s : Session) (o : Operation) where
