@@ -11,7 +11,7 @@ use Rattle.base.specs.Bools.{and-left, and-right}
 use Rattle.model_laws.specs.Every.{every-replicate, every-drop}
 use Rattle.model_laws.specs.Accepted.{NoneHolds, none-holds, Accepted, accepted}
 use Rattle.model_laws.specs.Phases.{process-facts, inside-some}
-use Rattle.model_laws.specs.Ranges.{InRange, access-range, range-more}
+use Rattle.model_laws.specs.Ranges.{InRange, access-range}
 use Rattle.model_laws.specs.Keeps.{next-sound, learnt-sound, placed-sound}
 use Rattle.model_laws.specs.Sounds.{sound-facts, facts-sound, idle-sound, sound-process, set-sound, written-sound}
 
@@ -42,15 +42,18 @@ turn-sound W s p a becomes t low ok one =
     (rw (written-same s a e .n) low)
     (rw (written-same s a e .limit) one))
 
--- The register operation of a sound process is on registers 1 to L.
-pub operation-range : (W L : ℕ) (q : Process) (o : Operation) → soundProcess W L q ≡ true → InRange L (accessOf L q o)
+-- The register operation of a sound process is on registers 1 to L, and so on registers 1 to M, where L is at most M.
+operation-reach : (W L M : ℕ) (q : Process) (o : Operation) → L ≤ M → soundProcess W L q ≡ true → InRange M (accessOf L q o)
 unfolding accessOf access
-operation-range W L q (Propose p v) t = tt
-operation-range W L q (Step p leader) t =
-    let f = process-facts W L q t in access-range W L (q .round) (q .phase) leader (f .round) (f .phase)
-operation-range W L q (Learn p) t = tt
-operation-range W L q (Crash p) t = tt
-operation-range W L q Malformed t = tt
+operation-reach W L M q (Propose p v) low t = tt
+operation-reach W L M q (Step p leader) low t =
+    let f = process-facts W L q t in access-range W L M (q .round) (q .phase) leader (f .round) low (f .phase)
+operation-reach W L M q (Learn p) low t = tt
+operation-reach W L M q (Crash p) low t = tt
+operation-reach W L M q Malformed low t = tt
+
+pub operation-range : (W L : ℕ) (q : Process) (o : Operation) → soundProcess W L q ≡ true → InRange L (accessOf L q o)
+operation-range W L q o = operation-reach W L L q o (omega arith)
 
 -- What an accepted operation makes of a sound process is sound.
 pub becomes-sound : (W L : ℕ) (q : Process) (c : Counts) (o : Operation) (x : ℕ) → 1 ≤ W → soundProcess W L q ≡ true →
@@ -71,22 +74,18 @@ module _ (W : ℕ) (s : Session) (o : Operation) where
   unfolding after turn
   after-same = (written-same s _ _ .n, written-same s _ _ .limit)
 
-  module _ (t : soundAt W s ≡ true) where
-    -- The register operation of any operation is on registers 1 to L, and so on the arrays' registers.
-    pub access-in-range : InRange (s .limit) (accessOf (s .limit) (processAt s (processOf o)) o)
-    access-in-range = operation-range W (s .limit) _ o (sound-process W s (processOf o) t)
-
-    pub access-in-arrays : InRange maxRounds (accessOf (s .limit) (processAt s (processOf o)) o)
-    access-in-arrays =
-        range-more (s .limit) maxRounds (accessOf (s .limit) (processAt s (processOf o)) o) (sound-facts W s t .low) access-in-range
+  -- The register operation of any operation is on the arrays' registers.
+  pub access-in-arrays : soundAt W s ≡ true → InRange maxRounds (accessOf (s .limit) (processAt s (processOf o)) o)
+  access-in-arrays t =
+      operation-reach W (s .limit) maxRounds _ o (sound-facts W s t .low) (sound-process W s (processOf o) t)
 
 module _ (W : ℕ) (wide : 1 ≤ W) (s : Session) (c : Counts) (o : Operation) (t : soundAt W s ≡ true) where
   -- An accepted operation leaves a sound session.
   pub after-sound : Accepted s c o → soundAt W (after W s o) ≡ true
   unfolding after
   after-sound a =
-      turn-sound W s (processOf o) _ _ t (a .below) (access-in-range W s o t)
-      (becomes-sound W (s .limit) _ c o _ wide (sound-process W s (processOf o) t) (a .own))
+      let q = sound-process W s (processOf o) t in
+      turn-sound W s (processOf o) _ _ t (a .below) (operation-range W (s .limit) _ o q) (becomes-sound W (s .limit) _ c o _ wide q (a .own))
 
   -- And so does each operation, accepted or refused.
   pub perform-sound : soundAt W (perform W s c o .session) ≡ true
@@ -119,9 +118,5 @@ pub open-accepted : (most : Limits) (n L : ℕ) → refusal (openTests most n L)
 open-accepted most n L e =
     let a = none-holds (openTests most n L) (omega arith) e in
     let b = not-false (leb 1 n && leb n (most .processes)) (a .0) in
-    let c = not-false (leb (window n) L && leb L (most .rounds)) (a .1 .0) in (
-      leb-true 1 n (and-left (leb 1 n) _ b),
-      leb-true n (most .processes) (and-right (leb 1 n) _ b),
-      leb-true (window n) L (and-left (leb (window n) L) _ c),
-      leb-true L (most .rounds) (and-right (leb (window n) L) _ c),
-    )
+    let c = not-false (leb (window n) L && leb L (most .rounds)) (a .1 .0) in
+    search (and-left, and-right, leb-true)
