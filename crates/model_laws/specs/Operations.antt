@@ -99,18 +99,7 @@ module _ (W : ℕ) (wide : 1 ≤ W) (s : Session) (c : Counts) (o : Operation) (
 -- A session just opened, with n and L as an opening accepts them.
 pub opened-sound : (W n L : ℕ) → 1 ≤ n → n ≤ maxProcesses → W ≤ L → L ≤ maxRounds → soundAt W (opened n L) ≡ true
 unfolding opened
-opened-sound W n L some few wide low =
-    facts-sound W _
-    (record {
-      some = some;
-      few = few;
-      wide = wide;
-      low = low;
-      blank = every-drop (λ (x : ℕ). eqb x 0) L _ (every-replicate (λ (x : ℕ). eqb x 0) maxRounds 0 refl);
-      unmarked = every-drop not L _ (every-replicate not maxRounds false refl);
-      outside = let o : Process → Bool = λ q. isOutside (status (q .phase)) in every-drop o n _ (every-replicate o maxProcesses idle refl);
-      each = every-replicate (soundProcess W L) maxProcesses idle (idle-sound W L);
-    })
+opened-sound W n L some few wide low = facts-sound W _ (search (every-drop, every-replicate, idle-sound))
 
 -- What an accepted opening within limits knows.
 pub open-accepted : (most : Limits) (n L : ℕ) → refusal (openTests most n L) ≡ 0 →
