@@ -1,5 +1,5 @@
 -- The test of a record, by its phase and the clause that the phase has. Assumes nothing.
-use Rattle.base.specs.Prelude.{ℕ, min, _≡_, refl, sym, ap, _∙_, Bool, true, false, _&&_, _||_, and-assoc, and-true, or-true, arith, ltb-true, ltb-false, lt-ltb, le-ltb, leb, ltb, eqb}
+use Rattle.base.specs.Prelude.{ℕ, min, _≡_, refl, sym, ap, _∙_, Bool, true, false, _&&_, _||_, and-assoc, and-true, or-false, or-true, arith, ltb-true, ltb-false, lt-ltb, le-ltb, leb, ltb, eqb}
 use Rattle.model_laws.specs.Types.{Phase, Idle, Process}
 use Rattle.model.specs.Refusal.{status, isOutside}
 use Rattle.model.specs.Sound.{soundPhase, soundProcess}
@@ -18,8 +18,7 @@ pub near : (i r W : ℕ) → (leb 1 r && ltb i r && ltb i W) ≡ (leb 1 r && ltb
 near i r W = and-assoc (leb 1 r) _ _ ∙ ap (λ b. leb 1 r && b) (below-both i r W)
 
 arranged : (a e l p : Bool) → (a && e && l && p) ≡ ((a || false) && (e && l && p))
-arranged true e l p = refl
-arranged false e l p = refl
+arranged a e l p = simp (or-false, and-assoc)
 
 -- The test of the record, by its phase and the clause that the phase has.
 module _ (W L : ℕ) (member : Bool) (q : Process) where
