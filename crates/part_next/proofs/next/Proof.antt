@@ -1,9 +1,8 @@
 -- `part_next::next` meets its contract: each arm is told the phase, and the callees' answers make the process. Assumes nothing.
-use Rattle.base.specs.Prelude.{_≡_, refl, needs}
+use Rattle.base.specs.Prelude.{ℕ, _≡_, refl, needs}
 use Rattle.model.specs.declared.Phase.{Phase}
 use Rattle.model.specs.declared.Process.{Process}
-use Rattle.model.specs.Step.{next, nextAt}
-use Rattle.part_next.proofs.Cases.{made}
+use Rattle.model.specs.Step.{process, next, nextAt}
 use Rattle.part_next.proofs.next.Statement.{statement}
 use Rattle.part_next.proofs.next.Tie as tie
 
@@ -39,6 +38,10 @@ next-spec =
         p ≡ nextAt (a .window) (a .limit) (a .q .round) (a .q .estimate) φ (a .leader) (a .x) →
         p ≡ next (a .window) (a .limit) (a .q) (a .leader) (a .x)
     answer s told e = rw told e
+
+    -- The same process, by other names of its phase and its estimate.
+    made : {p : Process} {φ ψ : Phase} {r e f : ℕ} → p ≡ process φ r e → φ ≡ ψ → e ≡ f → p ≡ process ψ r f
+    made p φ e = cc
 
     idle : tie.Need-returns
     idle c = answer (c .before .before .before) (c .before .enum-told .given .1) (c .process .ensures)
