@@ -1,5 +1,5 @@
 -- `session_open::open_refusal` meets its contract: the first test that holds gives the number. Assumes nothing.
-use Rattle.base.specs.Prelude.{ℕ, _≤_, _≡_, refl, Bool, false, cond, not, _&&_, arith, needs, leb-true, not-false, leb}
+use Rattle.base.specs.Prelude.{ℕ, _≤_, _≡_, refl, Bool, true, false, cond, not, _&&_, arith, needs, leb-true, not-false, leb}
 use Rattle.base.specs.Bools.{and-right}
 use Rattle.model.specs.declared.Limits.{Limits}
 use Rattle.model.specs.Window.{window}
@@ -15,14 +15,14 @@ module _ (most : Limits) (n L : ℕ) where
   few p = leb-true n (most .processes) (and-right (leb 1 n) _ (not-false processes p))
 
   -- The number, by the answers of the two tests.
-  number : {W : ℕ} {x y : Bool} → W ≡ window n → not processes ≡ x → not (leb W L && leb L (most .rounds)) ≡ y →
+  number : {W : ℕ} (x y : Bool) → W ≡ window n → not processes ≡ x → not (leb W L && leb L (most .rounds)) ≡ y →
       cond x 1 (cond y 2 0) ≡ refusal (openTests most n L)
-  number w p q = rw (p, ← w, q)
+  number x y w p q = rw (p, ← w, q)
 
 returns : tie.Need-returns
 returns c =
     let a = c .before .before .before .args in
-    number (a .most) (a .n) (a .limit) refl (c .if1 .taken) refl
+    number (a .most) (a .n) (a .limit) true _ refl (c .if1 .taken) refl
 
 cast-window : tie.Need-cast-window
 cast-window c =
@@ -33,13 +33,13 @@ returns-2 : tie.Need-returns-2
 returns-2 c =
     let w = c .before in
     let a = w .before .before .before .before .args in
-    number (a .most) (a .n) (a .limit) (w .window .ensures) (w .before .if1 .left) (c .if2 .taken)
+    number (a .most) (a .n) (a .limit) false true (w .window .ensures) (w .before .if1 .left) (c .if2 .taken)
 
 returns-3 : tie.Need-returns-3
 returns-3 c =
     let w = c .before in
     let a = w .before .before .before .before .args in
-    number (a .most) (a .n) (a .limit) (w .window .ensures) (w .before .if1 .left) (c .if2 .left)
+    number (a .most) (a .n) (a .limit) false false (w .window .ensures) (w .before .if1 .left) (c .if2 .left)
 
 pub open-refusal-spec : {M : Type 1} → statement M
 open-refusal-spec =
