@@ -1,5 +1,5 @@
 -- What 01 says of the standing values, and 02 of their order, is so of the list that the model gives (`valuesTo`). Assumes nothing.
-use Rattle.base.specs.Prelude.{ℕ, zero, suc, _+_, _≤_, _<_, _≡_, refl, sym, ap, Bool, true, false, cond, not, _&&_, _||_, and-false, or-false, or-assoc, List, [], _∷_, _++_, _⊎_, ⊎-elim, eq-or-lt-of-le, not-suc-le-zero, arith, length, getD, take, drop, length-append, List·getD-append, take-suc, take-append-seam, getD-append-seam, ltb, eqb, ltb-true, ltb-false, eqb-true, eq-eqb, lt-ltb, le-ltb}
+use Rattle.base.specs.Prelude.{ℕ, zero, suc, _+_, _≤_, _<_, _≡_, refl, sym, ap, Bool, true, false, cond, not, _&&_, _||_, and-false, or-false, or-true, or-assoc, List, [], _∷_, _++_, _⊎_, ⊎-elim, eq-or-lt-of-le, not-suc-le-zero, add-zero, arith, length, getD, take, drop, length-append, List·getD-append, take-suc, take-append-seam, getD-append-seam, ltb, eqb, ltb-true, ltb-false, eqb-true, eq-eqb, lt-ltb, le-ltb}
 use Rattle.base.specs.Bools.{cond-cases}
 use Rattle.model.specs.declared.Session.{Session}
 use Rattle.model.specs.ReadOut.{holds, valuesTo, standingValues, standingRefusal, standingAnswer, standingBuffer}
@@ -47,16 +47,12 @@ times-last x v (y ∷ l) = next (eqb x y) _ _ _ (times-last x v l)
 
 -- Whether x is blank, held before, and the value of the next register: an old value changes nothing, and a new one is counted.
 same-test : (z h e : Bool) → (e ≡ true → (z || h) ≡ true) → (not z && (h || e)) ≡ (not z && h)
-same-test true h e old = refl
-same-test false true e old = refl
-same-test false false true old = sym (old refl)
-same-test false false false old = refl
+same-test z h false old = simp or-false
+same-test true h true old = refl
+same-test false h true old = cc (or-true h, old refl)
 
 more-test : (z h e : Bool) → (e ≡ true → (z || h) ≡ false) → cond (not z && h) 1 0 + cond e 1 0 ≡ cond (not z && (h || e)) 1 0
-more-test true true false new = refl
-more-test true false false new = refl
-more-test false true false new = refl
-more-test false false false new = refl
+more-test z h false new = simp (or-false, add-zero)
 more-test false false true new = refl
 more-test true h true new = let z : true ≡ false = new refl in cc
 more-test false true true new = let z : true ≡ false = new refl in cc
