@@ -1,5 +1,5 @@
 -- What is known where an operation is accepted: none of its tests holds.
-use Rattle.base.specs.Prelude.{ℕ, _<_, _≤_, arith, _≡_, false, List, [], _∷_, leb-false}
+use Rattle.base.specs.Prelude.{ℕ, _<_, arith, _≡_, false, List, [], _∷_, leb-false}
 use Rattle.base.specs.Bools.{cond-cases}
 use Rattle.model_laws.specs.Types.{Phase, Session, Counts, Operation, Propose, Step, Learn, Crash, Malformed}
 use Rattle.model.specs.Board.{processAt}

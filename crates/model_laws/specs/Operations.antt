@@ -1,10 +1,10 @@
 -- Each accepted operation of the machine leaves a sound session, and so does each operation, accepted or refused.
-use Rattle.base.specs.Prelude.{ℕ, suc, zero, _≤_, _<_, arith, _≡_, refl, Bool, true, false, not, _&&_, leb, eqb, not-false, leb-true, eqb-false}
+use Rattle.base.specs.Prelude.{ℕ, suc, zero, _≤_, _<_, arith, _≡_, refl, true, _&&_, leb, not-false, leb-true, eqb-false}
 use Rattle.model_laws.specs.Types.{Access, Nothing, ReadValue, WriteValue, ReadMark, SetMark, ReadDecision, WriteDecision, Process, Session, Counts, Limits, Waiting, Crashed, Operation, Propose, Step, Learn, Crash, Malformed}
 use Rattle.model.specs.Window.{window}
-use Rattle.model.specs.Board.{processAt, opened, idle, maxProcesses, maxRounds}
+use Rattle.model.specs.Board.{processAt, opened, maxProcesses, maxRounds}
 use Rattle.model.specs.Step.{access, written, turn, found}
-use Rattle.model.specs.Refusal.{refusal, status, isOutside, stepped, openTests, ownTests, processOf, tests}
+use Rattle.model.specs.Refusal.{refusal, stepped, openTests, ownTests, processOf, tests}
 use Rattle.model.specs.Machine.{accessOf, becomes, after, countsAfter, answered, perform}
 use Rattle.model.specs.Sound.{soundAt, soundProcess}
 use Rattle.base.specs.Bools.{and-left, and-right}

@@ -1,5 +1,5 @@
 -- What soundness says of a process, phase by phase, as facts.
-use Rattle.base.specs.Prelude.{ℕ, min, _≤_, _<_, _≡_, refl, Bool, true, false, cond, _&&_, leb, ltb, eqb, leb-true, ltb-true, eqb-true, le-leb, lt-ltb, eq-eqb}
+use Rattle.base.specs.Prelude.{ℕ, min, _≤_, _<_, _≡_, refl, true, false, cond, ltb, eqb, leb-true, ltb-true, eqb-true, le-leb, lt-ltb, eq-eqb}
 use Rattle.model_laws.specs.Types.{Phase, Idle, Waiting, Write, Scan, Adopt, Compare, Flag, CheckMark, CheckValue, Commit, Exhausted, Crashed, Decided, Process}
 use Rattle.model.specs.Refusal.{status, isOutside}
 use Rattle.model.specs.Sound.{soundPhase, soundProcess}

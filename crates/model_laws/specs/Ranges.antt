@@ -1,5 +1,5 @@
 -- A sound process accesses no register outside 1 to L.
-use Rattle.base.specs.Prelude.{ℕ, _+_, _-_, _≤_, arith, _≡_, Bool, true, false, ltb, ltb-true}
+use Rattle.base.specs.Prelude.{ℕ, _≤_, arith, Bool, true, false, ltb, ltb-true}
 use Rattle.model_laws.specs.Types.{Phase, Idle, Waiting, Write, Scan, Adopt, Compare, Flag, CheckMark, CheckValue, Commit, Exhausted, Crashed, Decided, Access, Nothing, ReadValue, WriteValue, ReadMark, SetMark, ReadDecision, WriteDecision}
 use Rattle.model.specs.Step.{accessAt}
 use Rattle.base.specs.Bools.{cond-cases}

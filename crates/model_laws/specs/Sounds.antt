@@ -1,5 +1,5 @@
 -- What soundness says, clause by clause, and what keeps it.
-use Rattle.base.specs.Prelude.{ℕ, _-_, _≤_, _<_, arith, _≡_, refl, true, not, _&&_, drop, drop-set-lt, leb, eqb, leb-true, le-leb}
+use Rattle.base.specs.Prelude.{ℕ, _-_, _≤_, _<_, arith, _≡_, refl, true, not, drop, drop-set-lt, eqb, leb-true, le-leb}
 use Rattle.model_laws.specs.Types.{Access, Nothing, ReadValue, WriteValue, ReadMark, SetMark, ReadDecision, WriteDecision, Process, Session}
 use Rattle.model.specs.Board.{processAt, withProcess, idle, maxProcesses, maxRounds}
 use Rattle.model.specs.Step.{written}

@@ -1,5 +1,5 @@
 -- `part_next::lead` meets its contract, at every window. Assumes nothing.
-use Rattle.base.specs.Prelude.{refl, add-assoc, needs, lt-ltb, le-ltb, eq-eqb, ne-eqb}
+use Rattle.base.specs.Prelude.{add-assoc, needs, lt-ltb, le-ltb, eq-eqb, ne-eqb}
 use Rattle.model.specs.Step.{nextAt}
 use Rattle.part_next.proofs.lead.Statement.{statement}
 use Rattle.part_next.proofs.lead.Tie as tie
