@@ -21,10 +21,13 @@ loop-again : tie.Need-loop-again Inv-loop μ-loop
 loop-again c =
     let byte = c .before .before .before in
     let head = byte .before .before .before in
-    let fields = head .before .before .before .before .before .args .fields .now in
-    (refl, omega arith, λ e a t p.
-    rw (add-one, take-suc fields (head .loop .i) 0 (omega arith), last-field)
-    (after (head .loop .inv .2 e a t p) (after (byte .put-byte .ensures) (c .put-number .ensures))))
+    let fields = head .before .before .before .before .before .args .fields .now in (
+      refl,
+      omega arith,
+      λ e a t p.
+          rw (add-one, take-suc fields (head .loop .i) 0 (omega arith), last-field)
+          (after (head .loop .inv .2 e a t p) (after (byte .put-byte .ensures) (c .put-number .ensures))),
+    )
 
 returns : tie.Need-returns Inv-loop μ-loop
 returns c =
