@@ -1,4 +1,2 @@
--- What the report for callers in C leans on.
+-- The size of a report.
 pub mod Size
-pub mod Copied
-pub mod Written
