@@ -1,2 +1,3 @@
--- The size of a report.
+-- What the report for callers in C leans on.
 pub mod Size
+pub mod Written

@@ -1,6 +1,8 @@
 -- `janus_report::put_report` meets its contract: by whether the buffer is shorter than the text. Assumes nothing.
-use lib.Seq.{take-at}
-use Rattle.base.specs.Prelude.{sym, _∙_, le-leb, lt-leb, needs}
+use Rattle.base.specs.Prelude.{_-_, _∙_, replicate, lt-leb, needs}
+use Rattle.model_report.specs.Report.{reportOf}
+use Rattle.use_text.specs.Page.{pageSize}
+use Rattle.janus_report.specs.Written.{written}
 use Rattle.janus_report.proofs.put_report.Statement.{statement}
 use Rattle.janus_report.proofs.put_report.Tie as tie
 
@@ -12,8 +14,9 @@ returns-2 c =
     let done = c .before .before in
     let e = done .before .before .before .before .before in
     let t = e .before .report-of .ensures in
-    let fits = le-leb _ _ (e .if1 .left) in
-    (rw (← t .0 .0, fits), done .copy .ensures ∙ rw (t .1, take-at _ _ _ (sym (t .0 .0)), ← t .0 .0, fits))
+    let text = reportOf (e .before .before .before .args .ran) in
+    let w = written text _ (replicate (pageSize - e .before .report-of .result .len) 0) (t .0 .0) (t .1) (e .if1 .left) in
+    (w .0, done .copy .ensures ∙ w .1)
 
 pub put-report-spec : {M : Type 1} → statement M
 put-report-spec =
