@@ -74,18 +74,21 @@ module _ (W : ℕ) (s : Session) (o : Operation) where
   unfolding after turn
   after-same = (written-same s _ _ .n, written-same s _ _ .limit)
 
-  -- The register operation of any operation is on the arrays' registers.
-  pub access-in-arrays : soundAt W s ≡ true → InRange maxRounds (accessOf (s .limit) (processAt s (processOf o)) o)
-  access-in-arrays t =
-      operation-reach W (s .limit) maxRounds _ o (sound-facts W s t .low) (sound-process W s (processOf o) t)
+  module _ (t : soundAt W s ≡ true) where
+    -- The register operation of any operation is on registers 1 to L, and so on the arrays' registers.
+    pub access-in-range : InRange (s .limit) (accessOf (s .limit) (processAt s (processOf o)) o)
+    access-in-range = operation-range W (s .limit) _ o (sound-process W s (processOf o) t)
+
+    pub access-in-arrays : InRange maxRounds (accessOf (s .limit) (processAt s (processOf o)) o)
+    access-in-arrays = operation-reach W (s .limit) maxRounds _ o (sound-facts W s t .low) (sound-process W s (processOf o) t)
 
 module _ (W : ℕ) (wide : 1 ≤ W) (s : Session) (c : Counts) (o : Operation) (t : soundAt W s ≡ true) where
   -- An accepted operation leaves a sound session.
   pub after-sound : Accepted s c o → soundAt W (after W s o) ≡ true
   unfolding after
   after-sound a =
-      let q = sound-process W s (processOf o) t in
-      turn-sound W s (processOf o) _ _ t (a .below) (operation-range W (s .limit) _ o q) (becomes-sound W (s .limit) _ c o _ wide q (a .own))
+      turn-sound W s (processOf o) _ _ t (a .below) (access-in-range W s o t)
+      (becomes-sound W (s .limit) _ c o _ wide (sound-process W s (processOf o) t) (a .own))
 
   -- And so does each operation, accepted or refused.
   pub perform-sound : soundAt W (perform W s c o .session) ≡ true
