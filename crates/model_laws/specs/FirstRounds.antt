@@ -1,5 +1,5 @@
 -- What 01 says of the standing values, and 02 of their order, is so of the list that the model gives (`valuesTo`). Assumes nothing.
-use Rattle.base.specs.Prelude.{ℕ, zero, suc, _+_, _≤_, _<_, _≡_, refl, sym, ap, Bool, true, false, cond, not, _&&_, _||_, and-false, or-false, or-assoc, List, [], _∷_, _++_, _⊎_, ⊎-elim, eq-or-lt-of-le, not-suc-le-zero, arith, length, getD, take, drop, length-append, List·getD-append, take-suc, take-append-seam, getD-append-seam, ltb, eqb, ltb-true, ltb-false, eqb-true, eq-eqb, lt-ltb, le-ltb}
+use Rattle.base.specs.Prelude.{ℕ, zero, suc, _+_, _≤_, _<_, _≡_, refl, sym, ap, Bool, true, false, cond, not, _&&_, _||_, and-false, or-false, or-true, or-assoc, List, [], _∷_, _++_, _⊎_, ⊎-elim, eq-or-lt-of-le, not-suc-le-zero, add-zero, arith, length, getD, take, drop, length-append, List·getD-append, take-suc, take-append-seam, getD-append-seam, ltb, eqb, ltb-true, ltb-false, eqb-true, eq-eqb, lt-ltb, le-ltb}
 use Rattle.base.specs.Bools.{cond-cases}
 use Rattle.model.specs.declared.Session.{Session}
 use Rattle.model.specs.ReadOut.{holds, valuesTo, standingValues, standingRefusal, standingAnswer, standingBuffer}
@@ -32,6 +32,11 @@ abbrev pub times : ℕ → List ℕ → ℕ
 times x [] = 0
 times x (y ∷ ys) = cond (eqb x y) (suc (times x ys)) (times x ys)
 
+-- Two choices by one test, related in either case.
+both-conds : {A B : Type 0} (R : A → B → Type 0) (t : Bool) {a b : A} {c d : B} → R a c → R b d → R (cond t a b) (cond t c d)
+both-conds R true p q = p
+both-conds R false p q = q
+
 -- One number more at the end.
 pub holds-last : (x v : ℕ) (l : List ℕ) → holds x (l ++ v ∷ []) ≡ (holds x l || eqb x v)
 holds-last x v [] = or-false (eqb x v)
@@ -39,24 +44,18 @@ holds-last x v (y ∷ l) = rw (holds-last x v l) (sym (or-assoc (eqb x y) (holds
 
 times-last : (x v : ℕ) (l : List ℕ) → times x (l ++ v ∷ []) ≡ times x l + cond (eqb x v) 1 0
 times-last x v [] = omega arith
-times-last x v (y ∷ l) = next (eqb x y) _ _ _ (times-last x v l)
-  where
-    next : (e : Bool) (m n k : ℕ) → m ≡ n + k → cond e (suc m) m ≡ cond e (suc n) n + k
-    next true m n k p = omega arith
-    next false m n k p = p
+times-last x v (y ∷ l) =
+    let later = times-last x v l in
+    both-conds (λ m n. m ≡ n + cond (eqb x v) 1 0) (eqb x y) (omega arith) later
 
 -- Whether x is blank, held before, and the value of the next register: an old value changes nothing, and a new one is counted.
 same-test : (z h e : Bool) → (e ≡ true → (z || h) ≡ true) → (not z && (h || e)) ≡ (not z && h)
-same-test true h e old = refl
-same-test false true e old = refl
-same-test false false true old = sym (old refl)
-same-test false false false old = refl
+same-test z h false old = simp or-false
+same-test true h true old = refl
+same-test false h true old = cc (or-true h, old refl)
 
 more-test : (z h e : Bool) → (e ≡ true → (z || h) ≡ false) → cond (not z && h) 1 0 + cond e 1 0 ≡ cond (not z && (h || e)) 1 0
-more-test true true false new = refl
-more-test true false false new = refl
-more-test false true false new = refl
-more-test false false false new = refl
+more-test z h false new = simp (or-false, add-zero)
 more-test false false true new = refl
 more-test true h true new = let z : true ≡ false = new refl in cc
 more-test false true true new = let z : true ≡ false = new refl in cc
@@ -90,27 +89,23 @@ abbrev pub firstRound : ℕ → (T : List ℕ) → ℕ
 firstRound x [] = 1
 firstRound x (v ∷ T) = cond (eqb x v) 1 (suc (firstRound x T))
 
--- It stays as it is with a register more, and is that register's for a value that is new there.
-first-kept : (x v : ℕ) (ts : List ℕ) → firstRound x ts ≤ length ts → firstRound x (ts ++ v ∷ []) ≡ firstRound x ts
-first-kept x v [] h = absurd (not-suc-le-zero h)
-first-kept x v (y ∷ ts) h = next (eqb x y) (first-kept x v ts) h
-  where
-    next : (e : Bool) {n m k : ℕ} → (n ≤ k → m ≡ n) → cond e 1 (suc n) ≤ suc k → cond e 1 (suc m) ≡ cond e 1 (suc n)
-    next true p h = refl
-    next false p h = ap suc (p (omega arith))
-
-first-new : (v : ℕ) (ts : List ℕ) → holds v ts ≡ false → firstRound v (ts ++ v ∷ []) ≡ suc (length ts)
-first-new v [] h = rw (eq-eqb v v refl)
-first-new v (y ∷ ts) h = next (eqb v y) (first-new v ts) h
-  where
-    next : (e : Bool) {b : Bool} {n k : ℕ} → (b ≡ false → n ≡ k) → (e || b) ≡ false → cond e 1 (suc n) ≡ suc k
-    next true p h = let z : true ≡ false = h in cc
-    next false p h = ap suc (p h)
-
 -- The second of two tests that fail.
 fails : (a b : Bool) → (a || b) ≡ false → b ≡ false
 fails true b h = let z : true ≡ false = h in cc
 fails false b h = h
+
+-- It stays as it is with a register more, and is that register's for a value that is new there.
+first-kept : (x v : ℕ) (ts : List ℕ) → firstRound x ts ≤ length ts → firstRound x (ts ++ v ∷ []) ≡ firstRound x ts
+first-kept x v [] = λ h. absurd (not-suc-le-zero h)
+first-kept x v (y ∷ ts) =
+    both-conds (λ m n. n ≤ suc (length ts) → m ≡ n) (eqb x y) (λ h. refl) (λ h. ap suc (first-kept x v ts (omega arith)))
+
+first-new : (v : ℕ) (ts : List ℕ) → holds v ts ≡ false → firstRound v (ts ++ v ∷ []) ≡ suc (length ts)
+first-new v [] h = rw (eq-eqb v v refl)
+first-new v (y ∷ ts) h =
+    cond-cases (λ m. m ≡ suc (suc (length ts))) (eqb v y)
+    (λ t. let z : true ≡ false = rw t at h in cc)
+    (λ t. ap suc (first-new v ts (fails (eqb v y) (holds v ts) h)))
 
 -- The first rounds of listed values are rounds of the board, and ascend.
 record Ascends (ts l : List ℕ) : Type 0 where

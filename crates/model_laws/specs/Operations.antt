@@ -1,17 +1,17 @@
 -- Each accepted operation of the machine leaves a sound session, and so does each operation, accepted or refused.
-use Rattle.base.specs.Prelude.{ℕ, suc, zero, _≤_, _<_, arith, _≡_, refl, Bool, true, false, not, _&&_, leb, eqb, not-false, leb-true, eqb-false}
-use Rattle.model_laws.specs.Types.{Access, Nothing, ReadValue, WriteValue, ReadMark, SetMark, ReadDecision, WriteDecision, Process, Session, Counts, Limits, Operation, Propose, Step, Learn, Crash, Malformed}
+use Rattle.base.specs.Prelude.{ℕ, suc, zero, _≤_, _<_, arith, _≡_, refl, true, _&&_, leb, not-false, leb-true, eqb-false}
+use Rattle.model_laws.specs.Types.{Access, Nothing, ReadValue, WriteValue, ReadMark, SetMark, ReadDecision, WriteDecision, Process, Session, Counts, Limits, Waiting, Crashed, Operation, Propose, Step, Learn, Crash, Malformed}
 use Rattle.model.specs.Window.{window}
-use Rattle.model.specs.Board.{processAt, opened, idle, maxProcesses, maxRounds}
+use Rattle.model.specs.Board.{processAt, opened, maxProcesses, maxRounds}
 use Rattle.model.specs.Step.{access, written, turn, found}
-use Rattle.model.specs.Refusal.{refusal, status, isOutside, stepped, openTests, ownTests, processOf, tests}
+use Rattle.model.specs.Refusal.{refusal, stepped, openTests, ownTests, processOf, tests}
 use Rattle.model.specs.Machine.{accessOf, becomes, after, countsAfter, answered, perform}
 use Rattle.model.specs.Sound.{soundAt, soundProcess}
 use Rattle.base.specs.Bools.{and-left, and-right}
 use Rattle.model_laws.specs.Every.{every-replicate, every-drop}
 use Rattle.model_laws.specs.Accepted.{NoneHolds, none-holds, Accepted, accepted}
 use Rattle.model_laws.specs.Phases.{process-facts, inside-some}
-use Rattle.model_laws.specs.Ranges.{InRange, access-range, range-more}
+use Rattle.model_laws.specs.Ranges.{InRange, access-range}
 use Rattle.model_laws.specs.Keeps.{next-sound, learnt-sound, placed-sound}
 use Rattle.model_laws.specs.Sounds.{sound-facts, facts-sound, idle-sound, sound-process, set-sound, written-sound}
 
@@ -42,28 +42,30 @@ turn-sound W s p a becomes t low ok one =
     (rw (written-same s a e .n) low)
     (rw (written-same s a e .limit) one))
 
--- The register operation of a sound process is on registers 1 to L.
-pub operation-range : (W L : ℕ) (q : Process) (o : Operation) → soundProcess W L q ≡ true → InRange L (accessOf L q o)
+-- The register operation of a sound process is on registers 1 to L, and so on registers 1 to M, where L is at most M.
+operation-reach : (W L M : ℕ) (q : Process) (o : Operation) → L ≤ M → soundProcess W L q ≡ true → InRange M (accessOf L q o)
 unfolding accessOf access
-operation-range W L q (Propose p v) t = tt
-operation-range W L q (Step p leader) t =
-    let f = process-facts W L q t in access-range W L (q .round) (q .phase) leader (f .round) (f .phase)
-operation-range W L q (Learn p) t = tt
-operation-range W L q (Crash p) t = tt
-operation-range W L q Malformed t = tt
+operation-reach W L M q (Propose p v) low t = tt
+operation-reach W L M q (Step p leader) low t =
+    let f = process-facts W L q t in access-range W L M (q .round) (q .phase) leader (f .round) low (f .phase)
+operation-reach W L M q (Learn p) low t = tt
+operation-reach W L M q (Crash p) low t = tt
+operation-reach W L M q Malformed low t = tt
+
+pub operation-range : (W L : ℕ) (q : Process) (o : Operation) → soundProcess W L q ≡ true → InRange L (accessOf L q o)
+operation-range W L q o = operation-reach W L L q o (omega arith)
 
 -- What an accepted operation makes of a sound process is sound.
 pub becomes-sound : (W L : ℕ) (q : Process) (c : Counts) (o : Operation) (x : ℕ) → 1 ≤ W → soundProcess W L q ≡ true →
     NoneHolds (ownTests (q .phase) c o) → soundProcess W L (becomes W L q o x) ≡ true
 unfolding becomes
 becomes-sound W L q c (Propose p v) x wide t own =
-    let some = eqb-false v 0 (own .0) in
-    placed-sound W L wide (q .round) v (omega arith) (process-facts W L q t .round) .0
+    placed-sound W L Waiting _ v refl (omega (arith, eqb-false v 0 (own .0), process-facts W L q t .round))
 becomes-sound W L q c (Step p leader) x wide t own = next-sound W L wide q leader x (own .0) t
-becomes-sound W L q c (Learn p) x wide t own = learnt-sound W L wide q x t
+becomes-sound W L q c (Learn p) x wide t own = learnt-sound W L q x t
 becomes-sound W L q c (Crash p) x wide t own =
     let f = process-facts W L q t in
-    placed-sound W L wide (q .round) (q .estimate) (inside-some f (own .0)) (f .round) .1
+    placed-sound W L Crashed _ _ refl (inside-some f (own .0), f .round, tt)
 becomes-sound W L q c Malformed x wide t own = t
 
 module _ (W : ℕ) (s : Session) (o : Operation) where
@@ -78,8 +80,7 @@ module _ (W : ℕ) (s : Session) (o : Operation) where
     access-in-range = operation-range W (s .limit) _ o (sound-process W s (processOf o) t)
 
     pub access-in-arrays : InRange maxRounds (accessOf (s .limit) (processAt s (processOf o)) o)
-    access-in-arrays =
-        range-more (s .limit) maxRounds (accessOf (s .limit) (processAt s (processOf o)) o) (sound-facts W s t .low) access-in-range
+    access-in-arrays = operation-reach W (s .limit) maxRounds _ o (sound-facts W s t .low) (sound-process W s (processOf o) t)
 
 module _ (W : ℕ) (wide : 1 ≤ W) (s : Session) (c : Counts) (o : Operation) (t : soundAt W s ≡ true) where
   -- An accepted operation leaves a sound session.
@@ -101,18 +102,7 @@ module _ (W : ℕ) (wide : 1 ≤ W) (s : Session) (c : Counts) (o : Operation) (
 -- A session just opened, with n and L as an opening accepts them.
 pub opened-sound : (W n L : ℕ) → 1 ≤ n → n ≤ maxProcesses → W ≤ L → L ≤ maxRounds → soundAt W (opened n L) ≡ true
 unfolding opened
-opened-sound W n L some few wide low =
-    facts-sound W _
-    (record {
-      some = some;
-      few = few;
-      wide = wide;
-      low = low;
-      blank = every-drop (λ (x : ℕ). eqb x 0) L _ (every-replicate (λ (x : ℕ). eqb x 0) maxRounds 0 refl);
-      unmarked = every-drop not L _ (every-replicate not maxRounds false refl);
-      outside = let o : Process → Bool = λ q. isOutside (status (q .phase)) in every-drop o n _ (every-replicate o maxProcesses idle refl);
-      each = every-replicate (soundProcess W L) maxProcesses idle (idle-sound W L);
-    })
+opened-sound W n L some few wide low = facts-sound W _ (search (every-drop, every-replicate, idle-sound))
 
 -- What an accepted opening within limits knows.
 pub open-accepted : (most : Limits) (n L : ℕ) → refusal (openTests most n L) ≡ 0 →
@@ -120,9 +110,5 @@ pub open-accepted : (most : Limits) (n L : ℕ) → refusal (openTests most n L)
 open-accepted most n L e =
     let a = none-holds (openTests most n L) (omega arith) e in
     let b = not-false (leb 1 n && leb n (most .processes)) (a .0) in
-    let c = not-false (leb (window n) L && leb L (most .rounds)) (a .1 .0) in (
-      leb-true 1 n (and-left (leb 1 n) _ b),
-      leb-true n (most .processes) (and-right (leb 1 n) _ b),
-      leb-true (window n) L (and-left (leb (window n) L) _ c),
-      leb-true L (most .rounds) (and-right (leb (window n) L) _ c),
-    )
+    let c = not-false (leb (window n) L && leb L (most .rounds)) (a .1 .0) in
+    search (and-left, and-right, leb-true)

@@ -1,6 +1,6 @@
 -- Two tests in one pass. A test t of all places is what is left of it at place i, and that is the test of the place and what is left
 -- at i + 1. Assumes nothing.
-use Rattle.base.specs.Prelude.{ℕ, suc, _+_, _≤_, _<_, max, _≡_, refl, sym, ap, _∙_, Bool, true, false, not, _&&_, _||_, and-false, List, add-one, arith, ltb-true, ltb-false, not-true, not-false, ltb, length, getD, drop, drop-of-length-le, drop-cons}
+use Rattle.base.specs.Prelude.{ℕ, suc, _+_, _≤_, _<_, max, _≡_, refl, sym, ap, _∙_, Bool, true, false, not, _&&_, _||_, and-assoc, and-false, List, add-one, arith, ltb-true, ltb-false, not-true, not-false, ltb, length, getD, drop, drop-of-length-le, drop-cons}
 use Rattle.model.specs.Sound.{every}
 
 swap : (e q r : Bool) → (e && (q && r)) ≡ (q && (e && r))
@@ -8,8 +8,7 @@ swap true q r = refl
 swap false q r = sym (and-false q)
 
 shuffle : (p e q r : Bool) → ((p && e) && (q && r)) ≡ ((p && q) && (e && r))
-shuffle true e q r = swap e q r
-shuffle false e q r = refl
+shuffle p e q r = simp (and-assoc, swap)
 
 -- By the answer b of the place's test: t goes on, or fails.
 went : {t now after b : Bool} (here : Bool) → t ≡ now → now ≡ (here && after) → b ≡ here → not b ≡ false → t ≡ after

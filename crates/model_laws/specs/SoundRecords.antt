@@ -1,25 +1,17 @@
 -- The test of a record, by its phase and the clause that the phase has. Assumes nothing.
-use Rattle.base.specs.Prelude.{ℕ, min, _≡_, refl, sym, ap, _∙_, Bool, true, false, _&&_, _||_, and-assoc, and-true, or-true, arith, ltb-true, ltb-false, lt-ltb, le-ltb, leb, ltb, eqb}
+use Rattle.base.specs.Prelude.{ℕ, min, _≡_, refl, sym, ap, _∙_, Bool, true, false, _&&_, _||_, and-assoc, and-true, or-false, or-true, arith, ltb-true, ltb-false, lt-ltb, le-ltb, leb, ltb, eqb}
 use Rattle.model_laws.specs.Types.{Phase, Idle, Process}
 use Rattle.model.specs.Refusal.{status, isOutside}
 use Rattle.model.specs.Sound.{soundPhase, soundProcess}
 
--- Below both of two numbers is below the smaller.
-below-both : (i a b : ℕ) → (ltb i a && ltb i b) ≡ ltb i (min a b)
-below-both i a b = by (ltb i a) (ltb i b) refl refl
-  where
-    by : (x y : Bool) → ltb i a ≡ x → ltb i b ≡ y → (x && y) ≡ ltb i (min a b)
-    by true true p q = sym (lt-ltb i (min a b) (omega (arith, ltb-true i a p, ltb-true i b q)))
-    by true false p q = sym (le-ltb i (min a b) (omega (arith, ltb-false i b q)))
-    by false y p q = sym (le-ltb i (min a b) (omega (arith, ltb-false i a p)))
-
--- The clause of compare and flag.
+-- The clause of compare and flag: below both of two numbers is below the smaller.
 pub near : (i r W : ℕ) → (leb 1 r && ltb i r && ltb i W) ≡ (leb 1 r && ltb i (min r W))
-near i r W = and-assoc (leb 1 r) _ _ ∙ ap (λ b. leb 1 r && b) (below-both i r W)
-
-arranged : (a e l p : Bool) → (a && e && l && p) ≡ ((a || false) && (e && l && p))
-arranged true e l p = refl
-arranged false e l p = refl
+near i r W = rw and-assoc (ap (λ b. leb 1 r && b) (by (ltb i r) (ltb i W) refl refl))
+  where
+    by : (x y : Bool) → ltb i r ≡ x → ltb i W ≡ y → (x && y) ≡ ltb i (min r W)
+    by true true p q = sym (lt-ltb i (min r W) (omega (arith, ltb-true i r p, ltb-true i W q)))
+    by true false p q = sym (le-ltb i (min r W) (omega (arith, ltb-false i W q)))
+    by false y p q = sym (le-ltb i (min r W) (omega (arith, ltb-false i r p)))
 
 -- The test of the record, by its phase and the clause that the phase has.
 module _ (W L : ℕ) (member : Bool) (q : Process) where
@@ -41,7 +33,7 @@ module _ (W L : ℕ) (member : Bool) (q : Process) where
 
     pub one : {a : Bool} → a ≡ clause → (held && a) ≡ Tested
     unfolding soundProcess
-    one p = rw (told, ins, p) (arranged member _ _ _)
+    one p = rw (told, ins, p) (simp (or-false, and-assoc))
 
     pub free : true ≡ clause → held ≡ Tested
     free p = sym (and-true held) ∙ one p

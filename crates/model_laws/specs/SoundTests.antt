@@ -1,5 +1,5 @@
 -- The clauses of a session's test: where one fails the test does, and where the first ones hold the records are left. Assumes nothing.
-use Rattle.base.specs.Prelude.{ℕ, _≤_, _≡_, refl, sym, _∙_, Bool, true, false, not, _&&_, and-false, leb-true, not-true, not-false, leb, eqb, drop}
+use Rattle.base.specs.Prelude.{ℕ, _≤_, _≡_, sym, _∙_, Bool, true, false, not, _&&_, and-assoc, and-false, leb-true, not-true, not-false, leb, eqb, drop}
 use Rattle.base.specs.Bools.{and-right}
 use Rattle.model_laws.specs.Types.{Process, Session}
 use Rattle.model.specs.Window.{window}
@@ -12,11 +12,7 @@ outside q = isOutside (status (q .phase))
 
 -- Six tests, of which the second, third and fourth are one.
 joined : (a b c d e f : Bool) → (a && b && c && d && e && f) ≡ (a && (b && (c && d)) && (e && f))
-joined true true true true e f = refl
-joined true true true false e f = refl
-joined true true false d e f = refl
-joined true false c d e f = refl
-joined false b c d e f = refl
+joined a b c d e f = simp and-assoc
 
 module _ (s : Session) where
   abbrev processes : Bool

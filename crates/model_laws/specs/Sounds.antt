@@ -1,5 +1,5 @@
 -- What soundness says, clause by clause, and what keeps it.
-use Rattle.base.specs.Prelude.{ℕ, _-_, _≤_, _<_, arith, _≡_, refl, true, not, _&&_, drop, drop-set-lt, leb, eqb, leb-true, le-leb}
+use Rattle.base.specs.Prelude.{ℕ, _-_, _≤_, _<_, arith, _≡_, refl, true, not, drop, drop-set-lt, eqb, leb-true, le-leb}
 use Rattle.model_laws.specs.Types.{Access, Nothing, ReadValue, WriteValue, ReadMark, SetMark, ReadDecision, WriteDecision, Process, Session}
 use Rattle.model.specs.Board.{processAt, withProcess, idle, maxProcesses, maxRounds}
 use Rattle.model.specs.Step.{written}
@@ -24,40 +24,11 @@ pub record Sound (W : ℕ) (s : Session) : Type 0 where
 -- The test says so, and the other way round.
 pub sound-facts : (W : ℕ) (s : Session) → soundAt W s ≡ true → Sound W s
 unfolding soundAt
-sound-facts W s t =
-    let n = leb 1 (s .n) && leb (s .n) maxProcesses in
-    let l = leb W (s .limit) && leb (s .limit) maxRounds in
-    let b = every (λ x. eqb x 0) (drop (s .limit) (s .values)) in
-    let m = every not (drop (s .limit) (s .marks)) in
-    let o = every (λ (q : Process). isOutside (status (q .phase))) (drop (s .n) (s .processes)) in
-    let e = every (soundProcess W (s .limit)) (s .processes) in
-    let t₄ = and-left (n && l && b && m && o) e t in
-    let t₃ = and-left (n && l && b && m) o t₄ in
-    let t₂ = and-left (n && l && b) m t₃ in
-    let t₁ = and-left (n && l) b t₂ in
-    record {
-      some = leb-true _ _ (and-left (leb 1 (s .n)) _ (and-left n l t₁));
-      few = leb-true _ _ (and-right (leb 1 (s .n)) _ (and-left n l t₁));
-      wide = leb-true _ _ (and-left (leb W (s .limit)) _ (and-right n l t₁));
-      low = leb-true _ _ (and-right (leb W (s .limit)) _ (and-right n l t₁));
-      blank = and-right (n && l) b t₂;
-      unmarked = and-right (n && l && b) m t₃;
-      outside = and-right (n && l && b && m) o t₄;
-      each = and-right (n && l && b && m && o) e t;
-    }
+sound-facts W s t = search (and-left, and-right, leb-true) depth 8
 
 pub facts-sound : (W : ℕ) (s : Session) → Sound W s → soundAt W s ≡ true
 unfolding soundAt
-facts-sound W s f =
-    and-both
-    (and-both
-    (and-both
-    (and-both
-    (and-both (and-both (le-leb _ _ (f .some)) (le-leb _ _ (f .few))) (and-both (le-leb _ _ (f .wide)) (le-leb _ _ (f .low))))
-    (f .blank))
-    (f .unmarked))
-    (f .outside))
-    (f .each)
+facts-sound W s f = search (and-both, le-leb) depth 12
 
 -- A process that has not proposed is sound.
 pub idle-sound : (W L : ℕ) → soundProcess W L idle ≡ true
@@ -72,58 +43,18 @@ sound-process W s p t =
 -- One of the n processes is set to a sound one.
 pub set-sound : (W : ℕ) (s : Session) (p : ℕ) (q : Process) → Sound W s → p < s .n → soundProcess W (s .limit) q ≡ true →
     Sound W (withProcess s p q)
-set-sound W s p q f low one =
-    record {
-      some = f .some;
-      few = f .few;
-      wide = f .wide;
-      low = f .low;
-      blank = f .blank;
-      unmarked = f .unmarked;
-      outside = rw (drop-set-lt (s .n) (s .processes) p q low) (f .outside);
-      each = every-set (soundProcess W (s .limit)) (s .processes) p q one (f .each);
-    }
+set-sound W s p q f low one = search (drop-set-lt (s .n) (s .processes) p q low, every-set (soundProcess W (s .limit)))
 
 -- A register 1 to L is written, or a round 1 to L is marked.
 pub written-sound : (W : ℕ) (s : Session) (a : Access) (e : ℕ) → InRange (s .limit) a → Sound W s → Sound W (written s a e)
 unfolding written
 written-sound W s Nothing e ok f = f
 written-sound W s (ReadValue r) e ok f = f
-written-sound W s (WriteValue r) e ok f =
-    record {
-      some = f .some;
-      few = f .few;
-      wide = f .wide;
-      low = f .low;
-      blank = rw (drop-set-lt (s .limit) (s .values) (r - 1) e (omega arith)) (f .blank);
-      unmarked = f .unmarked;
-      outside = f .outside;
-      each = f .each;
-    }
+written-sound W s (WriteValue r) e ok f = let below : r - 1 < s .limit = omega arith in search drop-set-lt
 written-sound W s (ReadMark r) e ok f = f
-written-sound W s (SetMark r) e ok f =
-    record {
-      some = f .some;
-      few = f .few;
-      wide = f .wide;
-      low = f .low;
-      blank = f .blank;
-      unmarked = rw (drop-set-lt (s .limit) (s .marks) (r - 1) true (omega arith)) (f .unmarked);
-      outside = f .outside;
-      each = f .each;
-    }
+written-sound W s (SetMark r) e ok f = let below : r - 1 < s .limit = omega arith in search drop-set-lt
 written-sound W s ReadDecision e ok f = f
-written-sound W s WriteDecision e ok f =
-    record {
-      some = f .some;
-      few = f .few;
-      wide = f .wide;
-      low = f .low;
-      blank = f .blank;
-      unmarked = f .unmarked;
-      outside = f .outside;
-      each = f .each;
-    }
+written-sound W s WriteDecision e ok f = search
 
 -- A sound session has at most 256 rounds and 64 processes.
 pub sound-low : (s : Session) → sound s ≡ true → s .limit ≤ maxRounds

@@ -1,5 +1,6 @@
 -- The rounded-up root, and the window made of it.
-use Rattle.base.specs.Prelude.{ℕ, suc, zero, _+_, _*_, _≤_, arith, _≡_, refl, Bool, true, false, cond, leb, leb-true}
+use Rattle.base.specs.Prelude.{ℕ, suc, zero, _+_, _*_, _≤_, arith, leb, leb-true}
+use Rattle.base.specs.Bools.{cond-cases}
 use Rattle.model.specs.Window.{rootFrom, rootUp, window}
 
 -- A number is at most its square.
@@ -11,12 +12,8 @@ le-square (suc n) = omega arith
 pub root-from-square : (fuel m n : ℕ) → n ≤ (m + fuel) * (m + fuel) → n ≤ rootFrom fuel m n * rootFrom fuel m n
 unfolding rootFrom
 root-from-square zero m n h = omega arith
-root-from-square (suc fuel) m n h = go (leb n (m * m)) refl (root-from-square fuel (suc m) n (omega arith))
-  where
-    go : (b : Bool) → leb n (m * m) ≡ b → n ≤ rootFrom fuel (suc m) n * rootFrom fuel (suc m) n →
-        n ≤ cond b m (rootFrom fuel (suc m) n) * cond b m (rootFrom fuel (suc m) n)
-    go true e later = leb-true n (m * m) e
-    go false e later = later
+root-from-square (suc fuel) m n h =
+    cond-cases (λ k. n ≤ k * k) (leb n (m * m)) (leb-true n (m * m)) (λ t. root-from-square fuel (suc m) n (omega arith))
 
 -- The square of the rounded-up root of n is at least n.
 pub root-square : (n : ℕ) → n ≤ rootUp n * rootUp n

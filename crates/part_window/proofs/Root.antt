@@ -22,11 +22,8 @@ root-found zero m n h = refl
 root-found (suc fuel) m n h = simp (le-leb _ _ h)
 
 -- Where it does not, the search goes on at m + 1.
-next-root : (fuel m n : ℕ) → m * m < n → rootFrom (suc fuel) m n ≡ rootFrom fuel (m + 1) n
-unfolding rootFrom
-next-root fuel m n h = simp (lt-leb _ _ h, add-one)
-
 pub root-above : (m n : ℕ) → m * m < n → rootFrom (n - m) m n ≡ rootFrom (n - (m + 1)) (m + 1) n
+unfolding rootFrom
 root-above m n h =
     let one : n - m ≡ suc (n - (m + 1)) = omega (arith, square-above m) in
-    rw one (next-root _ m n h)
+    rw (one, lt-leb n (m * m) h, add-one m)

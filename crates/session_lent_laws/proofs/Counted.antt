@@ -1,5 +1,11 @@
--- What `step` and `learn` lend is the caller's counts: the answer of the function that takes them by value has the code, the session and the counts, and the result has the code and the session.
-use Rattle.base.specs.Prelude.{refl, [], _∷_}
+-- What `step` and `learn` take and give, by value and with the counts lent, and what each of them promises.
+use Rattle.base.specs.Prelude.{refl, ℕ, [], _∷_}
+use Rattle.base.specs.Walks.{w64, Is}
+use denote.Struct.Laws as LL
+use Rattle.base_walk.proofs.Promise.{Row, uint, truth, struct, Promise}
+use Rattle.model.specs.declared.Stepped.{Stepped}
+use Rattle.model.specs.Public
+use Rattle.model.specs.Public.{withoutCounts}
 use Rattle.model.proofs.Counts as Ct
 use Rattle.model.proofs.Counts.Laws as Ct′
 use Rattle.model.proofs.Changed as Ch
@@ -8,31 +14,59 @@ use Rattle.model.proofs.Session as Se
 use Rattle.model.proofs.Session.Laws as Se′
 use Rattle.model.proofs.Stepped as St
 use Rattle.model.proofs.Stepped.Laws as St′
-use Rattle.session_lent_laws.proofs.ByValue.{Value, struct}
-use Rattle.session_lent_laws.proofs.Lent.{Lending}
+use Rattle.session_lent_laws.proofs.Lent.{reference}
 
-abbrev pub session : Value
-session = struct Se.the-type Se′.the-laws Se′.the-plain Se′.the-copy
+module _ {n : ℕ} where
+  abbrev pub session : Row n
+  session = struct (λ κs. Se.the-type) (λ κs. Se′.the-laws) (λ κs x w. refl)
 
-abbrev pub counts : Lending
-counts = record {
-  L = Ct.the-type;
-  N = St.the-type;
-  R = Ch.the-type;
-  L-laws = Ct′.the-laws;
-  N-laws = St′.the-laws;
-  R-laws = Ch′.the-laws;
-  L-pure = Ct′.the-plain;
-  R-pure = Ch′.the-plain;
-  held = λ x. x .counts;
-  rest = λ x. record { code = x .code; session = x .session };
-  held-at = 2;
-  rest-at = 0 ∷ 1 ∷ [];
-  held-offset = _;
-  held-placed = refl;
-  rest-placed = ((_, refl), ((_, refl), tt));
-  held-val = λ x. refl;
-  rest-val = λ x. refl;
-  held-is = λ x known. known .1 .1 .0;
-  rest-is = λ x known. (known .0, (known .1 .0, tt));
+  abbrev pub counts : Row n
+  counts = struct (λ κs. Ct.the-type) (λ κs. Ct′.the-laws) (λ κs x w. refl)
+
+  abbrev pub stepped : Row n
+  stepped = struct (λ κs. St.the-type) (λ κs. St′.the-laws) (λ κs x w. refl)
+
+  abbrev pub changed : Row n
+  changed = struct (λ κs. Ch.the-type) (λ κs. Ch′.the-laws) (λ κs x w. refl)
+
+abbrev pub lent : Row 1
+lent = reference Ct.the-type Ct′.the-laws
+
+-- what is known of an answer is known of its counts, and of the rest of it
+pub counts-of : (x : Stepped) → Is St.the-row x (LL.vals St.the-type St′.the-laws x) → Is Ct.the-row (x .counts) (LL.vals Ct.the-type Ct′.the-laws (x .counts))
+counts-of x is = LL.owed St.the-type St′.the-laws x _ is .1 .1 .0
+
+pub rest-of : (x : Stepped) → Is St.the-row x (LL.vals St.the-type St′.the-laws x) → Is Ch.the-row (withoutCounts x) (LL.vals Ch.the-type Ch′.the-laws (withoutCounts x))
+rest-of x is = let known = LL.owed St.the-type St′.the-laws x _ is in LL.owes Ch.the-type Ch′.the-laws (withoutCounts x) (known .0, (known .1 .0, tt))
+
+abbrev pub steps : Promise 0
+steps = record {
+  takes = session ∷ uint w64 ∷ truth ∷ counts ∷ [];
+  gives = stepped;
+  answer = λ κs a. Public.step (a .0) (a .1 .0) (a .1 .1 .0) (a .1 .1 .1 .0);
+  ends = λ κs a. (tt, (tt, (tt, (tt, tt))));
+}
+
+abbrev pub learns : Promise 0
+learns = record {
+  takes = session ∷ uint w64 ∷ counts ∷ [];
+  gives = stepped;
+  answer = λ κs a. Public.learn (a .0) (a .1 .0) (a .1 .1 .0);
+  ends = λ κs a. (tt, (tt, (tt, tt)));
+}
+
+abbrev pub steps-lent : Promise 1
+steps-lent = record {
+  takes = session ∷ uint w64 ∷ truth ∷ lent ∷ [];
+  gives = changed;
+  answer = λ κs a. withoutCounts (Public.step (a .0) (a .1 .0) (a .1 .1 .0) (a .1 .1 .1 .0 .now));
+  ends = λ κs a. (tt, (tt, (tt, (Public.step (a .0) (a .1 .0) (a .1 .1 .0) (a .1 .1 .1 .0 .now) .counts, tt))));
+}
+
+abbrev pub learns-lent : Promise 1
+learns-lent = record {
+  takes = session ∷ uint w64 ∷ lent ∷ [];
+  gives = changed;
+  answer = λ κs a. withoutCounts (Public.learn (a .0) (a .1 .0) (a .1 .1 .0 .now));
+  ends = λ κs a. (tt, (tt, (Public.learn (a .0) (a .1 .0) (a .1 .1 .0 .now) .counts, tt)));
 }

@@ -1,4 +1,2 @@
-pub mod ByValue
 pub mod Counted
-pub mod Lender
 pub mod Lent

@@ -1,8 +1,8 @@
 -- What holds of the bytes of an accepted sheet, within whatever limits.
-use Rattle.base.specs.Prelude.{ℕ, suc, zero, _+_, _≤_, _<_, arith, _≡_, true, _&&_, List, length, leb, leb-true, not-false}
+use Rattle.base.specs.Prelude.{ℕ, suc, zero, _+_, _≤_, _<_, arith, _≡_, true, List, _∷_, length, leb-true, not-false}
 use Rattle.base.specs.Bools.{and-left, and-right}
 use Rattle.model.specs.declared.Limits.{Limits}
-use Rattle.model.specs.Sheet.{runAt, runCount, runsFrom, runs, headerEnd, inOrder, sheetTests, sheetRefusal}
+use Rattle.model.specs.Sheet.{Run, runAt, runCount, runsFrom, runs, headerEnd, inOrder, sheetTests, sheetRefusal}
 use Rattle.model_laws.specs.Accepted.{none-holds}
 use Rattle.sheet_place_laws.specs.Places.{Inside}
 
@@ -17,34 +17,23 @@ pub accepted-formed : (most : Limits) (s : List ℕ) → sheetRefusal most s ≡
 unfolding sheetRefusal
 accepted-formed most s e =
     let a = none-holds (sheetTests most s) (omega arith) e in
-    let header = not-false _ (a .0) in
-    let counted = and-left _ _ header in
-    let sized = and-left _ _ counted in
-    record {
-      some = leb-true _ _ (and-left _ _ sized);
-      few = leb-true _ _ (and-right (leb 4 (length s)) _ sized);
-      header =
-          leb-true _ _
-          (and-right (leb 4 (length s) && leb (length s) 65535 && leb (runCount s) 16) _ header);
-      ordered = not-false _ (a .1 .1 .1 .0);
-    }
+    search (and-left, and-right, leb-true, not-false)
+
+-- The first of runs in order lies where it may, and the others are in order behind it.
+pub in-order : (from size : ℕ) (x : Run) (xs : List Run) → inOrder from size (x ∷ xs) ≡ true
+    → (from ≤ x .offset) × (x .offset + x .size ≤ size) × (inOrder (x .offset + x .size) size xs ≡ true)
+in-order from size x xs h = search (and-left, and-right, leb-true)
 
 -- Runs in order end where they may: run j is d behind the first.
 ends-in : (s : List ℕ) (size k from i : ℕ) → inOrder from size (runsFrom s i k) ≡ true
     → (j d : ℕ) → j ≡ i + d → d < k → runAt s j .offset + runAt s j .size ≤ size
 ends-in s size zero from i h j d e l = absurd (omega arith)
 ends-in s size (suc k) from i h j zero e l =
-    let x = runAt s i in
-    let end = x .offset + x .size in
     let f : j ≡ i = omega arith in
-    rw f
-    (leb-true end size
-    (and-right (leb from (x .offset)) (leb end size) (and-left (leb from (x .offset) && leb end size) (inOrder end size (runsFrom s (suc i) k)) h)))
+    rw f (in-order from size (runAt s i) (runsFrom s (suc i) k) h .1)
 ends-in s size (suc k) from i h j (suc d) e l =
     let x = runAt s i in
-    let end = x .offset + x .size in
-    ends-in s size k end (suc i) (and-right (leb from (x .offset) && leb end size) (inOrder end size (runsFrom s (suc i) k)) h) j d
-    (omega arith) (omega arith)
+    ends-in s size k (x .offset + x .size) (suc i) (in-order from size x (runsFrom s (suc i) k) h .2) j d (omega arith) (omega arith)
 
 -- So every run of it ends within 65,535 bytes.
 pub accepted-inside : (most : Limits) (s : List ℕ) → sheetRefusal most s ≡ 0 → Inside s

@@ -1,62 +1,49 @@
 -- Each accepted operation of the machine, at any window, keeps the invariant: the one lemma, applied.
-use Rattle.base.specs.Prelude.{ℕ, zero, suc, _≡_, refl, sym, Bool, true, false, true≢false, List, [], _++_, ltb, not-false}
+use Rattle.base.specs.Prelude.{ℕ, zero, suc, _-_, _≡_, refl, sym, _∙_, Bool, true, false, true≢false, List, [], _∷_, _++_, ltb, not, not-false, arith}
 use Rattle.base.specs.Bools.{cond-cases}
-use Rattle.model_laws.specs.Types.{Phase, Idle, Waiting, Write, Scan, Adopt, Compare, Flag, CheckMark, CheckValue, Commit, Exhausted, Crashed, Decided, Process, Session, Counts, Operation, Propose, Step, Learn, Crash, Malformed}
+use Rattle.model_laws.specs.Types.{Phase, Idle, Waiting, Write, Scan, Adopt, Compare, Flag, CheckMark, CheckValue, Commit, Exhausted, Crashed, Decided, Session, Counts, Operation, Propose, Step, Learn, Crash, Malformed}
 use Rattle.model.specs.Board.{processAt}
-use Rattle.model.specs.Step.{accessAt, access, found}
-use Rattle.model.specs.Refusal.{status, isOutside, processOf, isMalformed, ownTests}
+use Rattle.model.specs.Step.{accessAt, access, found, written}
+use Rattle.model.specs.Refusal.{status, isOutside, isGone, processOf}
 use Rattle.model.specs.Machine.{accessOf, becomes, after}
 use Rattle.model.specs.Sound.{soundAt}
 use Rattle.model_laws.specs.Phases.{PhaseSound, ProcessSound, process-facts, inside-some}
 use Rattle.model_laws.specs.Sounds.{sound-process}
-use Rattle.model_laws.specs.Accepted.{NoneHolds, Accepted}
+use Rattle.model_laws.specs.Accepted.{Accepted}
+use Rattle.model_laws.specs.Ranges.{InRange}
 use Rattle.model_laws.specs.Operations.{operation-range}
-use Rattle.model_rule.specs.Event.{Event, stepEvents, lookEvents, eventsOf}
-use Rattle.theory_past.specs.Lawful.{EventsLawful}
-use Rattle.theory_walk.specs.Place.{Stands}
-use Rattle.theory_walk.specs.Stays.{SpareAll}
+use Rattle.model_rule.specs.Event.{Event, proposal, stepEvents, lookEvents, eventsOf}
+use Rattle.theory_past.specs.Lawful.{also}
 use Rattle.theory_walk.specs.Step.{step-lawful, step-spares, step-stands}
-use Rattle.theory_walk.specs.Start.{proposal-stands, crash-stands, learnt-stands, look-lawful, look-spares}
-use Rattle.theory_board.specs.Matches.{Quiet, EventsFit, found-matches}
+use Rattle.theory_walk.specs.Start.{proposal-stands, crash-stands, learnt-stands}
+use Rattle.theory_board.specs.Matches.{Matches, Long, silent-matches, write-matches, flag-matches, commit-matches, found-matches}
 use Rattle.theory_board.specs.Invariant.{Invariant, turn-invariant}
 
--- ---- the events of an operation go with its access
+-- ---- the registers that an operation leaves are those of the past with its event
 
-step-events : (L p r v : ℕ) (φ : Phase) (leader : Bool) → EventsFit p v (accessAt L r φ leader) (stepEvents p r v φ)
-unfolding accessAt
-step-events L p r v Idle leader = tt
-step-events L p r v Waiting false = tt
-step-events L p r v Waiting true = cond-cases (λ a. EventsFit p v a []) (ltb r L) (λ t. tt) (λ t. tt)
-step-events L p r v Write leader = refl
-step-events L p r v (Scan k) leader = tt
-step-events L p r v (Adopt k) leader = tt
-step-events L p r v (Compare i) leader = tt
-step-events L p r v (Flag i) leader = refl
-step-events L p r v (CheckMark i) leader = tt
-step-events L p r v (CheckValue i) leader = tt
-step-events L p r v Commit leader = (r, refl)
-step-events L p r v Exhausted leader = tt
-step-events L p r v Crashed leader = tt
-step-events L p r v Decided leader = tt
+step-events : {s : Session} {h : List Event} (p r v : ℕ) (φ : Phase) (leader : Bool) → Long s → Matches s h →
+    InRange (s .limit) (accessAt (s .limit) r φ leader) →
+    let t = written s (accessAt (s .limit) r φ leader) v in Long t × Matches t (stepEvents p r v φ ++ h)
+unfolding accessAt written
+step-events p r v Idle leader l k ok = (l, k)
+step-events p r v Waiting false l k ok = (l, k)
+step-events {s} {h} p r v Waiting true l k ok =
+    cond-cases (λ a. Long (written s a v) × Matches (written s a v) h) (ltb r (s .limit)) (λ t. (l, k)) (λ t. (l, k))
+step-events p r v Write leader l k ok = write-matches l k p r v ok
+step-events p r v (Scan j) leader l k ok = (l, k)
+step-events p r v (Adopt j) leader l k ok = (l, k)
+step-events p r v (Compare i) leader l k ok = (l, k)
+step-events p r v (Flag i) leader l k ok = flag-matches l k (r - i) v ok
+step-events p r v (CheckMark i) leader l k ok = (l, k)
+step-events p r v (CheckValue i) leader l k ok = (l, k)
+step-events p r v Commit leader l k ok = commit-matches l k r v
+step-events p r v Exhausted leader l k ok = (l, k)
+step-events p r v Crashed leader l k ok = (l, k)
+step-events p r v Decided leader l k ok = (l, k)
 
-look-quiet : (p x : ℕ) → Quiet (lookEvents p x)
-look-quiet p zero = tt
-look-quiet p (suc v) = tt
-
-operation-events : (L : ℕ) (q : Process) (D : ℕ) (o : Operation) → EventsFit (processOf o) (q .estimate) (accessOf L q o) (eventsOf q D o)
-unfolding accessOf access
-operation-events L q D (Propose p v) = tt
-operation-events L q D (Step p leader) = step-events L p (q .round) (q .estimate) (q .phase) leader
-operation-events L q D (Learn p) = look-quiet p D
-operation-events L q D (Crash p) = tt
-operation-events L q D Malformed = tt
-
-operation-spares : (q : Process) (D : ℕ) (o : Operation) (other : ℕ) → (other ≡ processOf o → ⊥) → SpareAll other (eventsOf q D o)
-operation-spares q D (Propose p v) other ne = (tt, tt)
-operation-spares q D (Step p leader) other ne = step-spares other p (q .round) (q .estimate) (q .phase) ne
-operation-spares q D (Learn p) other ne = look-spares other p D ne
-operation-spares q D (Crash p) other ne = tt
-operation-spares q D Malformed other ne = tt
+look-matches : {s : Session} {h : List Event} (p x : ℕ) → Matches s h → Matches s (lookEvents p x ++ h)
+look-matches p zero k = k
+look-matches p (suc v) k = silent-matches (λ j. refl) (λ j e. let z : _≡_ {A = ℕ} 0 1 = cc in omega arith) k
 
 -- ---- what an accepted operation knows of its process
 
@@ -76,13 +63,9 @@ outside-start W L r Exhausted o ok = absurd (true≢false (sym o))
 outside-start W L r Crashed o ok = absurd (true≢false (sym o))
 outside-start W L r Decided o ok = absurd (true≢false (sym o))
 
--- It is not decided.
-not-decided : (φ : Phase) (c : Counts) (o : Operation) → isMalformed o ≡ false → NoneHolds (ownTests φ c o) → φ ≡ Decided → ⊥
-not-decided φ c (Propose p v) formed own e = true≢false (rw e at (own .1 .0))
-not-decided φ c (Step p leader) formed own e = true≢false (rw e at (own .1 .0))
-not-decided φ c (Learn p) formed own e = true≢false (rw e at (own .1 .0))
-not-decided φ c (Crash p) formed own e = true≢false (rw e at (own .1 .0))
-not-decided φ c Malformed formed own e = true≢false formed
+-- It is not decided: a test of a decided process does not hold of it.
+not-decided : {φ : Phase} (test : Phase → Bool) → test Decided ≡ true → test φ ≡ false → φ ≡ Decided → ⊥
+not-decided test holds fails e = true≢false (sym holds ∙ (rw e at fails))
 
 -- ---- an accepted operation
 
@@ -91,43 +74,34 @@ module _ {W : ℕ} {s : Session} {h : List Event} (i : Invariant W s h) (sound :
   facts : (p : ℕ) → ProcessSound W (s .limit) (processAt s p .round) (processAt s p .estimate) (processAt s p .phase)
   facts p = process-facts W (s .limit) (processAt s p) (sound-process W s p sound)
 
-  operation-lawful : (o : Operation) → Accepted s c o →
-      EventsLawful W (s .n) (eventsOf (processAt s (processOf o)) (s .decision) o) h
-  operation-lawful (Propose p v) a = (tt, tt)
-  operation-lawful (Step p leader) a =
-      let q = processAt s p in
-      step-lawful W (s .limit) p (q .round) (q .estimate) (q .phase) h (a .below) (inside-some (facts p)) (facts p .phase) (i .stands p .placed)
-  operation-lawful (Learn p) a = look-lawful W (s .n) p (s .decision) (i .matches .decision)
-  operation-lawful (Crash p) a = tt
-  operation-lawful Malformed a = tt
-
-  operation-stands : (o : Operation) → Accepted s c o →
-      let q = processAt s (processOf o) in
-      Stands W (processOf o) (becomes W (s .limit) q o (found s (accessOf (s .limit) q o))) (eventsOf q (s .decision) o ++ h)
-  unfolding becomes accessOf found
-  operation-stands (Propose p v) a =
-      let q = processAt s p in
-      proposal-stands (not-decided (q .phase) c (Propose p v) refl (a .own)) (i .stands p) v
-      (outside-start W (s .limit) (q .round) (q .phase) (not-false _ (a .own .1 .0)) (facts p .phase))
-  operation-stands (Step p leader) a =
-      let q = processAt s p in
-      step-stands (s .limit) p q leader _ (not-decided (q .phase) c (Step p leader) refl (a .own)) (facts p .phase) (i .lawful) (i .stands p)
-      (found-matches s (access (s .limit) q leader) h (operation-range W (s .limit) q (Step p leader) (sound-process W s p sound)) (i .matches))
-  operation-stands (Learn p) a =
-      learnt-stands (not-decided (processAt s p .phase) c (Learn p) refl (a .own)) (i .stands p) (s .decision)
-  operation-stands (Crash p) a =
-      crash-stands (not-decided (processAt s p .phase) c (Crash p) refl (a .own)) (i .stands p) (a .own .0) (i .lawful)
-  operation-stands Malformed a = i .stands 0
-
   pub operation-invariant : (o : Operation) → Accepted s c o →
       Invariant W (after W s o) (eventsOf (processAt s (processOf o)) (s .decision) o ++ h)
-  unfolding after
-  operation-invariant o a =
-      let p = processOf o in
+  unfolding after accessOf access becomes written found
+  operation-invariant (Propose p v) a =
       let q = processAt s p in
-      turn-invariant i p (accessOf (s .limit) q o) (becomes W (s .limit) q o) (eventsOf q (s .decision) o) (a .below)
-      (operation-range W (s .limit) q o (sound-process W s p sound))
-      (operation-events (s .limit) q (s .decision) o)
-      (operation-lawful o a)
-      (operation-spares q (s .decision) o)
-      (operation-stands o a)
+      turn-invariant i p _ _ (proposal v ∷ []) (a .below)
+      (i .long, silent-matches (λ j. refl) (λ j e. let z : _≡_ {A = ℕ} 0 1 = cc in omega arith) (i .matches))
+      (also (i .lawful) tt)
+      (λ o ne. (tt, tt))
+      (proposal-stands (not-decided (λ φ. not (isOutside (status φ))) refl (a .own .1 .0)) (i .stands p) v
+      (outside-start W (s .limit) (q .round) (q .phase) (not-false _ (a .own .1 .0)) (facts p .phase)))
+  operation-invariant (Step p leader) a =
+      let q = processAt s p in
+      let inside = a .own .0 in
+      let range = operation-range W (s .limit) q (Step p leader) (sound-process W s p sound) in
+      turn-invariant i p _ _ (stepEvents p (q .round) (q .estimate) (q .phase)) (a .below)
+      (step-events p (q .round) (q .estimate) (q .phase) leader (i .long) (i .matches) range)
+      (step-lawful (s .limit) p (q .round) (q .estimate) (q .phase) (a .below) (inside-some (facts p) inside) (facts p .phase) (i .lawful)
+      (i .stands p .placed inside))
+      (λ o ne. step-spares o p (q .round) (q .estimate) (q .phase) ne)
+      (step-stands (s .limit) p q leader _ (not-decided (λ φ. isGone (status φ)) refl (a .own .1 .0)) inside (facts p .phase) (i .lawful)
+      (i .stands p) (found-matches s (access (s .limit) q leader) h range (i .matches)))
+  operation-invariant (Learn p) a =
+      let look =
+      learnt-stands (not-decided (λ φ. isGone (status φ)) refl (a .own .1 .0)) (i .stands p) (i .lawful) (s .decision) (i .matches .decision) in
+      turn-invariant i p _ _ (lookEvents p (s .decision)) (a .below) (i .long, look-matches p (s .decision) (i .matches)) (look .0) (look .1)
+      (look .2)
+  operation-invariant (Crash p) a =
+      turn-invariant i p _ _ [] (a .below) (i .long, i .matches) (i .lawful) (λ o ne. tt)
+      (crash-stands (not-decided (λ φ. isGone (status φ)) refl (a .own .1 .0)) (i .stands p) (a .own .0))
+  operation-invariant Malformed a = absurd (true≢false (a .formed))

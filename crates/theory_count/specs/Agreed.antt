@@ -1,42 +1,31 @@
 -- The agreement rule of the past: one value is committed, and no other is written from the round of the commit on.
 use Rattle.base.specs.Prelude.{ℕ, _*_, _≤_, arith, ℕ-discrete, decLe, _≡_, sym, List}
-use Rattle.model_rule.specs.Event.{Event, Committed}
-use Rattle.theory_past.specs.Epoch.{Wrote, WrittenIn}
-use Rattle.theory_past.specs.Lawful.{Lawful}
+use Rattle.model_rule.specs.Event.{Event, Written, Committed}
+use Rattle.theory_past.specs.Lawful.{Lawful, commit-lawful}
+use Rattle.theory_past.specs.Registers.{written-in}
 use Rattle.theory_count.specs.Rivals.{Rivals, walked}
 use Rattle.theory_count.specs.Grid.{no-rivals}
 
 module _ (W n : ℕ) (h : List Event) (wide : 2 ≤ W) (few : 4 * n ≤ W * W) (lawful : Lawful W n h) where
   -- What is written to the register of a commit is the value committed.
-  same-register : {R v u e : ℕ} → Committed R v h → WrittenIn R u e h → u ≡ v
-  same-register {R} {v} {u} {e} committed written =
-      let lawfully = lawful .commits (committed .past) in
+  same-register : {R v u : ℕ} → Committed R v h → Written R u h → u ≡ v
+  same-register {R} {v} {u} committed written =
       let rivals : (u ≡ v → ⊥) → Rivals W n R u v h =
-      λ differ. record {
-        lawful = lawful;
-        window = lawfully .window;
-        unflagged = lawfully .unflagged;
-        epoch = e;
-        first = written;
-        epoch′ = lawfully .epoch;
-        second = lawfully .written;
-        differ = differ;
-      } in
+      λ differ. record { lawful = lawful; committed = commit-lawful lawful committed; written = written; differ = differ } in
       elim (ℕ-discrete u v) [ yes same ↦ same | no differ ↦ absurd (no-rivals wide few (rivals differ)) ]
 
   -- What is written to the register of a commit or to a higher one is the value committed.
-  pub agreed : {R v p r u e : ℕ} → Committed R v h → Wrote p r u e h → R ≤ r → u ≡ v
-  agreed {R} {p} {r} committed wrote above =
-      let window = lawful .commits (committed .past) .window in
-      let written : WrittenIn r _ _ h = record { process = p; wrote = wrote } in
+  pub agreed : {R v r u : ℕ} → Committed R v h → Written r u h → R ≤ r → u ≡ v
+  agreed {R} {r} committed written above =
+      let window = commit-lawful lawful committed .window in
       elim (ℕ-discrete R r) [
         | yes same ↦ same-register committed (rw (← same) at written)
-        | no other ↦ same-register committed (walked lawful written (omega arith) (omega arith) .written)
+        | no other ↦ same-register committed (written-in (walked lawful written (omega arith) (omega arith) .written))
       ]
 
   -- A commit in the round of another or in a higher one has its value.
   agreed-above : {R v R′ v′ : ℕ} → Committed R v h → Committed R′ v′ h → R ≤ R′ → v′ ≡ v
-  agreed-above c c′ = agreed c (lawful .commits (c′ .past) .written .wrote)
+  agreed-above c c′ = agreed c (commit-lawful lawful c′ .written)
 
   -- Two commits have one value.
   pub agreed-commits : {R v R′ v′ : ℕ} → Committed R v h → Committed R′ v′ h → v ≡ v′

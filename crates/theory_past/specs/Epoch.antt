@@ -1,6 +1,6 @@
 -- The highest written round, the registers, and what happened in which epoch of a past: the epoch of an event is the highest written
 -- round just after it.
-use Rattle.base.specs.Prelude.{ℕ, _+_, _≤_, _<_, max, _≡_, Bool, true, false, cond, List, [], _∷_, _⊎_, eqb}
+use Rattle.base.specs.Prelude.{ℕ, _+_, _≤_, _<_, max, _≡_, cond, List, [], _∷_, _⊎_, eqb}
 use Rattle.model_rule.specs.Event.{Event, proposal, write, flag, commit, decision, Past}
 
 -- The highest round that was written to; 0 for none.
@@ -21,31 +21,23 @@ last (flag i ∷ h) j = last h j
 last (commit r v ∷ h) j = last h j
 last (decision p v ∷ h) j = last h j
 
--- Whether round j is marked: it was flagged.
-abbrev pub isMarked : List Event → ℕ → Bool
-isMarked [] j = false
-isMarked (proposal v ∷ h) j = isMarked h j
-isMarked (write p r v ∷ h) j = isMarked h j
-isMarked (flag i ∷ h) j = cond (eqb i j) true (isMarked h j)
-isMarked (commit r v ∷ h) j = isMarked h j
-isMarked (decision p v ∷ h) j = isMarked h j
-
--- Process p wrote v to register r, in epoch e.
-pub record Wrote (p r v e : ℕ) (h : List Event) : Type 0 where
+-- The event x happened in epoch e.
+pub record HappenedIn (e : ℕ) (x : Event) (h : List Event) : Type 0 where
   pub before : List Event
-  pub past : Past (write p r v ∷ before) h
-  pub epoch : max r (top before) ≡ e
+  pub past : Past (x ∷ before) h
+  pub epoch : top (x ∷ before) ≡ e
 
--- Some process wrote v to register r in epoch e.
-pub record WrittenIn (r v e : ℕ) (h : List Event) : Type 0 where
-  pub process : ℕ
-  pub wrote : Wrote process r v e h
+-- Process p wrote v to register r in epoch e.
+abbrev pub Wrote : (p r v e : ℕ) → List Event → Type 0
+Wrote p r v e h = HappenedIn e (write p r v) h
+
+-- Some process did.
+abbrev pub WrittenIn : (r v e : ℕ) → List Event → Type 0
+WrittenIn r v e h = (p : ℕ) × Wrote p r v e h
 
 -- Round j was flagged in epoch e.
-pub record Flagged (j e : ℕ) (h : List Event) : Type 0 where
-  pub before : List Event
-  pub past : Past (flag j ∷ before) h
-  pub epoch : top before ≡ e
+abbrev pub Flagged : (j e : ℕ) → List Event → Type 0
+Flagged j e h = HappenedIn e (flag j) h
 
 -- At some moment of epoch i register j held v.
 pub record Held (i j v : ℕ) (h : List Event) : Type 0 where
@@ -55,10 +47,8 @@ pub record Held (i j v : ℕ) (h : List Event) : Type 0 where
   pub holds : last moment j ≡ v
 
 -- Round j was flagged in an epoch up to i.
-pub record Contested (i j : ℕ) (h : List Event) : Type 0 where
-  pub epoch : ℕ
-  pub flagged : Flagged j epoch h
-  pub early : epoch ≤ i
+abbrev pub Contested : (i j : ℕ) → List Event → Type 0
+Contested i j h = (e : ℕ) × (e ≤ i) × Flagged j e h
 
 -- Round j was compared with v in epoch i: it held v, or it was flagged.
 abbrev pub Compared : (i j v : ℕ) → List Event → Type 0

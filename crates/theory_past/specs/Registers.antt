@@ -1,10 +1,10 @@
 -- What the highest written round and the registers tell of the writes of a past.
-use Rattle.base.specs.Prelude.{ℕ, max, _≤_, _<_, _≡_, refl, sym, subst, Bool, true, true≢false, List, [], _∷_, eqb, eqb-true, eq-eqb, ne-eqb, le-refl, le-trans, arith}
-use Rattle.model_rule.specs.Event.{Event, proposal, write, flag, commit, decision, Past}
+use Rattle.base.specs.Prelude.{ℕ, _≤_, _<_, _≡_, refl, List, _∷_, _⊎_, inl, inr, ⊎-elim, eqb, eqb-true, le-refl, le-trans, arith}
+use Rattle.model_rule.specs.Event.{Event, proposal, write, flag, commit, decision, Past, Happened, Written}
 use Rattle.model_rule.specs.Event.Past.{here, there}
-use Rattle.theory_past.specs.Epoch.{top, last, isMarked, Wrote, WrittenIn, Flagged}
+use Rattle.theory_past.specs.Epoch.{top, last, HappenedIn, WrittenIn}
 use Rattle.base.specs.Bools.{cond-cases}
-use Rattle.theory_past.specs.Past.{past-before, written-past, flagged-past}
+use Rattle.theory_past.specs.Past.{past-empty}
 
 -- ---- the highest written round
 
@@ -21,93 +21,44 @@ pub top-le : {h h′ : List Event} → Past h h′ → top h ≤ top h′
 top-le {h} here = le-refl (top h)
 top-le (there {e = x} {h = g} q) = le-trans (top-le q) (top-event x g)
 
--- A write's round is at most its epoch.
-pub wrote-epoch : {p r v e : ℕ} {h : List Event} → Wrote p r v e h → r ≤ e
-wrote-epoch x = omega (arith, x .epoch)
-
--- A write's epoch is at most the highest written round.
-pub wrote-top : {p r v e : ℕ} {h : List Event} → Wrote p r v e h → e ≤ top h
-wrote-top x = omega (arith, x .epoch, top-le (x .past))
+-- An event's epoch is at most the highest written round.
+pub epoch-top : {e : ℕ} {x : Event} {h : List Event} → HappenedIn e x h → e ≤ top h
+epoch-top x = omega (arith, x .epoch, top-le (x .past))
 
 -- A written round is at most the highest one.
-pub wrote-round : {p r v e : ℕ} {h : List Event} → Wrote p r v e h → r ≤ top h
-wrote-round x = le-trans (wrote-epoch x) (wrote-top x)
+pub wrote-round : {p r v : ℕ} {h : List Event} → Happened (write p r v) h → r ≤ top h
+wrote-round x = omega (arith, top-le (x .past))
 
--- A flag's epoch is at most the highest written round.
-pub flagged-top : {j e : ℕ} {h : List Event} → Flagged j e h → e ≤ top h
-flagged-top x = omega (arith, x .epoch, top-le (past-before (x .past)))
+-- A value of the highest written register was written in the epoch of that round.
+pub written-fresh : {r v : ℕ} {h : List Event} → Written r v h → top h ≤ r → WrittenIn r v r h
+written-fresh w low = (w .0, record { before = w .1 .before; past = w .1 .past; epoch = omega (arith, top-le (w .1 .past)) })
+
+-- What was written in an epoch was written.
+pub written-in : {r v e : ℕ} {h : List Event} → WrittenIn r v e h → Written r v h
+written-in w = (w .0, record { before = w .1 .before; past = w .1 .past })
 
 -- ---- the registers
 
--- A register above the highest written round is blank.
-pub last-above : (h : List Event) (j : ℕ) → top h < j → last h j ≡ 0
-last-above [] j a = refl
-last-above (proposal v ∷ h) j a = last-above h j a
-last-above (write p r v ∷ h) j a = rw (ne-eqb r j (omega arith)) (last-above h j (omega arith))
-last-above (flag i ∷ h) j a = last-above h j a
-last-above (commit r v ∷ h) j a = last-above h j a
-last-above (decision p v ∷ h) j a = last-above h j a
+-- v was written to register j since a.
+abbrev pub WrittenSince : (a : List Event) (j v : ℕ) → List Event → Type 0
+WrittenSince a j v h = (p : ℕ) × (b : List Event) × Past a b × Past (write p j v ∷ b) h
 
--- v was written to register j, in some epoch.
-abbrev pub WrittenTo : (j v : ℕ) → List Event → Type 0
-WrittenTo j v h = (e : ℕ) × WrittenIn j v e h
+later : {a h : List Event} {x : Event} {j u v : ℕ} → (u ≡ v) ⊎ WrittenSince a j u h → (u ≡ v) ⊎ WrittenSince a j u (x ∷ h)
+later = ⊎-elim inl (λ s. inr (s .0, s .1, s .2, there (s .3)))
 
--- A write is written, just after it, in the epoch that it makes.
-pub written-newest : (p r v : ℕ) (h : List Event) → WrittenIn r v (max r (top h)) (write p r v ∷ h)
-written-newest p r v h = record { process = p; wrote = record { before = h; past = here; epoch = refl } }
-
--- What was written stays so.
-written-to-event : {j v : ℕ} {x : Event} {h : List Event} → WrittenTo j v h → WrittenTo j v (x ∷ h)
-written-to-event w = (w .0, written-past (there here) (w .1))
+-- A register holds what it held in an older part, or what was written to it since.
+pub last-since : {a h : List Event} (j : ℕ) → Past a h → (last h j ≡ last a j) ⊎ WrittenSince a j (last h j) h
+last-since j here = inl refl
+last-since j (there {e = proposal v} q) = later (last-since j q)
+last-since {a} j (there {e = write p r v} {h = h} q) =
+    cond-cases (λ u. (u ≡ last a j) ⊎ WrittenSince a j u (write p r v ∷ h)) (eqb r j)
+    (λ t. inr (p, h, q, rw (← eqb-true r j t) here))
+    (λ t. later (last-since j q))
+last-since j (there {e = flag i} q) = later (last-since j q)
+last-since j (there {e = commit r v} q) = later (last-since j q)
+last-since j (there {e = decision p v} q) = later (last-since j q)
 
 -- A filled register holds a value that was written to it.
-pub last-written : (h : List Event) (j : ℕ) → 0 < last h j → WrittenTo j (last h j) h
-last-written [] j = λ a. absurd (omega arith)
-last-written (proposal v ∷ h) j = λ a. written-to-event (last-written h j a)
-last-written (write p r v ∷ h) j =
-    cond-cases (λ (x : ℕ). 0 < x → WrittenTo j x (write p r v ∷ h)) (eqb r j)
-    (λ t a. subst (λ (k : ℕ). WrittenTo k v (write p r v ∷ h)) (eqb-true r j t) (max r (top h), written-newest p r v h))
-    (λ t a. written-to-event (last-written h j a))
-last-written (flag i ∷ h) j = λ a. written-to-event (last-written h j a)
-last-written (commit r v ∷ h) j = λ a. written-to-event (last-written h j a)
-last-written (decision p v ∷ h) j = λ a. written-to-event (last-written h j a)
-
--- The value of the highest written register was written in the epoch of that round.
-pub last-fresh : (h : List Event) (j : ℕ) → 0 < last h j → top h ≤ j → WrittenIn j (last h j) j h
-last-fresh h j a b =
-    let w : WrittenTo j (last h j) h = last-written h j a in
-    let same : w .0 ≡ j = omega (arith, wrote-epoch (w .1 .wrote), wrote-top (w .1 .wrote)) in
-    rw same at (w .1)
-
--- ---- the marks
-
--- Round j was flagged, in some epoch.
-abbrev pub IsFlagged : (j : ℕ) → List Event → Type 0
-IsFlagged j h = (e : ℕ) × Flagged j e h
-
-flagged-event : {j : ℕ} {x : Event} {h : List Event} → IsFlagged j h → IsFlagged j (x ∷ h)
-flagged-event f = (f .0, flagged-past (there here) (f .1))
-
--- A marked round was flagged.
-pub marked-flagged : (h : List Event) (j : ℕ) → isMarked h j ≡ true → IsFlagged j h
-marked-flagged [] j = λ m. absurd (true≢false (sym m))
-marked-flagged (proposal v ∷ h) j = λ m. flagged-event (marked-flagged h j m)
-marked-flagged (write p r v ∷ h) j = λ m. flagged-event (marked-flagged h j m)
-marked-flagged (flag i ∷ h) j =
-    cond-cases (λ (b : Bool). b ≡ true → IsFlagged j (flag i ∷ h)) (eqb i j)
-    (λ t m. rw (← (eqb-true i j t)) (top h, record { before = h; past = here; epoch = refl }))
-    (λ t m. flagged-event (marked-flagged h j m))
-marked-flagged (commit r v ∷ h) j = λ m. flagged-event (marked-flagged h j m)
-marked-flagged (decision p v ∷ h) j = λ m. flagged-event (marked-flagged h j m)
-
--- A flagged round is marked.
-pub flagged-marked : {j e : ℕ} {h : List Event} → Flagged j e h → isMarked h j ≡ true
-flagged-marked {j} f = go (f .past)
-  where
-    go : {h : List Event} → Past (flag j ∷ f .before) h → isMarked h j ≡ true
-    go here = rw (eq-eqb j j refl)
-    go (there {e = proposal v} q) = go q
-    go (there {e = write p r v} q) = go q
-    go (there {e = flag i} {h = g} q) = cond-cases (λ (b : Bool). b ≡ true) (eqb i j) (λ t. refl) (λ t. go q)
-    go (there {e = commit r v} q) = go q
-    go (there {e = decision p v} q) = go q
+pub last-written : (h : List Event) (j : ℕ) → 0 < last h j → Written j (last h j) h
+last-written h j some =
+    ⊎-elim (λ e. absurd (omega arith)) (λ s. (s .0, record { before = s .1; past = s .3 })) (last-since j (past-empty h))

@@ -1,12 +1,14 @@
 -- The proposals of a sheet: which entries they were, and that their numbers have 32 bits.
-use Rattle.base.specs.Prelude.{ℕ, suc, zero, _+_, _/_, _<_, arith, _≡_, List, [], _∷_, _++_, _⊎_, inl, inr, ⊎-elim, getD, take, eqb}
-use Rattle.base.specs.Bools.{cond-cases}
+use Rattle.base.specs.Prelude.{ℕ, suc, zero, _+_, _/_, _<_, arith, _≡_, refl, Bool, true, cond, List, [], _∷_, _++_, _⊎_, inl, inr, ⊎-elim, getD, take, eqb, ltb, ltb-true, lt-ltb}
+use Rattle.base.specs.Bools.{cond-cases, and-both}
 use Rattle.model_laws.specs.Types.{Process, Session, Counts, Operation, Propose, Step, Learn, Crash, Malformed}
 use Rattle.model.specs.Board.{processAt}
 use Rattle.model.specs.Bytes.{byteAt, word32}
 use Rattle.model.specs.Refusal.{processOf}
 use Rattle.model.specs.Machine.{perform}
 use Rattle.model.specs.Sheet.{Run, runs, entryOf, entriesAt, entriesOf, entries}
+use Rattle.model.specs.Sound.{every}
+use Rattle.model_laws.specs.Every.{every-get}
 use Rattle.model_laws.specs.ByteLaws.{AreBytes, word32-low}
 use Rattle.model_rule.specs.Event.{Event, proposal, lookEvents, eventsOf, Proposed}
 use Rattle.model_rule.specs.Calls.{Input, machine, ifAccepted, past}
@@ -55,49 +57,35 @@ fed-proposed {v} W start c (suc k) (o ∷ os) fs a =
 
 -- ---- its number
 
--- An operation whose number, if it proposes, has 32 bits.
-abbrev Low : Operation → Type 0
-Low (Propose p v) = v < 4294967296
-Low (Step p leader) = Unit {0}
-Low (Learn p) = Unit {0}
-Low (Crash p) = Unit {0}
-Low Malformed = Unit {0}
+-- Whether an operation's number, if it proposes, has 32 bits.
+abbrev isLow : Operation → Bool
+isLow (Propose p v) = ltb v 4294967296
+isLow (Step p leader) = true
+isLow (Learn p) = true
+isLow (Crash p) = true
+isLow Malformed = true
 
-abbrev AllLow : List Operation → Type 0
-AllLow [] = Unit {0}
-AllLow (o ∷ os) = Low o × AllLow os
+-- Of two operations the one that is chosen.
+low-choice : (t : Bool) (a b : Operation) → isLow a ≡ true → isLow b ≡ true → isLow (cond t a b) ≡ true
+low-choice t a b p q = cond-cases (λ o. isLow o ≡ true) t (λ z. p) (λ z. q)
 
-low-append : (xs ys : List Operation) → AllLow xs → AllLow ys → AllLow (xs ++ ys)
-low-append [] ys p q = q
-low-append (x ∷ xs) ys p q = (p .0, low-append xs ys (p .1) q)
-
-low-entry : (kind p v : ℕ) → v < 4294967296 → Low (entryOf kind p v)
+low-entry : (kind p v : ℕ) → v < 4294967296 → isLow (entryOf kind p v) ≡ true
 low-entry kind p v low =
-    cond-cases Low (eqb kind 0)
-    (λ z. low)
-    (λ z.
-    cond-cases Low (eqb kind 1)
-    (λ z. cond-cases Low (eqb v 0) (λ z. tt) (λ z. cond-cases Low (eqb v 1) (λ z. tt) (λ z. tt)))
-    (λ z.
-    cond-cases Low (eqb kind 2)
-    (λ z. cond-cases Low (eqb v 0) (λ z. tt) (λ z. tt))
-    (λ z. cond-cases Low (eqb kind 3) (λ z. cond-cases Low (eqb v 0) (λ z. tt) (λ z. tt)) (λ z. tt))))
+    low-choice (eqb kind 0) _ _ (lt-ltb v 4294967296 low)
+    (low-choice (eqb kind 1) _ _ (low-choice (eqb v 0) _ _ refl (low-choice (eqb v 1) _ _ refl refl))
+    (low-choice (eqb kind 2) _ _ (low-choice (eqb v 0) _ _ refl refl) (low-choice (eqb kind 3) _ _ (low-choice (eqb v 0) _ _ refl refl) refl)))
 
 module _ (t : List ℕ) (bytes : AreBytes t) where
-  low-run : (offset count : ℕ) → AllLow (entriesAt t offset count)
-  low-run i zero = tt
-  low-run i (suc k) = (low-entry (byteAt t i) (byteAt t (i + 1)) (word32 t (i + 2)) (word32-low t (i + 2) bytes), low-run (i + 6) k)
+  low-run : (offset count : ℕ) (os : List Operation) → every isLow os ≡ true → every isLow (entriesAt t offset count ++ os) ≡ true
+  low-run i zero os low = low
+  low-run i (suc k) os low =
+      and-both (low-entry (byteAt t i) (byteAt t (i + 1)) (word32 t (i + 2)) (word32-low t (i + 2) bytes)) (low-run (i + 6) k os low)
 
-  low-runs : (rs : List Run) → AllLow (entriesOf t rs)
-  low-runs [] = tt
-  low-runs (r ∷ rs) = low-append (entriesAt t (r .offset) (r .size / 6)) (entriesOf t rs) (low-run (r .offset) (r .size / 6)) (low-runs rs)
+  low-runs : (rs : List Run) → every isLow (entriesOf t rs) ≡ true
+  low-runs [] = refl
+  low-runs (r ∷ rs) = low-run (r .offset) (r .size / 6) (entriesOf t rs) (low-runs rs)
 
-low-at : (os : List Operation) (i p v : ℕ) → AllLow os → getD os i Malformed ≡ Propose p v → v < 4294967296
-low-at [] i p v a e = let z : _≡_ {A = ℕ} 0 1 = cc in absurd (omega arith)
-low-at (o ∷ os) zero p v a e = rw e at (a .0)
-low-at (o ∷ os) (suc i) p v a e = low-at os i p v (a .1) e
-
--- A number proposed by an entry of a sheet.
-pub entry-low : (t : List ℕ) → AreBytes t → {v k : ℕ} → ProposedBy v k (entries t) → v < 4294967296
-unfolding entries
-entry-low t bytes {v} a = low-at (entriesOf t (runs t)) (a .0) (a .2) v (low-runs t bytes (runs t)) (a .3)
+  -- A number proposed by an entry of a sheet.
+  pub entry-low : {v k : ℕ} → ProposedBy v k (entries t) → v < 4294967296
+  unfolding entries
+  entry-low {v} a = ltb-true v 4294967296 (rw (a .3) at (every-get isLow (entriesOf t (runs t)) (a .0) Malformed refl (low-runs (runs t))))

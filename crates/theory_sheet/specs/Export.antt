@@ -1,14 +1,14 @@
 -- What the C entry writes to its buffer, in the words of the agreement rule.
 use Rattle.base.specs.Prelude.{ℕ, _*_, _<_, arith, ℕ-discrete, _≡_, refl, List, [], ⊎-elim, length}
-use Rattle.model_laws.specs.Types.{Phase, Idle, Waiting, Write, Scan, Adopt, Compare, Flag, CheckMark, CheckValue, Commit, Exhausted, Crashed, Decided, Session}
+use Rattle.model_laws.specs.Types.{Phase, Idle, Waiting, Write, Scan, Adopt, Compare, Flag, CheckMark, CheckValue, Commit, Exhausted, Crashed, Decided}
 use Rattle.model.specs.Board.{processAt, noCounts, maxProcesses, serverLimits}
 use Rattle.model.specs.Bytes.{word32}
 use Rattle.model.specs.Sheet.{entries, sheetRefusal}
 use Rattle.model.specs.Runner.{run}
 use Rattle.model.specs.Export.{decidedValue, exportBuffer}
 use Rattle.model_laws.specs.ByteLaws.{AreBytes, decidedAt, decided-word}
+use Rattle.model_rule.specs.Event.{DecidedOn}
 use Rattle.model_rule.specs.Calls.{past}
-use Rattle.model_rule.specs.Rule.{Holds, Rule}
 use Rattle.theory_past.specs.Past.{past-none, past-before, happened-past}
 use Rattle.theory_sheet.specs.Runs.{windowOf, openedBy, runInputs, run-rule, run-bytes}
 use Rattle.theory_sheet.specs.Entries.{ProposedBy, fed-proposed, entry-low}
@@ -54,30 +54,27 @@ decided-phase Exhausted e some = absurd (some refl)
 decided-phase Crashed e some = absurd (some refl)
 decided-phase Decided e some = (refl, refl)
 
-decided-holds : (s : Session) (p : ℕ) → (decidedAt (s .processes) p ≡ 0 → ⊥) → Holds s p (decidedAt (s .processes) p)
-decided-holds s p = decided-phase (processAt s p .phase) (processAt s p .estimate)
-
 module _ (t : List ℕ) (budget : ℕ) (ok : sheetRefusal serverLimits t ≡ 0) where
-  rule : Rule (run t budget .session) (past (windowOf t) (openedBy t) (runInputs t budget))
-  rule = run-rule t budget ok
-
   -- The decided value of process p after the run.
   abbrev valueOf : ℕ → ℕ
   valueOf p = decidedAt (run t budget .session .processes) p
 
+  -- It was decided.
+  value-decided : (p : ℕ) → (valueOf p ≡ 0 → ⊥) → DecidedOn p (valueOf p) (past (windowOf t) (openedBy t) (runInputs t budget))
+  value-decided p some =
+      let q = processAt (run t budget .session) p in
+      run-rule t budget ok .looked p (valueOf p) (decided-phase (q .phase) (q .estimate) some)
+
   -- It was proposed by an entry that was carried out.
   value-proposed : (p : ℕ) → (valueOf p ≡ 0 → ⊥) → ProposedBy (valueOf p) (run t budget .carried) (entries t)
   value-proposed p some =
-      let f = rule .validity p (valueOf p) (rule .looked p (valueOf p) (decided-holds (run t budget .session) p some)) in
+      let f = run-rule t budget ok .validity p (valueOf p) (value-decided p some) in
       ⊎-elim (λ x. x) (λ x. absurd (past-none (x .past)))
       (fed-proposed (windowOf t) (openedBy t) noCounts (run t budget .carried) (entries t) []
       (happened-past (past-before (f .commits)) (f .proposed)))
 
   value-equal : (p q : ℕ) → (valueOf p ≡ 0 → ⊥) → (valueOf q ≡ 0 → ⊥) → valueOf p ≡ valueOf q
-  value-equal p q some other =
-      rule .agreement p q (valueOf p) (valueOf q)
-      (rule .looked p (valueOf p) (decided-holds (run t budget .session) p some))
-      (rule .looked q (valueOf q) (decided-holds (run t budget .session) q other))
+  value-equal p q some other = run-rule t budget ok .agreement p q _ _ (value-decided p some) (value-decided q other)
 
   -- The buffer holds it.
   number-value : (b : List ℕ) → AreBytes t → length b ≡ 256 → (p : ℕ) → numberOf t budget b p ≡ valueOf p
@@ -93,5 +90,5 @@ export-agreement t budget b bytes ok size =
       proposed = λ p low some. rw (e p) (value-proposed t budget ok p (rw (e p) at some));
     }
   where
-    e : (p : ℕ) → numberOf t budget b p ≡ decidedAt (run t budget .session .processes) p
+    e : (p : ℕ) → numberOf t budget b p ≡ valueOf t budget ok p
     e = number-value t budget ok b bytes size

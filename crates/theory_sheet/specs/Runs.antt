@@ -23,32 +23,21 @@ use Rattle.theory_agreement.specs.Theorem.{operate-reached, never-unsound}
 -- ---- the public operations
 
 module _ {n L : ℕ} (wide : 1 ≤ window n) where
-  -- Entry after entry, from a session that the machine reached.
+  -- Entry after entry, from a session that the machine reached: they answer as the machine does, and none is refused with 3.
   operate-runs : {s : Session} {h : List Event} (b k : ℕ) (c : Counts) (es : List Operation) → Reached (window n) n L s h →
-      runBy operate b k s c es ≡ runFrom (window n) b k s c es
+      let r = runFrom (window n) b k s c es in
+      (runBy operate b k s c es ≡ r) × ((j : ℕ) → r .ending ≡ Refused 3 j → ⊥)
   unfolding runBy sound
-  operate-runs b k c [] i = refl
-  operate-runs zero k c (e ∷ es) i = refl
+  operate-runs b k c [] i = (refl, λ j e. let z : _≡_ {A = ℕ} 0 1 = cc in omega arith)
+  operate-runs zero k c (e ∷ es) i = (refl, λ j t. let z : _≡_ {A = ℕ} 0 1 = cc in omega arith)
   operate-runs {s} (suc b) k c (e ∷ es) i =
       let f : Input = record { operation = e; counts = c } in
       let a = perform (window n) s c e in
-      rw (operate-reached i f)
-      (ap (λ (r : Ran). cond (eqb (a .code) 0) r (ran k s c (Refused (a .code) k)))
-      (operate-runs b (suc k) (a .counts) es (operation-reached wide f i)))
-
-  -- No entry is refused with 3.
-  never-three-runs : {s : Session} {h : List Event} (b k : ℕ) (c : Counts) (es : List Operation) (j : ℕ) → Reached (window n) n L s h →
-      runFrom (window n) b k s c es .ending ≡ Refused 3 j → ⊥
-  unfolding runBy
-  never-three-runs b k c [] j i e = let z : _≡_ {A = ℕ} 0 1 = cc in omega arith
-  never-three-runs zero k c (e ∷ es) j i t = let z : _≡_ {A = ℕ} 0 1 = cc in omega arith
-  never-three-runs {s} (suc b) k c (e ∷ es) j i t =
-      let f : Input = record { operation = e; counts = c } in
-      let a = perform (window n) s c e in
-      cond-cases (λ (r : Ran). r .ending ≡ Refused 3 j → ⊥) (eqb (a .code) 0)
-      (λ z. never-three-runs b (suc k) (a .counts) es j (operation-reached wide f i))
-      (λ z u. never-unsound i f (cc))
-      t
+      let rest = operate-runs b (suc k) (a .counts) es (operation-reached wide f i) in (
+        rw (operate-reached i f) (ap (λ (r : Ran). cond (eqb (a .code) 0) r (ran k s c (Refused (a .code) k))) (rest .0)),
+        λ j.
+            cond-cases (λ (r : Ran). r .ending ≡ Refused 3 j → ⊥) (eqb (a .code) 0) (λ z. rest .1 j) (λ z u. never-unsound i f (cc)),
+      )
 
 -- ---- the machine
 
@@ -126,27 +115,24 @@ module _ (t : List ℕ) (budget : ℕ) (ok : sheetRefusal serverLimits t ≡ 0) 
 
   -- The public operations, one after another, give the same as the machine, up to the budget or the first refused entry.
   pub run-public : runBy operate budget 0 (openedBy t) noCounts (entries t) ≡ run t budget
-  run-public = operate-runs wide budget 0 noCounts (entries t) (sheet-reached .1) ∙ sym run-accepted
+  run-public = operate-runs wide budget 0 noCounts (entries t) (sheet-reached .1) .0 ∙ sym run-accepted
 
   -- No entry is refused with 3.
   pub run-never-three : (k : ℕ) → run t budget .ending ≡ Refused 3 k → ⊥
-  run-never-three k e = never-three-runs wide budget 0 noCounts (entries t) k (sheet-reached .1) (rw run-accepted at e)
+  run-never-three k e = operate-runs wide budget 0 noCounts (entries t) (sheet-reached .1) .1 k (rw run-accepted at e)
 
   -- The session and the counts that a run leaves are the machine's, after the entries that were carried out.
   run-follows : Follows (windowOf t) (openedBy t) [] noCounts (entries t) 0 (run t budget)
   run-follows = rw run-accepted (run-follows-from (windowOf t) (openedBy t) [] budget 0 noCounts (entries t))
 
+  carried-count : run t budget .carried ≡ run-follows .count
+  carried-count = omega (arith, run-follows .carried)
+
   pub run-machine : run t budget .session ≡ machine (windowOf t) (openedBy t) (runInputs t budget)
-  run-machine =
-      let m = run-follows in
-      let e : run t budget .carried ≡ m .count = omega (arith, m .carried) in
-      rw e (m .session)
+  run-machine = rw carried-count (run-follows .session)
 
   pub run-counts : run t budget .counts ≡ countsLeft (windowOf t) (openedBy t) noCounts (take (run t budget .carried) (entries t)) []
-  run-counts =
-      let m = run-follows in
-      let e : run t budget .carried ≡ m .count = omega (arith, m .carried) in
-      rw e (m .counts)
+  run-counts = rw carried-count (run-follows .counts)
 
   -- So the rule holds of it.
   pub run-rule : Rule (run t budget .session) (past (windowOf t) (openedBy t) (runInputs t budget))

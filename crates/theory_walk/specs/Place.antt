@@ -1,9 +1,10 @@
 -- What the phase, round and estimate of a process tell of the past.
-use Rattle.base.specs.Prelude.{ℕ, suc, _+_, _-_, _≤_, _<_, _≡_, List}
+use Rattle.base.specs.Prelude.{ℕ, suc, _+_, _≤_, _<_, _≡_, false, List}
 use Rattle.model_laws.specs.Types.{Phase, Idle, Waiting, Write, Scan, Adopt, Compare, Flag, CheckMark, CheckValue, Commit, Exhausted, Crashed, Decided, Process, Access, Nothing, ReadValue, WriteValue, ReadMark, SetMark, ReadDecision, WriteDecision}
-use Rattle.model_rule.specs.Event.{Event, Proposed, DecidedOn}
-use Rattle.theory_past.specs.Epoch.{top, last, Wrote, WrittenIn, Flagged, Compared, Passed}
-use Rattle.theory_past.specs.Lawful.{IsCommitted}
+use Rattle.model.specs.Refusal.{status, isOutside}
+use Rattle.model_rule.specs.Event.{Event, Proposed, Written, DecidedOn}
+use Rattle.theory_past.specs.Epoch.{top, last, Wrote, Flagged, Compared, Passed}
+use Rattle.theory_past.specs.Lawful.{Unflagged, IsCommitted}
 
 -- What the value x that an access found tells of the past.
 abbrev pub Found : List Event → Access → (x : ℕ) → Type 0
@@ -15,50 +16,36 @@ Found h (SetMark j) x = Unit {0}
 Found h ReadDecision x = (x ≡ 0 → ⊥) → IsCommitted x h
 Found h WriteDecision x = Unit {0}
 
--- In round r, v stands or stood in register r; the last m rounds up to r were compared with v while r was the highest round.
+-- In round r, v stands or stood in register r; the last m rounds up to r were compared with v while r was the highest round. A round
+-- whose whole window was compared is over.
 pub record Walked (m r v : ℕ) (h : List Event) : Type 0 where
-  pub reached : r ≤ top h
-  pub epoch : ℕ
-  pub written : WrittenIn r v epoch h
-  pub fresh : top h ≡ r → WrittenIn r v r h
-  pub compared : top h ≡ r → (i : ℕ) → i < m → Compared r (r - i) v h
-
--- A round that is over: it was walked, and passed if no higher round was written.
-pub record Finished (W r v : ℕ) (h : List Event) : Type 0 where
-  pub reached : r ≤ top h
-  pub epoch : ℕ
-  pub written : WrittenIn r v epoch h
-  pub passed : top h ≡ r → Passed W r v h
-
--- Of the last m rounds up to r none was flagged before epoch r.
-abbrev pub Unflagged : (m r : ℕ) → List Event → Type 0
-Unflagged m r h = (i e : ℕ) → i < m → Flagged (r - i) e h → r ≤ e
+  pub written : Written r v h
+  pub compared : top h ≡ r → (j : ℕ) → 1 ≤ j → j ≤ r → r < j + m → Compared r j v h
 
 -- What each phase tells, for process p in round r with estimate v.
 abbrev pub Placed : (W p r v : ℕ) → Phase → List Event → Type 0
 Placed W p r v Idle h = Unit {0}
-Placed W p r v Waiting h = Proposed v h × (1 ≤ r → Finished W r v h)
+Placed W p r v Waiting h = 1 ≤ r → Walked W r v h
 Placed W p r v Write h =
-    Proposed v h
-    × (r ≤ top h + 1)
+    (r ≤ top h + 1)
     × ((r′ v′ e′ : ℕ) → Wrote p r′ v′ e′ h → e′ < r)
     × ((i : ℕ) → r ≡ suc i → 1 ≤ i → Passed W i v h)
-Placed W p r v (Scan k) h = Proposed v h × (k ≤ top h + 1)
-Placed W p r v (Adopt k) h = Proposed v h × (k ≤ top h)
-Placed W p r v (Compare i) h = Proposed v h × Walked i r v h
-Placed W p r v (Flag i) h = Proposed v h × Walked i r v h
-Placed W p r v (CheckMark i) h = Proposed v h × Finished W r v h × Unflagged i r h
-Placed W p r v (CheckValue i) h = Proposed v h × Finished W r v h × Unflagged (suc i) r h
-Placed W p r v Commit h = Proposed v h × Finished W r v h × Unflagged W r h
-Placed W p r v Exhausted h = Proposed v h
-Placed W p r v Crashed h = Proposed v h
+Placed W p r v (Scan k) h = k ≤ top h + 1
+Placed W p r v (Adopt k) h = k ≤ top h
+Placed W p r v (Compare i) h = Walked i r v h
+Placed W p r v (Flag i) h = Walked i r v h
+Placed W p r v (CheckMark i) h = Walked W r v h × Unflagged i r h
+Placed W p r v (CheckValue i) h = Walked W r v h × Unflagged (suc i) r h
+Placed W p r v Commit h = Walked W r v h × Unflagged W r h
+Placed W p r v Exhausted h = Unit {0}
+Placed W p r v Crashed h = Unit {0}
 Placed W p r v Decided h = DecidedOn p v h
 
--- What a process tells by its phase, round and estimate.
+-- What a process that has proposed tells by its phase, round and estimate: the estimate was proposed, too.
 abbrev pub PlacedAt : (W p : ℕ) → Process → List Event → Type 0
-PlacedAt W p q h = Placed W p (q .round) (q .estimate) (q .phase) h
+PlacedAt W p q h = Proposed (q .estimate) h × Placed W p (q .round) (q .estimate) (q .phase) h
 
 -- And one that has decided is at Decided and holds that value.
 pub record Stands (W p : ℕ) (q : Process) (h : List Event) : Type 0 where
-  pub placed : PlacedAt W p q h
+  pub placed : isOutside (status (q .phase)) ≡ false → PlacedAt W p q h
   pub decided : (v : ℕ) → DecidedOn p v h → (q .phase ≡ Decided) × (q .estimate ≡ v)

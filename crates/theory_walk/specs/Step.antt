@@ -1,37 +1,39 @@
 -- A step of a process: what it adds to the past is lawful, and the process stands where its new phase tells.
-use Rattle.base.specs.Prelude.{ℕ, _-_, _<_, _≡_, refl, Bool, true, false, List, [], _∷_, _++_, arith}
+use Rattle.base.specs.Prelude.{ℕ, _-_, _<_, _≡_, Bool, true, false, List, [], _∷_, _++_, arith}
 use Rattle.model_laws.specs.Types.{Phase, Idle, Waiting, Write, Scan, Adopt, Compare, Flag, CheckMark, CheckValue, Commit, Exhausted, Crashed, Decided, Process}
-use Rattle.model.specs.Step.{accessAt, access, nextAt, next}
+use Rattle.model.specs.Step.{accessAt, access, nextAt, next, process}
 use Rattle.model.specs.Refusal.{status, isOutside}
 use Rattle.model_laws.specs.Phases.{PhaseSound}
-use Rattle.model_rule.specs.Event.{Event, proposal, write, flag, commit, decision, stepEvents, Happened}
-use Rattle.theory_past.specs.Past.{happened-older}
-use Rattle.theory_past.specs.Lawful.{Lawful, EventsLawful}
+use Rattle.model_rule.specs.Event.{Event, proposal, write, flag, commit, decision, stepEvents, Happened, Proposed}
+use Rattle.model_rule.specs.Event.Past.{here, there}
+use Rattle.theory_past.specs.Past.{happened-past, happened-older}
+use Rattle.theory_past.specs.Registers.{wrote-round}
+use Rattle.theory_past.specs.Lawful.{Lawful, also}
 use Rattle.theory_walk.specs.Place.{Found, Placed, PlacedAt, Stands}
-use Rattle.theory_walk.specs.Stays.{SpareAll}
-use Rattle.theory_walk.specs.Climb.{waiting-placed, scan-placed, adopt-placed}
-use Rattle.theory_walk.specs.Rounds.{write-done, compare-placed, flag-placed}
-use Rattle.theory_walk.specs.Checks.{check-mark-placed, check-value-placed, commit-placed, commit-lawful}
+use Rattle.theory_walk.specs.Stays.{walked-past, SpareAll}
+use Rattle.theory_walk.specs.Climb.{waiting-placed, scan-placed, walked-none, adopt-placed}
+use Rattle.theory_walk.specs.Rounds.{compare-placed, flag-placed}
+use Rattle.theory_walk.specs.Checks.{check-mark-placed, check-value-placed}
 
 -- A process in round r with estimate v that finds x by its access is, after its step, where its new phase tells.
 step-placed : {W n : ℕ} (L p r v : ℕ) (φ : Phase) (leader : Bool) (x : ℕ) {h : List Event} →
-    PhaseSound W L r φ → Lawful W n h → Placed W p r v φ h → Found h (accessAt L r φ leader) x →
+    PhaseSound W L r φ → Lawful W n h → Proposed v h → Placed W p r v φ h → Found h (accessAt L r φ leader) x →
     PlacedAt W p (nextAt W L r v φ leader x) (stepEvents p r v φ ++ h)
 unfolding accessAt nextAt
-step-placed L p r v Idle leader x s l a f = tt
-step-placed L p r v Waiting false x s l a f = a
-step-placed L p r v Waiting true x s l a f = waiting-placed L p r v x l a f
-step-placed {W} L p r v Write leader x {h} s l a f = write-done W p r v h a
-step-placed {W} L p r v (Scan k) leader x s l a f = scan-placed W L p r v k x a f
-step-placed {W} L p r v (Adopt k) leader x s l a f = adopt-placed p r v k x (omega arith) l a f
-step-placed {W} L p r v (Compare i) leader x {h} s l a f = compare-placed W p r v i x h a f
-step-placed {W} L p r v (Flag i) leader x {h} s l a f = flag-placed W p r v i h a
-step-placed {W} L p r v (CheckMark i) leader x {h} s l a f = check-mark-placed W p r v i x h a f
-step-placed {W} L p r v (CheckValue i) leader x {h} s l a f = check-value-placed W p r v i x h a
-step-placed {W} L p r v Commit leader x {h} s l a f = commit-placed W p r v h a
-step-placed L p r v Exhausted leader x s l a f = a
-step-placed L p r v Crashed leader x s l a f = a
-step-placed L p r v Decided leader x s l a f = a
+step-placed L p r v Idle leader x s l b a f = (b, tt)
+step-placed L p r v Waiting false x s l b a f = (b, a)
+step-placed L p r v Waiting true x s l b a f = waiting-placed L p r v x l b a f
+step-placed L p r v Write leader x {h} s l b a f = (happened-past (there here) b, walked-none (p, record { before = h; past = here }))
+step-placed {W} L p r v (Scan k) leader x {h} s l b a f = (b, scan-placed W L p r v k x h a f)
+step-placed L p r v (Adopt k) leader x s l b a f = adopt-placed p r v k x (omega arith) l a f
+step-placed {W} L p r v (Compare i) leader x {h} s l b a f = (b, compare-placed W p r v i x h a f)
+step-placed {W} L p r v (Flag i) leader x {h} s l b a f = (happened-past (there here) b, flag-placed W p r v i h a)
+step-placed {W} L p r v (CheckMark i) leader x {h} s l b a f = (b, check-mark-placed W p r v i x h a f)
+step-placed {W} L p r v (CheckValue i) leader x {h} s l b a f = (b, check-value-placed W p r v i x h a)
+step-placed L p r v Commit leader x s l b a f = (happened-past (there here) b, λ c. walked-past (there here) (a .0))
+step-placed L p r v Exhausted leader x s l b a f = (b, tt)
+step-placed L p r v Crashed leader x s l b a f = (b, tt)
+step-placed L p r v Decided leader x s l b a f = (b, a)
 
 -- What holds of no event, and of the event of each phase that has one, holds of the events of a step.
 pub step-cases : (P : Phase → List Event → Type 0) (p r v : ℕ) → ((φ : Phase) → P φ []) → P Write (write p r v ∷ []) →
@@ -51,19 +53,16 @@ step-cases P p r v none w f c Crashed = none Crashed
 step-cases P p r v none w f c Decided = none Decided
 
 -- The event of a step of one of the n processes is lawful.
-pub step-lawful : (W : ℕ) {n : ℕ} (L p r v : ℕ) (φ : Phase) (h : List Event) →
-    p < n → (isOutside (status φ) ≡ false → 0 < v) → PhaseSound W L r φ → Placed W p r v φ h →
-    EventsLawful W n (stepEvents p r v φ) h
-step-lawful W {n} L p r v φ h q =
-    step-cases
-    (λ φ es. (isOutside (status φ) ≡ false → 0 < v) → PhaseSound W L r φ → Placed W p r v φ h → EventsLawful W n es h)
-    p r v
-    (λ φ u s a. tt)
-    (λ u s a.
-    (record { some = u refl; reached = a .1; writer = q; round = s; value = a .0; ordered = a .2; passed = a .3 }, tt))
-    (λ i u s a. (omega (arith, a .1 .reached), tt))
-    (λ u s a. (commit-lawful W p r v h s a, tt))
-    φ
+pub step-lawful : {W n : ℕ} (L p r v : ℕ) (φ : Phase) {h : List Event} →
+    p < n → 0 < v → PhaseSound W L r φ → Lawful W n h → PlacedAt W p (process φ r v) h → Lawful W n (stepEvents p r v φ ++ h)
+step-lawful {W} {n} L p r v φ {h} q u s l a =
+    step-cases (λ φ es. PhaseSound W L r φ → Placed W p r v φ h → Lawful W n (es ++ h)) p r v
+    (λ φ s b. l)
+    (λ s b.
+    also l (record { some = u; reached = b .0; writer = q; round = s; value = a .0; ordered = b .1; passed = b .2 }))
+    (λ i s b. also l (omega (arith, wrote-round (b .written .1))))
+    (λ s b. also l (record { window = s; written = b .0 .written; unflagged = b .1; proposed = a .0 }))
+    φ s (a .1)
 
 -- It is of the process itself, if of any.
 pub step-spares : (o p r v : ℕ) (φ : Phase) → (o ≡ p → ⊥) → SpareAll o (stepEvents p r v φ)
@@ -90,11 +89,11 @@ step-older x p r v φ {h} other =
 
 -- A process that is not decided stands, after its step, where it should.
 pub step-stands : {W n : ℕ} (L p : ℕ) (q : Process) (leader : Bool) (x : ℕ) {h : List Event} → (q .phase ≡ Decided → ⊥) →
-    PhaseSound W L (q .round) (q .phase) → Lawful W n h → Stands W p q h → Found h (access L q leader) x →
+    isOutside (status (q .phase)) ≡ false → PhaseSound W L (q .round) (q .phase) → Lawful W n h → Stands W p q h → Found h (access L q leader) x →
     Stands W p (next W L q leader x) (stepEvents p (q .round) (q .estimate) (q .phase) ++ h)
 unfolding access next
-step-stands L p q leader x {h} not s l a f =
+step-stands L p q leader x {h} not inside s l a f =
     record {
-      placed = step-placed L p (q .round) (q .estimate) (q .phase) leader x s l (a .placed) f;
+      placed = λ i. let b = a .placed inside in step-placed L p (q .round) (q .estimate) (q .phase) leader x s l (b .0) (b .1) f;
       decided = λ v d. absurd (not (a .decided v (step-older (decision p v) p (q .round) (q .estimate) (q .phase) (λ z. z) d) .0));
     }

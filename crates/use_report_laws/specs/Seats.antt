@@ -10,11 +10,10 @@ status q = statusWords (q .phase) (q .round) (q .estimate)
 seats-more : (k p : ℕ) (l : List Process) (d : Process) → p < length l
     → seatLines k (take (suc p) l) ≡ seatLines k (take p l) ++ seatLine (k + p) (getD l p d)
 seats-more k p [] d h = absurd (not-suc-le-zero h)
-seats-more k zero (q ∷ l) d h = append-nil (seatLine k q) ∙ ap (λ (n : ℕ). seatLine n q) (sym (add-zero k))
+seats-more k zero (q ∷ l) d h = cc (append-nil (seatLine k q), add-zero k)
 seats-more k (suc p) (q ∷ l) d h =
-    ap (λ (t : List ℕ). seatLine k q ++ t) (seats-more (suc k) p l d (le-of-suc-le-suc h))
-    ∙ sym (append-assoc (seatLine k q) (seatLines (suc k) (take p l)) (seatLine (suc k + p) (getD l p d)))
-    ∙ ap (λ (n : ℕ). seatLine k q ++ seatLines (suc k) (take p l) ++ seatLine n (getD l p d)) (suc-add k p ∙ sym (add-suc k p))
+    let line = seatLine (suc (k + p)) (getD l p d) in
+    cc (seats-more (suc k) p l d (le-of-suc-le-suc h), append-assoc (seatLine k q) (seatLines (suc k) (take p l)) line, suc-add k p, add-suc k p)
 
 -- One seat more: its number, and its status with the line's end.
 pub seat-put : (l : List Process) (d : Process) (p : ℕ) {a b m r : ℕ} {e x y z : List ℕ} → p < length l

@@ -5,7 +5,7 @@ use Rattle.model.specs.Board.{maxProcesses}
 use Rattle.model.specs.Runner.{run}
 use Rattle.model_report.specs.Report.{reportBudget, reportOf, report}
 use Rattle.use_text.specs.Page.{pageSize, Put, on-blank}
-use Rattle.use_report_laws.specs.Room.{report-low, report-fits}
+use Rattle.use_report_laws.specs.Room.{report-low}
 
 -- The report of a run stands on the page from its start, with zeros behind it.
 pub whole : {n : ℕ} {x : List ℕ} (r : Ran)
@@ -13,7 +13,7 @@ pub whole : {n : ℕ} {x : List ℕ} (r : Ran)
     → Put (replicate pageSize 0) 0 (reportOf r) x n
     → ((n ≡ length (reportOf r)) × (n ≤ pageSize)) × (x ≡ reportOf r ++ replicate (pageSize - n) 0)
 whole r size p =
-    let low : length (reportOf r) ≤ pageSize = omega (arith, report-low r size, report-fits) in
+    let low : length (reportOf r) ≤ pageSize = omega (arith, report-low r size) in
     let q = on-blank (reportOf r) low p in
     ((q .0, omega (arith, q .0)), q .1)
 

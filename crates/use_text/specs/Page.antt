@@ -1,5 +1,5 @@
 -- A text put on a page, from a place on.
-use Rattle.base.specs.Prelude.{ℕ, zero, suc, _+_, _-_, _≤_, _<_, add-zero, add-suc, suc-add, zero-add, zero-sub, suc-sub-suc, sub-zero, add-one, arith, _≡_, refl, sym, ap, _∙_, cond, List, [], _∷_, _++_, length, getD, set, take, drop, replicate, length-replicate, sets, sets-eq, take-suc, ltb, lt-ltb, le-ltb}
+use Rattle.base.specs.Prelude.{ℕ, zero, suc, _+_, _-_, _≤_, _<_, add-zero, add-suc, suc-add, zero-add, zero-sub, suc-sub-suc, sub-zero, add-one, arith, _≡_, refl, sym, ap, _∙_, cond, List, [], _∷_, _++_, length, set, drop, replicate, length-replicate, sets, sets-eq, ltb, lt-ltb}
 
 -- How many bytes a page has.
 abbrev pub pageSize : ℕ
@@ -47,30 +47,12 @@ pub nothing : (e : List ℕ) (a : ℕ) → Put e a [] e a
 unfolding putAll
 nothing e a = record { puts = refl }
 
--- A single byte.
-pub byte-put : (e : List ℕ) (a b : ℕ) → a < pageSize → Put e a (b ∷ []) (set e a b) (a + 1)
-unfolding putAll putByte
-byte-put e a b h = record { puts = rw (lt-ltb a pageSize h) }
-
-pub byte-cut : (e : List ℕ) (a b : ℕ) → pageSize ≤ a → Put e a (b ∷ []) e a
-unfolding putAll putByte
-byte-cut e a b h = record { puts = rw (le-ltb a pageSize h) }
-
--- One byte more of a text that is put from its front.
-pub words-more : {a b r : ℕ} {e x y : List ℕ} (w : List ℕ) (i : ℕ) → i < length w
-    → Put e a (take i w) x b
-    → Put x b (getD w i 0 ∷ []) y r
-    → Put e a (take (i + 1) w) y r
-words-more w i h p q = rw (add-one, take-suc w i 0 h) (after p q)
-
 -- A text that fits is put whole.
 fits : (e : List ℕ) (a : ℕ) (t : List ℕ) → a + length t ≤ pageSize → putAll (page e a) t ≡ page (sets e a t) (a + length t)
 unfolding putAll putByte
 fits e a [] h = rw add-zero
 fits e a (b ∷ t) h =
-    rw (lt-ltb a pageSize (omega arith), add-one)
-    (fits (set e a b) (suc a) t (omega (arith, suc-add a (length t), add-suc a (length t)))
-    ∙ ap (page (sets (set e a b) (suc a) t)) (suc-add a (length t) ∙ sym (add-suc a (length t))))
+    rw (lt-ltb a pageSize (omega arith), add-one, add-suc, ← suc-add) (fits (set e a b) (suc a) t (omega arith))
 
 drop-replicate : (n k v : ℕ) → drop k (replicate n v) ≡ replicate (n - k) v
 drop-replicate n zero v = rw sub-zero

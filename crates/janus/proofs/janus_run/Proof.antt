@@ -1,26 +1,12 @@
 -- `janus::janus_run` meets its contract: the test of the buffer's length and the run's ending say what is answered and written.
 -- Assumes nothing.
-use Rattle.base.specs.Prelude.{ℕ, _+_, arith, _≡_, _∙_, ap, List, append-nil, ⊎-elim, needs, eq-eqb, ne-eqb, length, drop-of-length-le, sets, sets-eq}
+use Rattle.base.specs.Prelude.{ℕ, _+_, arith, _≡_, _∙_, List, append-nil, ⊎-elim, needs, eq-eqb, ne-eqb, length, drop-of-length-le, sets, sets-eq}
 use Rattle.base.specs.Arrays.{length-mapped}
 use Rattle.model.specs.declared.Process.{Process}
-use Rattle.model.specs.declared.Ran.{Ran}
-use Rattle.model.specs.Runner.{run}
 use Rattle.model.specs.Export.{decidedBytes, endingCode, endingBuffer, exportCode, exportBuffer}
 use Rattle.janus_decided.specs.Bytes.{length-bytes}
 use Rattle.janus.proofs.janus_run.Statement.{statement}
 use Rattle.janus.proofs.janus_run.Tie as tie
-
--- With a buffer of 256 bytes the run's ending decides.
-module _ (s : List ℕ) (budget : ℕ) (b : List ℕ) {r : Ran} (size : length b ≡ 256) (e : r ≡ run s budget) where
-  answered : {k : ℕ} → k ≡ endingCode (r .ending) → k ≡ exportCode s budget b
-  unfolding exportCode
-  answered h = rw (eq-eqb (length b) 256 size) (h ∙ ap (λ (x : Ran). endingCode (x .ending)) e)
-
-  leaves : {out : List ℕ} → out ≡ endingBuffer (r .ending) (r .session .processes) b → out ≡ exportBuffer s budget b
-  unfolding exportBuffer
-  leaves h =
-      rw (eq-eqb (length b) 256 size)
-      (h ∙ ap (λ (x : Ran). endingBuffer (x .ending) (x .session .processes) b) e)
 
 -- The bytes of 64 processes fill it.
 filled : (b : List ℕ) (qs : List Process) → length b ≡ 256 → length qs ≡ 64 → sets b 0 (decidedBytes qs) ≡ decidedBytes qs
@@ -37,15 +23,18 @@ returns : tie.Need-returns
 unfolding exportCode exportBuffer
 returns c = (rw (ne-eqb _ 256 (c .if1 .taken)), rw (ne-eqb _ 256 (c .if1 .taken)))
 
+-- With a buffer of 256 bytes the run's ending decides.
 returns-2 : tie.Need-returns-2
+unfolding exportCode exportBuffer
 returns-2 c =
     let a = c .before .before .before in
-    let size = a .before .if1 .left in
+    let size = eq-eqb _ 256 (a .before .if1 .left) in
     let e = c .before .ending2 .given .1 in
-    (answered _ _ _ size (a .run .ensures) (rw e), leaves _ _ _ size (a .run .ensures) (rw e))
+    (rw (size, ← a .run .ensures, e), rw (size, ← a .run .ensures, e))
 
 -- A session was made: by each of the three arms that come here.
 returns-3 : tie.Need-returns-3
+unfolding exportCode exportBuffer
 returns-3 c =
     let put = c .before .before in
     let m = put .before .before in
@@ -59,8 +48,8 @@ returns-3 c =
     (λ w. (w .2 ∙ rw (w .1 .given .1), rw (w .1 .given .1)))
     (⊎-elim (λ w. (w .3 ∙ rw (w .1 .given .1), rw (w .1 .given .1))) (λ w. (w .2 ∙ rw (w .1 .given .1), rw (w .1 .given .1))))
     (m .match .came) in (
-      answered _ _ _ size (a .run .ensures) (told .0),
-      leaves _ _ _ size (a .run .ensures) (put .put-decided .ensures ∙ filled b qs size (long a) ∙ told .1),
+      rw (eq-eqb _ 256 size, ← a .run .ensures) (told .0),
+      rw (eq-eqb _ 256 size, ← a .run .ensures) (put .put-decided .ensures ∙ filled b qs size (long a) ∙ told .1),
     )
 
 pub janus-run-spec : {M : Type 1} → statement M

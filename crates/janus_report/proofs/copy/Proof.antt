@@ -1,15 +1,13 @@
 -- `janus_report::copy` meets its contract. The loop's invariant: i bytes are copied, and the rest is as it was. Assumes nothing.
-use Rattle.base.specs.Prelude.{_-_, _≤_, arith, _≡_, refl, _∙_, _++_, length, take, drop, length-set, needs}
+use lib.Seq.{paste-suc}
+use Rattle.base.specs.Prelude.{_-_, _≤_, add-one, zero-add, arith, _≡_, refl, _∙_, _++_, length, take, drop, length-set, needs}
 use denote.Ref.{now}
-use Rattle.janus_report.specs.Copied.{copied-more}
 use Rattle.janus_report.proofs.copy.Statement.{statement}
 use Rattle.janus_report.proofs.copy.Tie as tie
 
 abbrev Inv-loop : tie.InvT-loop
 Inv-loop from n buffer₀ i₀ buffer i =
     (i ≤ n)
-    × (n ≤ length from)
-    × (n ≤ length buffer₀)
     × (length buffer ≡ length buffer₀)
     × (buffer ≡ take i from ++ drop i buffer₀)
 
@@ -17,7 +15,7 @@ abbrev μ-loop : tie.MeasureT-loop
 μ-loop from n buffer₀ i₀ buffer i = n - i
 
 loop-holds : tie.Need-loop-holds Inv-loop μ-loop
-loop-holds c = (omega arith, c .pre .0, c .pre .1, refl, refl)
+loop-holds c = (omega arith, refl, refl)
 
 loop-again : tie.Need-loop-again Inv-loop μ-loop
 loop-again c =
@@ -25,17 +23,15 @@ loop-again c =
     let a = l .before .args in
     let inv = l .loop .inv in (
       omega arith,
-      inv .1,
-      inv .2,
-      simp length-set (inv .3),
-      rw (inv .4) (copied-more (now (a .from)) (now (a .buffer)) (l .loop .i) (omega arith) (omega arith)),
+      simp length-set (inv .1),
+      rw (inv .2, add-one) (simp zero-add at (paste-suc (now (a .buffer)) 0 (now (a .from)) (l .loop .i) 0 (omega arith) (omega arith))),
     )
 
 returns : tie.Need-returns Inv-loop μ-loop
 returns c =
     let inv = c .before .loop .inv in
     let e : c .before .loop .i ≡ c .before .before .args .n = omega arith in
-    inv .4 ∙ rw e
+    inv .2 ∙ rw e
 
 pub copy-spec : {M : Type 1} → statement M
 copy-spec =

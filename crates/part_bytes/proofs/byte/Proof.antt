@@ -5,9 +5,6 @@ use Rattle.part_bytes.specs.Beyond.{byte-beyond}
 use Rattle.part_bytes.proofs.byte.Statement.{statement}
 use Rattle.part_bytes.proofs.byte.Tie as tie
 
-returns : tie.Need-returns
-returns c = refl
-
 returns-2 : tie.Need-returns-2
 returns-2 c =
     let a = c .before .args in
@@ -16,4 +13,4 @@ returns-2 c =
 pub byte-spec : {M : Type 1} → statement M
 byte-spec =
     tie.close
-    (tie.spec (λ c. search needs) returns returns-2)
+    (tie.spec (λ c. search needs) (λ c. refl) returns-2)

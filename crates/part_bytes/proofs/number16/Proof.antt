@@ -3,8 +3,5 @@ use Rattle.base.specs.Prelude.{refl, needs}
 use Rattle.part_bytes.proofs.number16.Statement.{statement}
 use Rattle.part_bytes.proofs.number16.Tie as tie
 
-returns : tie.Need-returns
-returns c = refl
-
 pub number16-spec : {M : Type 1} → statement M
-number16-spec = tie.close (tie.spec (λ c. search needs) (λ c. search needs) returns)
+number16-spec = tie.close (tie.spec (λ c. search needs) (λ c. search needs) (λ c. refl))

@@ -3,8 +3,5 @@ use mathlib.Core.Path.{refl}
 use Rattle.part_moves.proofs.crashed.Statement.{statement}
 use Rattle.part_moves.proofs.crashed.Tie as tie
 
-returns : tie.Need-returns
-returns c = refl
-
 pub crashed-spec : {M : Type 1} → statement M
-crashed-spec = tie.close (tie.spec returns)
+crashed-spec = tie.close (tie.spec (λ c. refl))

@@ -4,13 +4,6 @@ use Rattle.model.specs.Step.{learnt}
 use Rattle.part_moves.proofs.learnt.Statement.{statement}
 use Rattle.part_moves.proofs.learnt.Tie as tie
 
-blank : tie.Need-returns
-unfolding learnt
-blank c = simp (eq-eqb _ _ (c .if1 .taken)) refl
-
-filled : tie.Need-returns-2
-unfolding learnt
-filled c = simp (ne-eqb _ _ (c .if1 .left)) refl
-
 pub learnt-spec : {M : Type 1} → statement M
-learnt-spec = tie.close (tie.spec blank filled)
+unfolding learnt
+learnt-spec = tie.close (tie.spec (λ c. simp (eq-eqb _ _ (c .if1 .taken)) refl) (λ c. simp (ne-eqb _ _ (c .if1 .left)) refl))

@@ -3,8 +3,5 @@ use mathlib.Core.Path.{refl}
 use Rattle.part_moves.proofs.proposed.Statement.{statement}
 use Rattle.part_moves.proofs.proposed.Tie as tie
 
-returns : tie.Need-returns
-returns c = refl
-
 pub proposed-spec : {M : Type 1} → statement M
-proposed-spec = tie.close (tie.spec returns)
+proposed-spec = tie.close (tie.spec (λ c. refl))

@@ -15,21 +15,19 @@ answer c = sym (rw (c .before .least .ensures) at (c .more .ensures))
 below : (c : tie.Then1) → let a = c .before .before .before .args in a .i + 1 < min (a .round) (a .window)
 below c = ltb-true _ _ (answer (c .before) ∙ c .if1 .taken)
 
-compare : tie.Need-returns
-unfolding goOn
-compare c = simp (answer (c .before) ∙ c .if1 .taken) refl
-
-check : tie.Need-returns-2
-unfolding goOn
-check c =
-    let a = c .before .before .before .before .args in
-    simp (answer (c .before .before) ∙ c .before .if1 .left, le-leb (a .window) (a .round) (c .if2 .taken)) refl
-
-wait : tie.Need-returns-3
-unfolding goOn
-wait c =
-    let a = c .before .before .before .before .args in
-    simp (answer (c .before .before) ∙ c .before .if1 .left, lt-leb (a .window) (a .round) (c .if2 .left)) refl
-
 pub go-on-spec : {M : Type 1} → statement M
+unfolding goOn
 go-on-spec = tie.close (tie.spec (search needs) (search needs) (λ c. omega (arith, below c)) compare check wait)
+  where
+    compare : tie.Need-returns
+    compare c = simp (answer (c .before) ∙ c .if1 .taken) refl
+
+    check : tie.Need-returns-2
+    check c =
+        let a = c .before .before .before .before .args in
+        simp (answer (c .before .before) ∙ c .before .if1 .left, le-leb (a .window) (a .round) (c .if2 .taken)) refl
+
+    wait : tie.Need-returns-3
+    wait c =
+        let a = c .before .before .before .before .args in
+        simp (answer (c .before .before) ∙ c .before .if1 .left, lt-leb (a .window) (a .round) (c .if2 .left)) refl

@@ -1,7 +1,6 @@
 -- `part_next::lead` meets its contract, at every window. Assumes nothing.
-use Rattle.base.specs.Prelude.{refl, add-assoc, needs, lt-ltb, le-ltb, eq-eqb, ne-eqb}
+use Rattle.base.specs.Prelude.{add-assoc, needs, lt-ltb, le-ltb, eq-eqb, ne-eqb}
 use Rattle.model.specs.Step.{nextAt}
-use Rattle.part_next.proofs.Cases.{made}
 use Rattle.part_next.proofs.lead.Statement.{statement}
 use Rattle.part_next.proofs.lead.Tie as tie
 
@@ -14,5 +13,5 @@ lead-spec =
     (λ c W. simp (lt-ltb _ _ (c .before .before .if1 .taken), eq-eqb _ _ (c .before .if2 .taken))
     (c .process .ensures))
     (λ c W. simp (lt-ltb _ _ (c .before .before .before .if1 .taken), ne-eqb _ _ (c .before .before .if2 .left))
-    (made (c .process2 .ensures) (simp add-assoc at (c .before .upward .ensures)) refl))
+    (rw (c .process2 .ensures, simp add-assoc at (c .before .upward .ensures))))
     (λ c W. simp (le-ltb _ _ (c .before .if1 .left)) (c .process3 .ensures)))

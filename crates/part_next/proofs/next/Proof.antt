@@ -1,85 +1,14 @@
 -- `part_next::next` meets its contract: each arm is told the phase, and the callees' answers make the process. Assumes nothing.
-use Rattle.base.specs.Prelude.{_≡_, refl, needs}
+use Rattle.base.specs.Prelude.{ℕ, _≡_, refl, needs}
 use Rattle.model.specs.declared.Phase.{Phase}
 use Rattle.model.specs.declared.Process.{Process}
-use Rattle.model.specs.Step.{next, nextAt}
-use Rattle.part_next.proofs.Cases.{made, becomes}
+use Rattle.model.specs.Step.{process, next, nextAt}
 use Rattle.part_next.proofs.next.Statement.{statement}
 use Rattle.part_next.proofs.next.Tie as tie
 
--- ---- what each arm answers
-
--- By the phase that the arm is told, from the record and the value that the function is given.
-answer :
-    (s : tie.Start) {φ : Phase} {p : Process} →
-    let a = s .args in
-    a .q .phase ≡ φ →
-    p ≡ nextAt (a .window) (a .limit) (a .q .round) (a .q .estimate) φ (a .leader) (a .x) →
-    p ≡ next (a .window) (a .limit) (a .q) (a .leader) (a .x)
-answer s = let a = s .args in becomes (a .window) (a .limit) (a .q) (a .leader) (a .x)
-
-idle : tie.Need-returns
-unfolding nextAt
-idle c = answer (c .before .before .before) (c .before .enum-told .given .1) (c .process .ensures)
-
-waiting-yes : tie.Need-returns-2
-unfolding nextAt
-waiting-yes c =
-    let t = c .before .before in
-    answer (t .before .before) (t .enum-told2 .given .1)
-    (rw (c .before .if1 .taken) (c .lead .ensures (t .before .before .args .window)))
-
-waiting-no : tie.Need-returns-3
-unfolding nextAt
-waiting-no c = answer (c .before .before .before .before) (c .before .before .enum-told2 .given .1) (rw (c .before .if1 .left) (c .process2 .ensures))
-
-write : tie.Need-returns-4
-unfolding nextAt
-write c = answer (c .before .before .before) (c .before .enum-told3 .given .1) (c .process3 .ensures)
-
-scan : tie.Need-returns-5
-unfolding nextAt
-scan c = answer (c .before .before .before .before .before) (c .before .before .before .phase .given .1) (made (c .process4 .ensures) (c .before .scan .ensures) refl)
-
-adopt : tie.Need-returns-6
-unfolding nextAt
-adopt c = answer (c .before .before .before .before .before) (c .before .before .before .phase2 .given .1) (made (c .process5 .ensures) refl (c .before .adopted .ensures))
-
-compare : tie.Need-returns-7
-unfolding nextAt
-compare c = answer (c .before .before .before .before .before) (c .before .before .before .phase3 .given .1) (made (c .process6 .ensures) (c .before .compare .ensures) refl)
-
-flag : tie.Need-returns-8
-unfolding nextAt
-flag c = answer (c .before .before .before .before .before) (c .before .before .before .phase4 .given .1) (made (c .process7 .ensures) (c .before .go-on .ensures) refl)
-
-check-mark : tie.Need-returns-9
-unfolding nextAt
-check-mark c = answer (c .before .before .before .before .before) (c .before .before .before .phase5 .given .1) (made (c .process8 .ensures) (c .before .check-mark .ensures) refl)
-
-check-value : tie.Need-returns-10
-unfolding nextAt
-check-value c = answer (c .before .before .before .before .before) (c .before .before .before .phase6 .given .1) (made (c .process9 .ensures) (c .before .check-value .ensures) refl)
-
-commit : tie.Need-returns-11
-unfolding nextAt
-commit c = answer (c .before .before .before) (c .before .enum-told4 .given .1) (c .process10 .ensures)
-
-exhausted : tie.Need-returns-12
-unfolding nextAt
-exhausted c = answer (c .before .before .before) (c .before .enum-told5 .given .1) (c .process11 .ensures)
-
-crashed : tie.Need-returns-13
-unfolding nextAt
-crashed c = answer (c .before .before .before) (c .before .enum-told6 .given .1) (c .process12 .ensures)
-
-decided : tie.Need-returns-14
-unfolding nextAt
-decided c = answer (c .before .before .before) (c .before .enum-told7 .given .1) (c .process13 .ensures)
-
--- ---- in the order of the code: of each arm what it is told of the phase and what its callees ask, then the answers
-
+-- In the order of the code: of each arm what it is told of the phase and what its callees ask, then the answers.
 pub next-spec : {M : Type 1} → statement M
+unfolding next nextAt
 next-spec =
     tie.close
     (tie.spec
@@ -98,3 +27,63 @@ next-spec =
     (search needs) (search needs)  -- decided: told, process
     idle waiting-yes waiting-no write scan adopt compare
     flag check-mark check-value commit exhausted crashed decided)
+  where
+    -- ---- what each arm answers
+
+    -- By the phase that the arm is told, from the record and the value that the function is given.
+    answer :
+        (s : tie.Start) {φ : Phase} {p : Process} →
+        let a = s .args in
+        a .q .phase ≡ φ →
+        p ≡ nextAt (a .window) (a .limit) (a .q .round) (a .q .estimate) φ (a .leader) (a .x) →
+        p ≡ next (a .window) (a .limit) (a .q) (a .leader) (a .x)
+    answer s told e = rw told e
+
+    -- The same process, by other names of its phase and its estimate.
+    made : {p : Process} {φ ψ : Phase} {r e f : ℕ} → p ≡ process φ r e → φ ≡ ψ → e ≡ f → p ≡ process ψ r f
+    made p φ e = cc
+
+    idle : tie.Need-returns
+    idle c = answer (c .before .before .before) (c .before .enum-told .given .1) (c .process .ensures)
+
+    waiting-yes : tie.Need-returns-2
+    waiting-yes c =
+        let t = c .before .before in
+        answer (t .before .before) (t .enum-told2 .given .1)
+        (rw (c .before .if1 .taken) (c .lead .ensures (t .before .before .args .window)))
+
+    waiting-no : tie.Need-returns-3
+    waiting-no c = answer (c .before .before .before .before) (c .before .before .enum-told2 .given .1) (rw (c .before .if1 .left) (c .process2 .ensures))
+
+    write : tie.Need-returns-4
+    write c = answer (c .before .before .before) (c .before .enum-told3 .given .1) (c .process3 .ensures)
+
+    scan : tie.Need-returns-5
+    scan c = answer (c .before .before .before .before .before) (c .before .before .before .phase .given .1) (made (c .process4 .ensures) (c .before .scan .ensures) refl)
+
+    adopt : tie.Need-returns-6
+    adopt c = answer (c .before .before .before .before .before) (c .before .before .before .phase2 .given .1) (made (c .process5 .ensures) refl (c .before .adopted .ensures))
+
+    compare : tie.Need-returns-7
+    compare c = answer (c .before .before .before .before .before) (c .before .before .before .phase3 .given .1) (made (c .process6 .ensures) (c .before .compare .ensures) refl)
+
+    flag : tie.Need-returns-8
+    flag c = answer (c .before .before .before .before .before) (c .before .before .before .phase4 .given .1) (made (c .process7 .ensures) (c .before .go-on .ensures) refl)
+
+    check-mark : tie.Need-returns-9
+    check-mark c = answer (c .before .before .before .before .before) (c .before .before .before .phase5 .given .1) (made (c .process8 .ensures) (c .before .check-mark .ensures) refl)
+
+    check-value : tie.Need-returns-10
+    check-value c = answer (c .before .before .before .before .before) (c .before .before .before .phase6 .given .1) (made (c .process9 .ensures) (c .before .check-value .ensures) refl)
+
+    commit : tie.Need-returns-11
+    commit c = answer (c .before .before .before) (c .before .enum-told4 .given .1) (c .process10 .ensures)
+
+    exhausted : tie.Need-returns-12
+    exhausted c = answer (c .before .before .before) (c .before .enum-told5 .given .1) (c .process11 .ensures)
+
+    crashed : tie.Need-returns-13
+    crashed c = answer (c .before .before .before) (c .before .enum-told6 .given .1) (c .process12 .ensures)
+
+    decided : tie.Need-returns-14
+    decided c = answer (c .before .before .before) (c .before .enum-told7 .given .1) (c .process13 .ensures)

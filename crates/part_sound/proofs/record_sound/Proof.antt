@@ -5,63 +5,9 @@ use Rattle.model_laws.specs.SoundRecords.{near, out, one, free, two, three}
 use Rattle.part_sound.proofs.record_sound.Statement.{statement}
 use Rattle.part_sound.proofs.record_sound.Tie as tie
 
--- ---- what each arm answers, by the phase that it is told
-
-idle : tie.Need-returns
-unfolding soundPhase
-idle c = let a = c .before .before .before .args in out (a .window) (a .limit) (a .member) (a .q) (c .before .enum-told .given .1) refl
-
-waiting : tie.Need-returns-2
-unfolding soundPhase
-waiting c = let a = c .before .before .before .args in c .held .ensures ∙ free (a .window) (a .limit) (a .member) (a .q) (c .before .enum-told2 .given .1) refl refl
-
-write : tie.Need-returns-3
-unfolding soundPhase
-write c = let a = c .before .before .before .args in rw (c .held2 .ensures) (one (a .window) (a .limit) (a .member) (a .q) (c .before .enum-told3 .given .1) refl refl)
-
-scan : tie.Need-returns-4
-unfolding soundPhase
-scan c = let a = c .before .before .before .before .args in rw (c .held3 .ensures) (three (a .window) (a .limit) (a .member) (a .q) (c .before .before .phase .given .1) refl _ _ _ refl)
-
-adopt : tie.Need-returns-5
-unfolding soundPhase
-adopt c = let a = c .before .before .before .before .args in rw (c .held4 .ensures) (three (a .window) (a .limit) (a .member) (a .q) (c .before .before .phase2 .given .1) refl _ _ _ refl)
-
-compare : tie.Need-returns-6
-unfolding soundPhase
-compare c = let a = c .before .before .before .before .args in rw (c .held5 .ensures) (three (a .window) (a .limit) (a .member) (a .q) (c .before .before .phase3 .given .1) refl _ _ _ (near (c .before .before .phase3 .given .0 .0) (a .q .round) (a .window)))
-
-flag : tie.Need-returns-7
-unfolding soundPhase
-flag c = let a = c .before .before .before .before .args in rw (c .held6 .ensures) (three (a .window) (a .limit) (a .member) (a .q) (c .before .before .phase4 .given .1) refl _ _ _ (near (c .before .before .phase4 .given .0 .0) (a .q .round) (a .window)))
-
-check-mark : tie.Need-returns-8
-unfolding soundPhase
-check-mark c = let a = c .before .before .before .before .args in rw (c .held7 .ensures) (two (a .window) (a .limit) (a .member) (a .q) (c .before .before .phase5 .given .1) refl _ _ refl)
-
-check-value : tie.Need-returns-9
-unfolding soundPhase
-check-value c = let a = c .before .before .before .before .args in rw (c .held8 .ensures) (two (a .window) (a .limit) (a .member) (a .q) (c .before .before .phase6 .given .1) refl _ _ refl)
-
-commit : tie.Need-returns-10
-unfolding soundPhase
-commit c = let a = c .before .before .before .args in rw (c .held9 .ensures) (one (a .window) (a .limit) (a .member) (a .q) (c .before .enum-told4 .given .1) refl refl)
-
-exhausted : tie.Need-returns-11
-unfolding soundPhase
-exhausted c = let a = c .before .before .before .args in rw (c .held10 .ensures) (one (a .window) (a .limit) (a .member) (a .q) (c .before .enum-told5 .given .1) refl refl)
-
-crashed : tie.Need-returns-12
-unfolding soundPhase
-crashed c = let a = c .before .before .before .args in c .held11 .ensures ∙ free (a .window) (a .limit) (a .member) (a .q) (c .before .enum-told6 .given .1) refl refl
-
-decided : tie.Need-returns-13
-unfolding soundPhase
-decided c = let a = c .before .before .before .args in c .held12 .ensures ∙ free (a .window) (a .limit) (a .member) (a .q) (c .before .enum-told7 .given .1) refl refl
-
--- ---- in the order of the code: what each arm is told of the phase and what `held` asks there, then the answers
-
+-- In the order of the code: what each arm is told of the phase and what `held` asks there, then the answers.
 pub record-sound-spec : {M : Type 1} → statement M
+unfolding soundPhase
 record-sound-spec =
     tie.close
     (tie.spec
@@ -80,3 +26,44 @@ record-sound-spec =
     (search needs) (search needs)  -- decided
     idle waiting write scan adopt compare flag
     check-mark check-value commit exhausted crashed decided)
+  where
+    -- ---- what each arm answers, by the phase that it is told
+
+    idle : tie.Need-returns
+    idle c = let a = c .before .before .before .args in out (a .window) (a .limit) (a .member) (a .q) (c .before .enum-told .given .1) refl
+
+    waiting : tie.Need-returns-2
+    waiting c = let a = c .before .before .before .args in c .held .ensures ∙ free (a .window) (a .limit) (a .member) (a .q) (c .before .enum-told2 .given .1) refl refl
+
+    write : tie.Need-returns-3
+    write c = let a = c .before .before .before .args in rw (c .held2 .ensures) (one (a .window) (a .limit) (a .member) (a .q) (c .before .enum-told3 .given .1) refl refl)
+
+    scan : tie.Need-returns-4
+    scan c = let a = c .before .before .before .before .args in rw (c .held3 .ensures) (three (a .window) (a .limit) (a .member) (a .q) (c .before .before .phase .given .1) refl _ _ _ refl)
+
+    adopt : tie.Need-returns-5
+    adopt c = let a = c .before .before .before .before .args in rw (c .held4 .ensures) (three (a .window) (a .limit) (a .member) (a .q) (c .before .before .phase2 .given .1) refl _ _ _ refl)
+
+    compare : tie.Need-returns-6
+    compare c = let a = c .before .before .before .before .args in rw (c .held5 .ensures) (three (a .window) (a .limit) (a .member) (a .q) (c .before .before .phase3 .given .1) refl _ _ _ (near (c .before .before .phase3 .given .0 .0) (a .q .round) (a .window)))
+
+    flag : tie.Need-returns-7
+    flag c = let a = c .before .before .before .before .args in rw (c .held6 .ensures) (three (a .window) (a .limit) (a .member) (a .q) (c .before .before .phase4 .given .1) refl _ _ _ (near (c .before .before .phase4 .given .0 .0) (a .q .round) (a .window)))
+
+    check-mark : tie.Need-returns-8
+    check-mark c = let a = c .before .before .before .before .args in rw (c .held7 .ensures) (two (a .window) (a .limit) (a .member) (a .q) (c .before .before .phase5 .given .1) refl _ _ refl)
+
+    check-value : tie.Need-returns-9
+    check-value c = let a = c .before .before .before .before .args in rw (c .held8 .ensures) (two (a .window) (a .limit) (a .member) (a .q) (c .before .before .phase6 .given .1) refl _ _ refl)
+
+    commit : tie.Need-returns-10
+    commit c = let a = c .before .before .before .args in rw (c .held9 .ensures) (one (a .window) (a .limit) (a .member) (a .q) (c .before .enum-told4 .given .1) refl refl)
+
+    exhausted : tie.Need-returns-11
+    exhausted c = let a = c .before .before .before .args in rw (c .held10 .ensures) (one (a .window) (a .limit) (a .member) (a .q) (c .before .enum-told5 .given .1) refl refl)
+
+    crashed : tie.Need-returns-12
+    crashed c = let a = c .before .before .before .args in c .held11 .ensures ∙ free (a .window) (a .limit) (a .member) (a .q) (c .before .enum-told6 .given .1) refl refl
+
+    decided : tie.Need-returns-13
+    decided c = let a = c .before .before .before .args in c .held12 .ensures ∙ free (a .window) (a .limit) (a .member) (a .q) (c .before .enum-told7 .given .1) refl refl

@@ -19,9 +19,6 @@ loop-holds c = (omega arith, simp sub-zero)
 mul-loop : tie.Need-mul-loop Inv-loop μ-loop
 mul-loop c = omega (arith, square-small (c .loop .m) 16 (c .loop .inv .0))
 
-add-m : tie.Need-add-m Inv-loop μ-loop
-add-m c = omega arith
-
 -- In a turn of the loop m is below 16, since its square is below n, a byte.
 below : (c : tie.In-loop Inv-loop μ-loop) → c .before .loop .m < 16
 below c = root-small (c .before .loop .m) 16 (omega arith)
@@ -32,12 +29,6 @@ loop-less c = omega (arith, below c)
 loop-again : tie.Need-loop-again Inv-loop μ-loop
 loop-again c = (omega (arith, below c), c .before .loop .inv .1 ∙ root-above _ _ (c .loop-test .taken))
 
-mul-result : tie.Need-mul-result Inv-loop μ-loop
-mul-result c = omega arith
-
-add-result : tie.Need-add-result Inv-loop μ-loop
-add-result c = omega arith
-
 returns : tie.Need-returns Inv-loop μ-loop
 unfolding window
 returns c = omega (arith, c .before .loop .inv .1, root-found (c .before .before .args .n - c .before .loop .m) _ _ (c .loop-test .left))
@@ -45,4 +36,4 @@ returns c = omega (arith, c .before .loop .inv .1, root-found (c .before .before
 pub window-spec : {M : Type 1} → statement M
 window-spec =
     tie.close
-    (tie.spec Inv-loop μ-loop loop-holds mul-loop add-m loop-less loop-again mul-result add-result returns)
+    (tie.spec Inv-loop μ-loop loop-holds mul-loop (λ c. omega arith) loop-less loop-again (λ c. omega arith) (λ c. omega arith) returns)

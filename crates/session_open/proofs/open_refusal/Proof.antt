@@ -1,5 +1,5 @@
 -- `session_open::open_refusal` meets its contract: the first test that holds gives the number. Assumes nothing.
-use Rattle.base.specs.Prelude.{ℕ, _≤_, _≡_, Bool, true, false, not, _&&_, arith, needs, leb-true, not-false, leb}
+use Rattle.base.specs.Prelude.{ℕ, _≤_, _≡_, refl, Bool, true, false, cond, not, _&&_, arith, needs, leb-true, not-false, leb}
 use Rattle.base.specs.Bools.{and-right}
 use Rattle.model.specs.declared.Limits.{Limits}
 use Rattle.model.specs.Window.{window}
@@ -14,21 +14,15 @@ module _ (most : Limits) (n L : ℕ) where
   few : not processes ≡ false → n ≤ most .processes
   few p = leb-true n (most .processes) (and-right (leb 1 n) _ (not-false processes p))
 
-  one : not processes ≡ true → 1 ≡ refusal (openTests most n L)
-  one p = rw p
-
-  -- Within the processes: by whether the round limit is.
-  module _ {W : ℕ} (w : W ≡ window n) (p : not processes ≡ false) where
-    two : not (leb W L && leb L (most .rounds)) ≡ true → 2 ≡ refusal (openTests most n L)
-    two q = rw (p, ← w, q)
-
-    none : not (leb W L && leb L (most .rounds)) ≡ false → 0 ≡ refusal (openTests most n L)
-    none q = rw (p, ← w, q)
+  -- The number, by the answers of the two tests.
+  number : {W : ℕ} (x y : Bool) → W ≡ window n → not processes ≡ x → not (leb W L && leb L (most .rounds)) ≡ y →
+      cond x 1 (cond y 2 0) ≡ refusal (openTests most n L)
+  number x y w p q = rw (p, ← w, q)
 
 returns : tie.Need-returns
 returns c =
     let a = c .before .before .before .args in
-    one (a .most) (a .n) (a .limit) (c .if1 .taken)
+    number (a .most) (a .n) (a .limit) true _ refl (c .if1 .taken) refl
 
 cast-window : tie.Need-cast-window
 cast-window c =
@@ -39,13 +33,13 @@ returns-2 : tie.Need-returns-2
 returns-2 c =
     let w = c .before in
     let a = w .before .before .before .before .args in
-    two (a .most) (a .n) (a .limit) (w .window .ensures) (w .before .if1 .left) (c .if2 .taken)
+    number (a .most) (a .n) (a .limit) false true (w .window .ensures) (w .before .if1 .left) (c .if2 .taken)
 
 returns-3 : tie.Need-returns-3
 returns-3 c =
     let w = c .before in
     let a = w .before .before .before .before .args in
-    none (a .most) (a .n) (a .limit) (w .window .ensures) (w .before .if1 .left) (c .if2 .left)
+    number (a .most) (a .n) (a .limit) false false (w .window .ensures) (w .before .if1 .left) (c .if2 .left)
 
 pub open-refusal-spec : {M : Type 1} → statement M
 open-refusal-spec =

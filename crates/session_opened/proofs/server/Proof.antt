@@ -3,8 +3,5 @@ use mathlib.Core.Path.{refl}
 use Rattle.session_opened.proofs.server.Statement.{statement}
 use Rattle.session_opened.proofs.server.Tie as tie
 
-returns : tie.Need-returns
-returns c = refl
-
 pub server-spec : {M : Type 1} → statement M
-server-spec = tie.close (tie.spec returns)
+server-spec = tie.close (tie.spec (λ c. refl))

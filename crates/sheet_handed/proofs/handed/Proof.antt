@@ -7,15 +7,11 @@ use Rattle.sheet_handed.proofs.handed.Tie as tie
 
 returns : tie.Need-returns
 unfolding handed
-returns c =
-    let p = c .before .before .before .args .place in
-    rw (le-leb 1 _ (left-more p 1 (c .before .if1 .taken)), c .entry-at .ensures)
+returns c = search (le-leb, left-more, c .entry-at .ensures)
 
 returns-2 : tie.Need-returns-2
 unfolding handed
-returns-2 c =
-    let p = c .before .before .args .place in
-    rw (lt-leb 1 _ (left-fewer p 1 (c .if1 .left)))
+returns-2 c = search (lt-leb, left-fewer)
 
 pub handed-spec : {M : Type 1} → statement M
 handed-spec =

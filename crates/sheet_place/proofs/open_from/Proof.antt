@@ -1,9 +1,9 @@
 -- `sheet_place::open_from` meets its contract. The loop's invariant: what is asked for is the first run from i on that has an entry,
 -- and i fits. The measure is the count of runs left. Assumes nothing.
-use Rattle.base.specs.Prelude.{_-_, _<_, arith, _≡_, _∙_, sym, ap, needs}
+use Rattle.base.specs.Prelude.{_-_, _<_, arith, _≡_, le-leb, lt-leb, needs}
 use Rattle.model.specs.Sheet.{runCount}
 use Rattle.sheet_place_laws.specs.Places.{encode, openFrom}
-use Rattle.sheet_place_laws.specs.Steps.{open-here, open-on, open-none}
+use Rattle.sheet_layout.specs.Runs.{left-none, left-next}
 use Rattle.sheet_place.proofs.open_from.Statement.{statement}
 use Rattle.sheet_place.proofs.open_from.Tie as tie
 
@@ -17,21 +17,24 @@ abbrev μ-loop : tie.MeasureT-loop
 loop-holds : tie.Need-loop-holds Inv-loop μ-loop
 loop-holds c = (rw (c .byte .ensures), c .before .before .pre, omega (arith, c .byte .ok))
 
+-- Run i is the first that is left: it is opened where it has an entry, else passed over.
 returns : tie.Need-returns Inv-loop μ-loop
+unfolding openFrom
 returns c =
     let at = c .before .before .before .before in
-    sym
-    (ap encode (at .before .before .loop .inv .0)
-    ∙ open-here (at .run-at .ensures) _ (at .before .loop-test .taken) (c .before .before .if1 .taken))
+    let run = at .run-at .ensures in
+    rw (at .before .before .loop .inv .0, left-next _ _ (at .before .loop-test .taken), ← run .offset-is, ← run .size-is, le-leb 6 _ (c .before .before .if1 .taken))
 
 loop-again : tie.Need-loop-again Inv-loop μ-loop
+unfolding openFrom
 loop-again c =
     let at = c .before .before in
     let inv = at .before .before .loop .inv in
-    (inv .0 ∙ open-on (at .run-at .ensures) _ (at .before .loop-test .taken) (c .if1 .left), omega (arith, inv .2), inv .2)
+    (rw (inv .0, left-next _ _ (at .before .loop-test .taken), ← at .run-at .ensures .size-is, lt-leb 6 _ (c .if1 .left)), omega (arith, inv .2), inv .2)
 
 returns-2 : tie.Need-returns-2 Inv-loop μ-loop
-returns-2 c = sym (ap encode (c .before .loop .inv .0) ∙ open-none _ _ _ (c .loop-test .left))
+unfolding openFrom
+returns-2 c = rw (c .before .loop .inv .0, left-none _ _ (c .loop-test .left)) (omega arith)
 
 pub open-from-spec : {M : Type 1} → statement M
 open-from-spec =

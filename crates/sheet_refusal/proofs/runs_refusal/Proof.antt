@@ -1,10 +1,11 @@
 -- `sheet_refusal::runs_refusal` meets its contract. The loop's invariant: the runs from i on, after `from`, and the code decide.
 -- The measure is the count of runs left. Assumes nothing.
-use Rattle.base.specs.Prelude.{_-_, sub-zero, ⊎-elim, _≡_, _∙_, sym, length, needs}
+use Rattle.base.specs.Prelude.{_-_, _%_, sub-zero, add-one, ⊎-elim, _≡_, _∙_, sym, length, le-leb, lt-leb, eq-eqb, ne-eqb, needs}
+use Rattle.base.specs.Bools.{cond-same}
 use Rattle.model.specs.Refusal.{refusal}
 use Rattle.model.specs.Sheet.{runsFrom}
-use Rattle.sheet_layout.specs.Runs.{runs-none}
-use Rattle.sheet_refusal.specs.RunTests.{runTests, leftRefusal, early, long, not-whole, on}
+use Rattle.sheet_layout.specs.Runs.{runs-none, left-next}
+use Rattle.sheet_refusal.specs.RunTests.{runTests, leftRefusal}
 use Rattle.sheet_refusal.proofs.runs_refusal.Statement.{statement}
 use Rattle.sheet_refusal.proofs.runs_refusal.Tie as tie
 
@@ -18,28 +19,27 @@ abbrev μ-loop : tie.MeasureT-loop
 loop-holds : tie.Need-loop-holds Inv-loop μ-loop
 loop-holds c = rw (sub-zero, c .byte .ensures)
 
+-- Run i is the first that is left. Its offset and its length decide.
 returns : tie.Need-returns Inv-loop μ-loop
 returns c =
     let at = c .before .before in
-    sym (at .before .before .loop .inv ∙ early (at .run-at .ensures) _ (at .before .loop-test .taken) _ _ _ (c .if1 .taken))
+    rw (at .before .before .loop .inv, left-next _ _ (at .before .loop-test .taken), ← at .run-at .ensures .offset-is, lt-leb _ _ (c .if1 .taken))
 
 returns-2 : tie.Need-returns-2 Inv-loop μ-loop
 returns-2 c =
     let at = c .before .before .before .before in
-    sym
-    (at .before .before .loop .inv
-    ∙ long (at .run-at .ensures) _ (at .before .loop-test .taken) _ _ _ (c .before .before .if1 .left) (c .if2 .taken))
+    let run = at .run-at .ensures in
+    rw (at .before .before .loop .inv, left-next _ _ (at .before .loop-test .taken), ← run .offset-is, ← run .size-is)
+    (rw (le-leb _ _ (c .before .before .if1 .left), lt-leb _ _ (c .if2 .taken)))
 
 loop-again : tie.Need-loop-again Inv-loop μ-loop
 loop-again c =
     let in-sheet = c .before .before in
     let at = in-sheet .before .before .before .before in
-    let e = in-sheet .before .before .if1 .left in
-    at .before .before .loop .inv
-    ∙ ⊎-elim
-    (λ w. not-whole (at .run-at .ensures) _ (at .before .loop-test .taken) _ _ _ e (in-sheet .if2 .left) (w .0 .taken) ∙ rw (w .1))
-    (λ w. on (at .run-at .ensures) _ (at .before .loop-test .taken) _ _ _ e (in-sheet .if2 .left) (w .0 .left) ∙ rw (w .1))
-    (c .if3 .came)
+    let run = at .run-at .ensures in
+    rw (at .before .before .loop .inv, left-next _ _ (at .before .loop-test .taken), ← run .offset-is, ← run .size-is)
+    (rw (le-leb _ _ (in-sheet .before .before .if1 .left), le-leb _ _ (in-sheet .if2 .left), add-one)
+    (⊎-elim (λ w. rw (w .1, ne-eqb (_ % 6) 0 (w .0 .taken), cond-same)) (λ w. rw (w .1, eq-eqb (_ % 6) 0 (w .0 .left))) (c .if3 .came)))
 
 returns-3 : tie.Need-returns-3 Inv-loop μ-loop
 returns-3 c = sym (c .before .loop .inv ∙ rw (runs-none _ _ _ (c .loop-test .left)))

@@ -1,7 +1,7 @@
 -- `use_report_highest::highest` meets its contract. The loop's invariant: the rounds from r + 1 on give the answer. Assumes nothing.
-use Rattle.base.specs.Prelude.{_-_, _≤_, arith, _≡_, refl, sym, _∙_, ⊎-elim, length, drop}
+use Rattle.base.specs.Prelude.{_-_, _≤_, arith, _≡_, refl, ⊎-elim, length, drop, drop-of-length-le, eq-eqb, ne-eqb}
 use Rattle.model.specs.Board.{highestFrom}
-use Rattle.use_report_highest.specs.Highest.{highest-filled, highest-blank, highest-done}
+use Rattle.use_report_highest.specs.Highest.{highest-next}
 use Rattle.use_report_highest.proofs.highest.Statement.{statement}
 use Rattle.use_report_highest.proofs.highest.Tie as tie
 
@@ -14,11 +14,12 @@ abbrev μ-loop : tie.MeasureT-loop
 again : tie.Need-loop-again Inv-loop μ-loop
 again c =
     let l = c .before .before .before .loop in
-    let v = c .before .before .before .before .args .values .now in (
+    let v = c .before .before .before .before .args .values .now in
+    let next = highest-next v (l .top) (l .r) (omega arith) in (
       omega arith,
       ⊎-elim
-          (λ w. rw (w .1) (l .inv .1 ∙ highest-filled v (l .top) (l .r) (omega arith) (w .0 .taken)))
-          (λ w. rw (w .1) (l .inv .1 ∙ highest-blank v (l .top) (l .r) (omega arith) (w .0 .left)))
+          (λ w. rw (w .1, l .inv .1, next, ne-eqb _ 0 (w .0 .taken)))
+          (λ w. rw (w .1, l .inv .1, next, eq-eqb _ 0 (w .0 .left)))
           (c .if1 .came),
     )
 
@@ -26,4 +27,4 @@ pub highest-spec : {M : Type 1} → statement M
 highest-spec =
     tie.close
     (tie.spec Inv-loop μ-loop (λ c. (omega arith, refl)) (λ c. omega arith) (λ c. omega arith) (λ c. omega arith) (λ c. omega arith)
-    (λ c. omega arith) again (λ c. sym (c .before .loop .inv .1 ∙ highest-done _ _ _ (c .loop-test .left))))
+    (λ c. omega arith) again (λ c. rw (c .before .loop .inv .1, drop-of-length-le _ (c .loop-test .left))))

@@ -3,10 +3,7 @@ use borrow.Author.Needs.{needs}
 use Rattle.use_report_lines.proofs.put_tally.Statement.{statement}
 use Rattle.use_report_lines.proofs.put_tally.Tie as tie
 
-returns : tie.Need-returns
-returns c = c .put-line .ensures
-
 -- In the order of the code: the words, the three counts, the numbers, the call.
 pub put-tally-spec : {M : Type 1} → statement M
 put-tally-spec =
-    tie.close (tie.spec (search needs) (search needs) (search needs) (search needs) (search needs) (search needs) returns)
+    tie.close (tie.spec (search needs) (search needs) (search needs) (search needs) (search needs) (search needs) (λ c. c .put-line .ensures))

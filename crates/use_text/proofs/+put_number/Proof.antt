@@ -21,14 +21,11 @@ abbrev below : ℕ → In 1 put-number-kinds.ps
 below t = and 1 put-number-kinds.ps (falls 1 put-number-kinds.ps _<_ μ-put-number t) put-number.Pre
 
 module _ (t : ℕ) where
-  cast-low : lts.Need-cast-put-byte (put-byte.Asked, put-byte.Learnt, below t, put-number.Post) (at t) put-number.Post
-  cast-low c = omega arith
-
   returns : lts.Need-returns (put-byte.Asked, put-byte.Learnt, below t, put-number.Post) (at t) put-number.Post
   returns c = same (sym (digits-low 19 _ (c .before .before .if1 .taken))) (c .put-byte .ensures)
 
   returns-2 : lts.Need-returns-2 (put-byte.Asked, put-byte.Learnt, below t, put-number.Post) (at t) put-number.Post
-  returns-2 c = same (sym (digits-last _ (omega arith) (omega arith))) (after (c .before .before .put-number .ensures) (c .put-byte2 .ensures))
+  returns-2 c = same (sym (digits-last 18 _ (omega arith) (omega arith))) (after (c .before .before .put-number .ensures) (c .put-byte2 .ensures))
 
 pub +put-number-spec : {M : Type 1} → statement M
 +put-number-spec =
@@ -37,7 +34,7 @@ pub +put-number-spec : {M : Type 1} → statement M
     (put-byte.Asked, put-byte.Learnt, below t, put-number.Post)
     (at t)
     put-number.Post
-    (cast-low t)
+    (λ c. omega arith)
     (λ c. omega arith)
     (λ c κs. search needs)
     (returns t)

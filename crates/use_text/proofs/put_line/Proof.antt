@@ -4,8 +4,7 @@ use Rattle.use_text.specs.Page.{after}
 use Rattle.use_text.proofs.put_line.Statement.{statement}
 use Rattle.use_text.proofs.put_line.Tie as tie
 
-returns : tie.Need-returns
-returns c = after (c .before .before .put-fields .ensures) (c .put-byte .ensures)
-
 pub put-line-spec : {M : Type 1} → statement M
-put-line-spec = tie.close (tie.spec (λ c κs. search needs) (λ c κs. search needs) returns)
+put-line-spec =
+    tie.close
+    (tie.spec (λ c κs. search needs) (λ c κs. search needs) (λ c. after (c .before .before .put-fields .ensures) (c .put-byte .ensures)))

@@ -1,6 +1,6 @@
 -- `use_text::put_words` meets its contract. The loop's invariant: the first i bytes of the words are put. Assumes nothing.
-use Rattle.base.specs.Prelude.{_-_, _≤_, arith, _≡_, refl, needs, length, take, take-all}
-use Rattle.use_text.specs.Page.{Put, nothing, same, words-more}
+use Rattle.base.specs.Prelude.{_-_, _≤_, arith, _≡_, refl, needs, length, take, add-one, take-suc, take-all}
+use Rattle.use_text.specs.Page.{Put, nothing, same, after}
 use Rattle.use_text.proofs.put_words.Statement.{statement}
 use Rattle.use_text.proofs.put_words.Tie as tie
 
@@ -20,7 +20,7 @@ loop-again : tie.Need-loop-again Inv-loop μ-loop
 loop-again c =
     let l = c .before .before .before .before .loop in
     let words = c .before .before .before .before .before .before .args .words .now in
-    (refl, omega arith, words-more words (l .i) (omega arith) (l .inv .2) (c .put-byte .ensures))
+    (refl, omega arith, rw (add-one, take-suc words (l .i) 0 (omega arith)) (after (l .inv .2) (c .put-byte .ensures)))
 
 returns : tie.Need-returns Inv-loop μ-loop
 returns c =

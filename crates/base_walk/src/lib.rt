@@ -1,0 +1,1 @@
+// What the walks by hand of functions with references share: no code.
