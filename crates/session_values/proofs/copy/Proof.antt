@@ -10,15 +10,13 @@ Inv-loop values count buffer₀ i₀ buffer i = Copied values count buffer₀ bu
 abbrev μ-loop : tie.MeasureT-loop
 μ-loop values count buffer₀ i₀ buffer i = count - i
 
-loop-again : tie.Need-loop-again Inv-loop μ-loop
-loop-again c =
-    let l = c .before .before in
-    let a = l .before .args in
-    copied-more (a .values .now) (a .count) (a .buffer .now) (l .loop .buffer) (l .loop .i) (l .loop .inv) (omega arith) (omega arith) (omega arith)
-
 -- In the order of the code: the addresses and the indexes, the step, the measure.
 pub copy-spec : {M : Type 1} → statement M
 copy-spec =
     tie.close
     (tie.spec Inv-loop μ-loop (λ c. (omega arith, refl, refl)) (λ c. omega arith) (λ c. omega arith) (λ c. omega arith) (λ c. omega arith) (λ c. omega arith)
-    (λ c. omega arith) loop-again (λ c. c .before .loop .inv .1) (λ c. copied-all _ _ _ _ (c .before .loop .i) (c .before .loop .inv) (c .loop-test .left)))
+    (λ c. omega arith)
+    (λ c.
+    let l = c .before .before in
+    copied-more _ (l .before .args .count) _ _ (l .loop .i) (l .loop .inv) (omega arith) (omega arith) (omega arith))
+    (λ c. c .before .loop .inv .1) (λ c. copied-all _ _ _ _ (c .before .loop .i) (c .before .loop .inv) (c .loop-test .left)))
