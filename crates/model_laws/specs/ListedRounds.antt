@@ -27,10 +27,3 @@ pub round-new : (T vs : List ℕ) (r n : ℕ) → n < length vs → (getD T r 0 
     → take n vs ≡ valuesTo T r → take (n + 1) (set vs n (getD T r 0)) ≡ valuesTo T (r + 1)
 unfolding valuesTo
 round-new T vs r n h ne none p = rw (add-one r, add-one n, take-suc-set vs n (getD T r 0), ne-eqb (getD T r 0) 0 ne, none, p)
-
--- One place more of a copy.
-pub copy-more : (v b : List ℕ) (i : ℕ) → i < length v → i < length b
-    → set (take i v ++ drop i b) i (getD v i 0) ≡ take (i + 1) v ++ drop (i + 1) b
-copy-more v b i h k =
-    rw (drop-cons b i 0, set-at (take i v) (getD b i 0) (drop (suc i) b) (getD v i 0) i (length-take-le i v (le-of-lt h)))
-    (rw (add-one, take-suc v i 0) (sym (append-snoc (take i v) (getD v i 0) (drop (suc i) b))))

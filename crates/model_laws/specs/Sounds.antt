@@ -24,11 +24,11 @@ pub record Sound (W : ℕ) (s : Session) : Type 0 where
 -- The test says so, and the other way round.
 pub sound-facts : (W : ℕ) (s : Session) → soundAt W s ≡ true → Sound W s
 unfolding soundAt
-sound-facts W s t = search (and-left, and-right, leb-true) depth 8
+sound-facts W s t = search (and-left, and-right, leb-true)
 
 pub facts-sound : (W : ℕ) (s : Session) → Sound W s → soundAt W s ≡ true
 unfolding soundAt
-facts-sound W s f = search (and-both, le-leb) depth 12
+facts-sound W s f = search (and-both, le-leb) depth 7
 
 -- A process that has not proposed is sound.
 pub idle-sound : (W L : ℕ) → soundProcess W L idle ≡ true

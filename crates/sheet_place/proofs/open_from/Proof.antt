@@ -23,14 +23,16 @@ unfolding openFrom
 returns c =
     let at = c .before .before .before .before in
     let run = at .run-at .ensures in
-    rw (at .before .before .loop .inv .0, left-next _ _ (at .before .loop-test .taken), ← run .offset-is, ← run .size-is, le-leb 6 _ (c .before .before .if1 .taken))
+    rw (at .before .before .loop .inv .0, left-next _ _ (at .before .loop-test .taken), ← run .offset-is, ← run .size-is)
+    (rw (le-leb 6 _ (c .before .before .if1 .taken)))
 
 loop-again : tie.Need-loop-again Inv-loop μ-loop
 unfolding openFrom
 loop-again c =
     let at = c .before .before in
     let inv = at .before .before .loop .inv in
-    (rw (inv .0, left-next _ _ (at .before .loop-test .taken), ← at .run-at .ensures .size-is, lt-leb 6 _ (c .if1 .left)), omega (arith, inv .2), inv .2)
+    let short = lt-leb 6 _ (c .if1 .left) in
+    (rw (inv .0, left-next _ _ (at .before .loop-test .taken), ← at .run-at .ensures .size-is, short), omega (arith, inv .2), inv .2)
 
 returns-2 : tie.Need-returns-2 Inv-loop μ-loop
 unfolding openFrom
