@@ -44,45 +44,45 @@ module _ (W L : ℕ) where
         soundProcess W L (nextAt W L r e φ leader x) ≡ true
     unfolding nextAt
     next-placed Idle leader x o some f = let z : _≡_ {A = ℕ} 0 1 = cc in absurd (omega arith)
-    next-placed Waiting false x o some f = placed-sound Waiting r e refl (omega known)
+    next-placed Waiting false x o some f = placed-sound _ r e refl (omega known)
     next-placed Waiting true x o some f =
         cond-cases (λ q. soundProcess W L q ≡ true) (ltb r L)
         (λ t.
         cond-cases (λ φ. soundProcess W L (process φ (r + 1) e) ≡ true) (eqb x 0)
-        (λ b. placed-sound Write (r + 1) e refl (omega known))
+        (λ b. placed-sound _ (r + 1) e refl (omega known))
         (λ b.
         cond-cases (λ φ. soundProcess W L (process φ (r + 1) e) ≡ true) (ltb (r + 1) L)
-        (λ u. placed-sound (Scan (r + 2)) (r + 1) e refl (omega known))
-        (λ u. placed-sound (Adopt L) (r + 1) e refl (omega known))))
-        (λ t. placed-sound Exhausted r e refl (omega known))
-    next-placed Write leader x o some f = placed-sound (Compare 0) r e refl (omega known)
+        (λ u. placed-sound _ (r + 1) e refl (omega known))
+        (λ u. placed-sound _ (r + 1) e refl (omega known))))
+        (λ t. placed-sound _ r e refl (omega known))
+    next-placed Write leader x o some f = placed-sound _ r e refl (omega known)
     next-placed (Scan k) leader x o some f =
         cond-cases Stays (eqb x 0)
-        (λ b. placed-sound (Adopt (k - 1)) r e refl (omega known))
+        (λ b. placed-sound _ r e refl (omega known))
         (λ b.
         cond-cases Stays (ltb k L)
-        (λ u. placed-sound (Scan (k + 1)) r e refl (omega known))
-        (λ u. placed-sound (Adopt L) r e refl (omega known)))
+        (λ u. placed-sound _ r e refl (omega known))
+        (λ u. placed-sound _ r e refl (omega known)))
     next-placed (Adopt k) leader x o some f =
-        placed-sound (Compare 0) k _ refl (cond-cases (λ v. 0 < v) (eqb x 0) (λ b. some) (λ b. omega known), f .2, omega known)
+        placed-sound _ k _ refl (cond-cases (λ v. 0 < v) (eqb x 0) (λ b. some) (λ b. omega known), f .2, omega known)
     next-placed (Compare i) leader x o some f =
-        cond-cases Stays (eqb x e) (λ b. go-on-sound i some (f .0)) (λ b. placed-sound (Flag i) r e refl (omega known))
+        cond-cases Stays (eqb x e) (λ b. go-on-sound i some (f .0)) (λ b. placed-sound _ r e refl (omega known))
     next-placed (Flag i) leader x o some f = go-on-sound i some (f .0)
     next-placed (CheckMark i) leader x o some f =
         cond-cases Stays (eqb x 0)
-        (λ b. placed-sound (CheckValue i) r e refl (omega known))
-        (λ b. placed-sound Waiting r e refl (omega known))
+        (λ b. placed-sound _ r e refl (omega known))
+        (λ b. placed-sound _ r e refl (omega known))
     next-placed (CheckValue i) leader x o some f =
         cond-cases Stays (eqb x e)
         (λ b.
         cond-cases Stays (ltb (i + 1) W)
-        (λ u. placed-sound (CheckMark (i + 1)) r e refl (omega known))
-        (λ u. placed-sound Commit r e refl (omega known)))
-        (λ b. placed-sound Waiting r e refl (omega known))
-    next-placed Commit leader x o some f = placed-sound Waiting r e refl (omega known)
-    next-placed Exhausted leader x o some f = placed-sound Exhausted r e refl (omega known)
-    next-placed Crashed leader x o some f = placed-sound Crashed r e refl (omega known)
-    next-placed Decided leader x o some f = placed-sound Decided r e refl (omega known)
+        (λ u. placed-sound _ r e refl (omega known))
+        (λ u. placed-sound _ r e refl (omega known)))
+        (λ b. placed-sound _ r e refl (omega known))
+    next-placed Commit leader x o some f = placed-sound _ r e refl (omega known)
+    next-placed Exhausted leader x o some f = placed-sound _ r e refl (omega known)
+    next-placed Crashed leader x o some f = placed-sound _ r e refl (omega known)
+    next-placed Decided leader x o some f = placed-sound _ r e refl (omega known)
 
   -- A work turn of a sound process that has proposed.
   pub next-sound : 1 ≤ W → (q : Process) (leader : Bool) (x : ℕ) → isOutside (status (q .phase)) ≡ false →
