@@ -1,0 +1,3 @@
+-- Laws of the sheet writer's definition.
+pub mod Laid
+pub mod Accepted

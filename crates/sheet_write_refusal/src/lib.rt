@@ -1,0 +1,80 @@
+// The refusal of what is to be written as a sheet. 02, wish 3: "Order: 1, 2, 12 for the entry buffer, 17, 13, then 15 if the output is too short."
+ghost use mathlib.Core.Path.{_≡_};
+ghost use mathlib.Core.Bool.{_&&_};
+ghost use Prim.Native.Nat.{_+_, _*_, _/_, _≤_};
+ghost use lib.ListN.{length};
+ghost use lib.Dec.{leb, eqb};
+ghost use Rattle.model_write.specs.Write.{total, wellFormed, bufferEntries, writeRefusal};
+use model::Limits;
+use model::Operation;
+
+// Whether the run lengths add up to so many entries, however large they are: each is taken off the entries that are left.
+fn add_up(lengths: &[usize], entries: usize) -> bool
+    ensures { λ r. ⌜ r ≡ eqb (total (now (lengths .entry))) entries ⌝ }
+{
+    let mut left = entries;
+    let mut i: usize = 0;
+    while i < lengths.len() {
+        let m = lengths[i];
+        if left < m {
+            return false;
+        }
+        left -= m;
+        i += 1;
+    }
+    left == 0
+}
+
+// "17: more than 16 runs, over 65,535 bytes, or run lengths that do not add up to the entries", of an entry buffer of so many bytes.
+fn writable(size: usize, lengths: &[usize]) -> bool
+    ensures { λ r. ⌜ r ≡ leb (length (now (lengths .entry))) 16 && leb (4 + 4 * length (now (lengths .entry)) + size) 65535 && eqb (total (now (lengths .entry))) (size / 6) ⌝ }
+{
+    let count = lengths.len();
+    if 16 < count {
+        return false;
+    }
+    if 65531 - 4 * count < size {
+        return false;
+    }
+    add_up(lengths, size / 6)
+}
+
+// 01, 13: "entry with an unknown kind or a wrong value".
+fn well_formed(entries: &[u8]) -> bool
+    requires { ⌜ length (now entries) ≤ 65535 ⌝ }
+    ensures { λ r. ⌜ r ≡ wellFormed (bufferEntries (now (entries .entry))) ⌝ }
+{
+    let count = entries.len() / 6;
+    let mut i: usize = 0;
+    while i < count {
+        let e = sheet_entry::entry_at(entries, (6 * i) as u16);
+        if let Operation::Malformed = e {
+            return false;
+        }
+        i += 1;
+    }
+    true
+}
+
+// 0 where it is accepted, within a caller's limits. `room` is the length of the output.
+pub fn refusal(most: Limits, n: usize, limit: usize, entries: &[u8], lengths: &[usize], room: usize) -> u32
+    ensures { λ r. ⌜ r ≡ writeRefusal most n limit (now (entries .entry)) (now (lengths .entry)) room ⌝ }
+{
+    let opening = session_open::open_refusal(most, n, limit);
+    if opening != 0 {
+        return opening;
+    }
+    if entries.len() % 6 != 0 {
+        return 12;
+    }
+    if !writable(entries.len(), lengths) {
+        return 17;
+    }
+    if !well_formed(entries) {
+        return 13;
+    }
+    if room < 4 + 4 * lengths.len() + entries.len() {
+        return 15;
+    }
+    0
+}
