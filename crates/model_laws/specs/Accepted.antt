@@ -1,5 +1,5 @@
 -- What is known where an operation is accepted: none of its tests holds.
-use Rattle.base.specs.Prelude.{ℕ, _<_, arith, _≡_, refl, false, List, [], _∷_, leb-false}
+use Rattle.base.specs.Prelude.{ℕ, _<_, arith, _≡_, false, List, [], _∷_, leb-false}
 use Rattle.base.specs.Bools.{cond-cases}
 use Rattle.model_laws.specs.Types.{Phase, Session, Counts, Operation, Propose, Step, Learn, Crash, Malformed}
 use Rattle.model.specs.Board.{processAt}
@@ -25,11 +25,6 @@ returned k (t ∷ ts) other =
 
 pub none-holds : (ts : List Test) → Without 0 ts → refusal ts ≡ 0 → NoneHolds ts
 none-holds ts other e = returned 0 ts other e .1
-
--- And where no test holds, 0 is returned.
-pub none-refuses : (ts : List Test) → NoneHolds ts → refusal ts ≡ 0
-none-refuses [] h = refl
-none-refuses (t ∷ ts) h = rw (h .0) (none-refuses ts (h .1))
 
 -- The operations' own tests have numbers from 5 on: not 0, and not 3.
 own-without : (k : ℕ) → k < 5 → (φ : Phase) (c : Counts) (o : Operation) → Without k (ownTests φ c o)

@@ -1,7 +1,7 @@
 -- Numbers in bytes: what was written is what is read.
 use lib.Seq.{getD-drop}
-use Rattle.base.specs.Prelude.{ℕ, zero, suc, _+_, _*_, _/_, _%_, _≤_, _<_, arith, add-zero, add-assoc, add-one, add-two, div-div-eq-div-mul, mod-eq-of-lt, _≡_, refl, sym, _∙_, ap}
-use Rattle.base.specs.Prelude.{List, [], _∷_, _++_, length, getD, drop, drop-cons, drop-drop}
+use Rattle.base.specs.Prelude.{ℕ, zero, suc, _+_, _*_, _/_, _%_, _≤_, _<_, arith, _≡_, refl, sym, _∙_, ap, List, [], _∷_, _++_, length, getD, drop}
+use Rattle.base.specs.Prelude.{add-zero, add-assoc, add-one, add-two, div-div-eq-div-mul, mod-eq-of-lt, drop-cons, drop-drop}
 use Rattle.model.specs.declared.Process.{Process}
 use Rattle.model.specs.Board.{idle}
 use Rattle.model.specs.Bytes.{byteAt, word16, word32, bytes16, bytes32}
@@ -40,7 +40,7 @@ drop-word16 s i low h =
 pub word32-low : (s : List ℕ) (i : ℕ) → AreBytes s → word32 s i < 4294967296
 word32-low s i low = omega (arith, low i, low (i + 1), low (i + 2), low (i + 2 + 1))
 
--- The number at the start is that of its two halves.
+-- The number at the start, by its two halves.
 pub word32-first : (v : ℕ) (xs : List ℕ) → v < 4294967296 → word32 (bytes32 v ++ xs) 0 ≡ v
 word32-first v xs low =
     let third : v / 65536 / 256 ≡ v / 16777216 = div-div-eq-div-mul v 65536 256 in

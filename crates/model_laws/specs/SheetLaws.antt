@@ -1,6 +1,7 @@
 -- The runs and the entries that are read from bytes.
 use lib.Seq.{getD-drop}
-use Rattle.base.specs.Prelude.{ℕ, zero, suc, _+_, _*_, arith, zero-add, add-zero, suc-add, add-assoc, _≡_, refl, _∙_, ap, ap₂, List, _∷_, _++_, length, drop}
+use Rattle.base.specs.Prelude.{ℕ, zero, suc, _+_, _*_, arith, _≡_, refl, _∙_, ap, ap₂, List, _∷_, _++_, length, drop}
+use Rattle.base.specs.Prelude.{zero-add, add-zero, suc-add, add-assoc}
 use Rattle.model.specs.Sheet.{runsFrom, entryAt, entriesAt}
 use Rattle.model_laws.specs.ByteLaws.{word32-drop}
 

@@ -1,6 +1,7 @@
 -- Runs without gaps: each starts where the one before it ends.
 use lib.Seq.{take-add}
-use Rattle.base.specs.Prelude.{ℕ, suc, _+_, _*_, _/_, _%_, _≤_, arith, _≡_, refl, sym, ap, ap₂, true, List, [], _∷_, map, length, take, drop, drop-drop, le-leb, eqb-true, eq-eqb}
+use Rattle.base.specs.Prelude.{ℕ, _+_, _*_, _/_, _%_, _≤_, arith, _≡_, refl, sym, ap, ap₂, true, List, [], _∷_, map, take, drop, drop-drop}
+use Rattle.base.specs.Prelude.{le-leb, eqb-true, eq-eqb}
 use Rattle.base.specs.Bools.{and-left, and-right, and-both}
 use Rattle.model.specs.Sheet.{Run, inOrder, wholeEntries, entriesAt, entriesOf}
 use Rattle.model.specs.Sound.{every}
@@ -14,12 +15,12 @@ lengths xs = map (λ (x : Run). x .size / 6) xs
 
 -- ---- runs that follow one another
 
--- The first starts where the pairs or the run before it end, and the others follow it.
+-- The first starts at the byte given, and the others follow it.
 pub follow-cons : (from size : ℕ) (x : Run) (xs : List Run) → follow from size (x ∷ xs) ≡ true
     → (x .offset ≡ from) × (follow (x .offset + x .size) size xs ≡ true)
 follow-cons from size x xs h = search (and-left, and-right, eqb-true)
 
--- They start before they end.
+-- They start no later than they end.
 pub follow-le : (from size : ℕ) (xs : List Run) → follow from size xs ≡ true → from ≤ size
 follow-le from size [] h = omega (arith, eqb-true from size h)
 follow-le from size (x ∷ xs) h =
@@ -31,50 +32,48 @@ pub follow-inOrder : (from size : ℕ) (xs : List Run) → follow from size xs �
 follow-inOrder from size [] h = refl
 follow-inOrder from size (x ∷ xs) h =
     let f = follow-cons from size x xs h in
-    let e = x .offset + x .size in
-    and-both
-    (and-both (le-leb from (x .offset) (omega arith)) (le-leb e size (follow-le e size xs (f .1))))
-    (follow-inOrder e size xs (f .1))
+    let starts : from ≤ x .offset = omega arith in
+    let ends = follow-le (x .offset + x .size) size xs (f .1) in
+    let later = follow-inOrder (x .offset + x .size) size xs (f .1) in
+    search (and-both, le-leb)
 
--- Those of whole entries are laid out by their lengths, up to the end.
-whole-size : (x : Run) (xs : List Run) → every wholeEntries (x ∷ xs) ≡ true → 6 * (x .size / 6) ≡ x .size
-whole-size x xs w = omega (arith, eqb-true (x .size % 6) 0 (and-left (wholeEntries x) (every wholeEntries xs) w))
+-- ---- runs of whole entries that follow one another
 
+-- The first has six bytes to an entry, and the others are whole.
+whole-cons : (x : Run) (xs : List Run) → every wholeEntries (x ∷ xs) ≡ true
+    → (6 * (x .size / 6) ≡ x .size) × (every wholeEntries xs ≡ true)
+whole-cons x xs w =
+    let six : x .size % 6 ≡ 0 = search (and-left, eqb-true) in
+    (omega arith, search and-right)
+
+-- They are laid out by their lengths.
 pub laidOut-lengths : (from size : ℕ) (xs : List Run) → follow from size xs ≡ true → every wholeEntries xs ≡ true
     → laidOut from (lengths xs) ≡ xs
 laidOut-lengths from size [] h w = refl
 laidOut-lengths from size (x ∷ xs) h w =
     let f = follow-cons from size x xs h in
-    rw (whole-size x xs w, ← f .0)
-    (ap (λ r. x ∷ r)
-    (laidOut-lengths (x .offset + x .size) size xs (f .1) (and-right (wholeEntries x) (every wholeEntries xs) w)))
+    let v = whole-cons x xs w in
+    rw (v .0, ← f .0) (ap (λ r. x ∷ r) (laidOut-lengths (x .offset + x .size) size xs (f .1) (v .1)))
 
+-- Their lengths add up to the bytes between their start and their end.
 pub total-lengths : (from size : ℕ) (xs : List Run) → follow from size xs ≡ true → every wholeEntries xs ≡ true
     → from + 6 * total (lengths xs) ≡ size
 total-lengths from size [] h w = omega (arith, eqb-true from size h)
 total-lengths from size (x ∷ xs) h w =
     let f = follow-cons from size x xs h in
-    omega (
-      arith,
-      whole-size x xs w,
-      total-lengths (x .offset + x .size) size xs (f .1) (and-right (wholeEntries x) (every wholeEntries xs) w),
-    )
+    let v = whole-cons x xs w in
+    omega (arith, total-lengths (x .offset + x .size) size xs (f .1) (v .1))
 
 -- ---- runs laid out
 
--- As many bytes are as many entries.
-sixths : (m : ℕ) → 6 * m / 6 ≡ m
-sixths m = omega arith
-
--- There are as many as lengths.
-pub length-laidOut : (from : ℕ) (ms : List ℕ) → length (laidOut from ms) ≡ length ms
-length-laidOut from [] = refl
-length-laidOut from (m ∷ ms) = ap suc (length-laidOut (from + 6 * m) ms)
+-- Six bytes to an entry.
+sixth : (m : ℕ) → 6 * m / 6 ≡ m
+sixth m = omega arith
 
 -- They have the lengths that they were laid out by.
 pub lengths-laidOut : (from : ℕ) (ms : List ℕ) → lengths (laidOut from ms) ≡ ms
 lengths-laidOut from [] = refl
-lengths-laidOut from (m ∷ ms) = ap₂ _∷_ (sixths m) (lengths-laidOut (from + 6 * m) ms)
+lengths-laidOut from (m ∷ ms) = ap₂ _∷_ (sixth m) (lengths-laidOut (from + 6 * m) ms)
 
 -- They are of whole entries.
 pub whole-laidOut : (from : ℕ) (ms : List ℕ) → every wholeEntries (laidOut from ms) ≡ true
@@ -90,10 +89,9 @@ module _ (s : List ℕ) where
   -- Their entries are those from the first byte on.
   pub entriesOf-laidOut : (from : ℕ) (ms : List ℕ) → entriesOf s (laidOut from ms) ≡ entriesAt s from (total ms)
   entriesOf-laidOut from [] = refl
-  entriesOf-laidOut from (m ∷ ms) =
-      rw (sixths m, entriesOf-laidOut (from + 6 * m) ms) (sym (entriesAt-add s from m (total ms)))
+  entriesOf-laidOut from (m ∷ ms) = rw (sixth m, entriesOf-laidOut (from + 6 * m) ms) (sym (entriesAt-add s from m (total ms)))
 
-  -- Their bytes are those from the first on.
+  -- Their bytes are those from the first one on.
   pub runBytes-laidOut : (from : ℕ) (ms : List ℕ) → runBytes s (laidOut from ms) ≡ take (6 * total ms) (drop from s)
   runBytes-laidOut from [] = refl
   runBytes-laidOut from (m ∷ ms) =
