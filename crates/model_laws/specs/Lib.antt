@@ -10,6 +10,7 @@ pub mod Sounds
 pub mod Operations
 pub mod Answers
 pub mod ByteLaws
+pub mod SheetLaws
 pub mod Passes
 pub mod SoundTests
 pub mod SoundRecords

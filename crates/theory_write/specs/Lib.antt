@@ -1,0 +1,8 @@
+-- The round trips of the sheet writer and the reader.
+pub mod Follow
+pub mod Pairs
+pub mod Sizes
+pub mod SheetOf
+pub mod Facts
+pub mod Written
+pub mod Read
