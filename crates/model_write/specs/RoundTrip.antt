@@ -17,8 +17,11 @@ use Rattle.model_write.specs.Write.{wellFormed, bufferEntries, wrote, wr
 -- ---- what is read of a sheet besides n and L
 
 -- Its cuts: the lengths of its runs, in entries.
+abbrev pub lengths : List Run → List ℕ
+lengths xs = map (λ (x : Run). x .size / 6) xs
+
 abbrev pub lengthsOf : List ℕ → List ℕ
-lengthsOf s = map (λ (x : Run). x .size / 6) (runs s)
+lengthsOf s = lengths (runs s)
 
 -- The bytes of its entries: those of its runs, one run after another.
 abbrev pub runBytes : List ℕ → List Run → List ℕ

@@ -38,7 +38,14 @@ fn put_entries(entries: &[u8], at: usize, sheet: &mut [u8])
 
 // Writes a sheet of the given entries, cut into runs of the given lengths, from the first byte of the output on; answers its size. Refused, the
 // output is as it was.
-pub fn write(most: Limits, n: usize, limit: usize, entries: &[u8], lengths: &[usize], sheet: &mut [u8]) -> CountAnswer
+pub fn write(
+    most: Limits,
+    n: usize,
+    limit: usize,
+    entries: &[u8],
+    lengths: &[usize],
+    sheet: &mut [u8],
+) -> CountAnswer
     ensures { λ r. ⌜ wrote r (now (sheet .exit)) ≡ written most n limit (now (entries .entry)) (now (lengths .entry)) (now (sheet .entry)) ⌝ }
 {
     let code = sheet_write_refusal::refusal(most, n, limit, entries, lengths, sheet.len());

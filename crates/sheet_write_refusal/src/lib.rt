@@ -57,7 +57,14 @@ fn well_formed(entries: &[u8]) -> bool
 }
 
 // 0 where it is accepted, within a caller's limits. `room` is the length of the output.
-pub fn refusal(most: Limits, n: usize, limit: usize, entries: &[u8], lengths: &[usize], room: usize) -> u32
+pub fn refusal(
+    most: Limits,
+    n: usize,
+    limit: usize,
+    entries: &[u8],
+    lengths: &[usize],
+    room: usize,
+) -> u32
     ensures { λ r. ⌜ r ≡ writeRefusal most n limit (now (entries .entry)) (now (lengths .entry)) room ⌝ }
 {
     let opening = session_open::open_refusal(most, n, limit);

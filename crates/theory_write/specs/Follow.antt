@@ -1,17 +1,13 @@
 -- Runs without gaps: each starts where the one before it ends.
 use lib.Seq.{take-add}
-use Rattle.base.specs.Prelude.{ℕ, _+_, _*_, _/_, _%_, _≤_, arith, _≡_, refl, sym, ap, ap₂, true, List, [], _∷_, map, take, drop, drop-drop}
+use Rattle.base.specs.Prelude.{ℕ, _+_, _*_, _/_, _%_, _≤_, arith, _≡_, refl, sym, ap, ap₂, true, List, [], _∷_, take, drop, drop-drop}
 use Rattle.base.specs.Prelude.{le-leb, eqb-true, eq-eqb}
 use Rattle.base.specs.Bools.{and-left, and-right, and-both}
 use Rattle.model.specs.Sheet.{Run, inOrder, wholeEntries, entriesAt, entriesOf}
 use Rattle.model.specs.Sound.{every}
 use Rattle.model_laws.specs.SheetLaws.{entriesAt-add}
 use Rattle.model_write.specs.Write.{laidOut, total}
-use Rattle.model_write.specs.RoundTrip.{runBytes, follow}
-
--- The lengths of runs in entries.
-abbrev pub lengths : List Run → List ℕ
-lengths xs = map (λ (x : Run). x .size / 6) xs
+use Rattle.model_write.specs.RoundTrip.{lengths, runBytes, follow}
 
 -- ---- runs that follow one another
 

@@ -1,7 +1,6 @@
 -- The round trips of the sheet writer and the reader.
 pub mod Follow
 pub mod Pairs
-pub mod Sizes
 pub mod SheetOf
 pub mod Facts
 pub mod Written

@@ -10,7 +10,8 @@ use Rattle.model_write.specs.RoundTrip.{lengthsOf, runBytes, entryBytes, gaples
 use Rattle.theory_write.specs.Follow.{laidOut-lengths, total-lengths, runBytes-laidOut}
 use Rattle.theory_write.specs.Pairs.{sheet-parts}
 use Rattle.theory_write.specs.SheetOf.{entries-sheetOf}
-use Rattle.theory_write.specs.Facts.{WriteFacts, read-facts, facts-write}
+use Rattle.model_write_laws.specs.Facts.{WriteFacts, facts-write}
+use Rattle.theory_write.specs.Facts.{read-facts}
 
 -- As many cuts as runs.
 length-lengthsOf : (s : List ℕ) → length (lengthsOf s) ≡ runCount s

@@ -6,10 +6,10 @@ use Rattle.model.specs.Sound.{every}
 use Rattle.model_laws.specs.ByteLaws.{word16-at}
 use Rattle.model_laws.specs.SheetLaws.{entriesAt-drop}
 use Rattle.model_write.specs.Write.{laidOut, pairBytes, sheetOf, total, bufferEntries}
-use Rattle.model_write.specs.RoundTrip.{lengthsOf, runBytes, entryBytes, follow, gapless}
-use Rattle.theory_write.specs.Follow.{lengths, lengths-laidOut, whole-laidOut, follow-laidOut, entriesOf-laidOut, runBytes-laidOut}
+use Rattle.model_write.specs.RoundTrip.{lengths, lengthsOf, runBytes, entryBytes, follow, gapless}
+use Rattle.theory_write.specs.Follow.{lengths-laidOut, whole-laidOut, follow-laidOut, entriesOf-laidOut, runBytes-laidOut}
 use Rattle.theory_write.specs.Pairs.{runsFrom-pairBytes}
-use Rattle.theory_write.specs.Sizes.{length-laidOut, length-pairBytes, length-sheetOf}
+use Rattle.model_write_laws.specs.Sizes.{length-laidOut, length-pairBytes, length-sheetOf}
 
 -- ---- its header, and its entries behind the pairs
 

@@ -8,10 +8,10 @@ use Rattle.model.specs.Runner.{runWithin}
 use Rattle.model_write.specs.Write.{sheetOf, writeRefusal, written}
 use Rattle.model_write.specs.RoundTrip.{gapless, ReadsAs, WrittenReads}
 use Rattle.theory_write.specs.Follow.{follow-inOrder}
-use Rattle.theory_write.specs.Sizes.{length-sheetOf}
+use Rattle.model_write_laws.specs.Sizes.{length-sheetOf}
 use Rattle.theory_write.specs.SheetOf.{processCount-sheetOf, runCount-sheetOf, roundLimit-sheetOf}
 use Rattle.theory_write.specs.SheetOf.{whole-sheetOf, gapless-sheetOf, lengthsOf-sheetOf, entryBytes-sheetOf, entries-sheetOf}
-use Rattle.theory_write.specs.Facts.{WriteFacts, write-facts}
+use Rattle.model_write_laws.specs.Facts.{WriteFacts, write-facts}
 
 module _ (most : Limits) (n L : ℕ) (es ms : List ℕ) (room : ℕ) (rounds : most .rounds < 65536) (a : WriteFacts most n L es ms room) where
   -- The round limit has 16 bits, and is read.

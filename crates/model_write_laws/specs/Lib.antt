@@ -1,3 +1,4 @@
 -- Laws of the sheet writer's definition.
+pub mod Sizes
 pub mod Laid
-pub mod Accepted
+pub mod Facts

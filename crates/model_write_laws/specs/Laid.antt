@@ -1,23 +1,10 @@
--- Runs laid out without gaps: their sizes, their pairs, and one run more.
+-- Runs laid out without gaps: one run more.
 use Rattle.base.specs.Prelude.{ℕ, suc, zero, _+_, _*_, _≤_, _<_, arith, add-one, le-of-lt, _≡_, refl, ap, _∙_, List, [], _∷_, _++_, append-assoc, length, length-append, getD, take, take-suc, length-take-le, sets}
 use Rattle.base.specs.Arrays.{sets-append}
 use Rattle.model.specs.Bytes.{bytes16}
 use Rattle.model.specs.Sheet.{Run}
-use Rattle.model_write.specs.Write.{laidOut, pairBytes, sheetOf, total}
-
--- ---- sizes
-
--- Four bytes to a pair.
-pub length-pairs : (from : ℕ) (ms : List ℕ) → length (pairBytes (laidOut from ms)) ≡ 4 * length ms
-length-pairs from [] = refl
-length-pairs from (m ∷ ms) = omega (arith, length-pairs (from + 6 * m) ms)
-
--- The header, the pairs and the entries.
-pub length-sheet : (n L : ℕ) (es ms : List ℕ) → length (sheetOf n L es ms) ≡ 4 + 4 * length ms + length es
-unfolding sheetOf
-length-sheet n L es ms = simp length-append (omega (arith, length-pairs (4 + 4 * length ms) ms))
-
--- ---- one run more
+use Rattle.model_write.specs.Write.{laidOut, pairBytes, total}
+use Rattle.model_write_laws.specs.Sizes.{length-laidOut, length-pairBytes}
 
 -- A run of m entries behind those of the lengths ms.
 abbrev pub runBehind : (from : ℕ) (ms : List ℕ) (m : ℕ) → Run
@@ -49,8 +36,9 @@ module _ (ms : List ℕ) (i : ℕ) (h : i < length ms) where
       sets (sets (sets s 4 (pairBytes (laidOut from (take i ms)))) (4 + 4 * i) (bytes16 (x .offset))) (6 + 4 * i) (bytes16 (x .size))
       ≡ sets s 4 (pairBytes (laidOut from (take (i + 1) ms)))
   pairs-more s from =
-      let e : length (pairBytes (laidOut from (take i ms))) ≡ 4 * i = length-pairs from (take i ms) ∙ ap (λ n. 4 * n) (length-take-le i ms (le-of-lt h)) in
-      rw (taken-more, pairs-behind, sets-append, e)
+      let e : length (pairBytes (laidOut from (take i ms))) ≡ 4 * i = simp (length-pairBytes, length-laidOut, length-take-le i ms (le-of-lt h)) in
+      let size : 6 + 4 * i ≡ suc (suc (4 + 4 * i)) = omega arith in
+      rw (taken-more, pairs-behind, sets-append, e, size)
 
 -- No part of the lengths adds up to more than all of them.
 pub total-part : (ms : List ℕ) (i : ℕ) → total (take i ms) ≤ total ms
