@@ -1,0 +1,96 @@
+-- `sheet_write_refusal::refusal` meets its contract: each part is tested in its turn. Assumes nothing.
+use denote.Ref.{now}
+use Rattle.base.specs.Prelude.{ℕ, _+_, _*_, _%_, arith, _≡_, sym, _∙_, cond, not, true, List, length, leb, ltb, eq-eqb, ne-eqb, le-ltb, lt-ltb, leb-true, not-false, not-true, needs}
+use Rattle.base.specs.Bools.{and-left, and-right}
+use Rattle.model_laws.specs.Types.{Limits}
+use Rattle.model.specs.Refusal.{refusal, openTests}
+use Rattle.model_laws.specs.Accepted.{refusal-append}
+use Rattle.model_write.specs.Write.{sheetOf, wholeBuffer, writable, wellFormed, bufferEntries, writeRefusal}
+use Rattle.model_write_laws.specs.Sizes.{length-sheetOf}
+use Rattle.sheet_write_refusal.proofs.refusal.Statement.{statement}
+use Rattle.sheet_write_refusal.proofs.refusal.Tie as tie
+
+module _ (most : Limits) (n L : ℕ) (es ms : List ℕ) (room : ℕ) {k : ℕ} (opening : k ≡ refusal (openTests most n L)) where
+  -- A refused opening decides.
+  opening-refused : (k ≡ 0 → ⊥) → k ≡ writeRefusal most n L es ms room
+  unfolding writeRefusal
+  opening-refused some = rw (refusal-append (openTests most n L) _ (omega arith), ← opening, ne-eqb k 0 some)
+
+  -- Else the writer's own tests do.
+  own-tests : k ≡ 0 → writeRefusal most n L es ms room ≡
+      cond (not (wholeBuffer es)) 12
+      (cond (not (writable n L es ms)) 17
+      (cond (not (wellFormed (bufferEntries es))) 13 (cond (ltb room (length (sheetOf n L es ms))) 15 0)))
+  unfolding writeRefusal
+  own-tests none = rw (refusal-append (openTests most n L) _ (omega arith), ← opening, none)
+
+returns : tie.Need-returns
+returns c =
+    let a = c .before .before .before .before .args in
+    opening-refused (a .most) (a .n) (a .limit) (now (a .entries)) (now (a .lengths)) (a .room) (c .before .open-refusal .ensures) (c .if1 .taken)
+
+-- Past the opening.
+own : (c : tie.Else1) →
+    let a = c .before .before .before .before .args in
+    let es = now (a .entries) in
+    let ms = now (a .lengths) in
+    writeRefusal (a .most) (a .n) (a .limit) es ms (a .room) ≡
+    cond (not (wholeBuffer es)) 12
+    (cond (not (writable (a .n) (a .limit) es ms)) 17
+    (cond (not (wellFormed (bufferEntries es))) 13 (cond (ltb (a .room) (length (sheetOf (a .n) (a .limit) es ms))) 15 0)))
+own c =
+    let a = c .before .before .before .before .args in
+    own-tests (a .most) (a .n) (a .limit) (now (a .entries)) (now (a .lengths)) (a .room) (c .before .open-refusal .ensures) (c .if1 .left)
+
+-- An entry buffer of no whole entries.
+returns-2 : tie.Need-returns-2
+returns-2 c = sym (own (c .before) ∙ rw (ne-eqb (_ % 6) 0 (c .if2 .taken)))
+
+-- Whether the sheet can be written, as the definition says it.
+told : (c : tie.After-writable) →
+    let a = c .before .before .before .before .before .before .args in
+    c .writable .result ≡ writable (a .n) (a .limit) (now (a .entries)) (now (a .lengths))
+told c =
+    let a = c .before .before .before .before .before .before .args in
+    rw (length-sheetOf (a .n) (a .limit) (now (a .entries)) (now (a .lengths))) (c .writable .ensures)
+
+-- Where it can.
+past-writable : (c : tie.Else3) →
+    let a = c .before .before .before .before .before .before .before .args in
+    let es = now (a .entries) in
+    writeRefusal (a .most) (a .n) (a .limit) es (now (a .lengths)) (a .room) ≡
+    cond (not (wellFormed (bufferEntries es))) 13 (cond (ltb (a .room) (4 + 4 * length (now (a .lengths)) + length es)) 15 0)
+past-writable c =
+    own (c .before .before .before)
+    ∙ rw (eq-eqb (_ % 6) 0 (c .before .before .if2 .left), ← told (c .before), not-false (c .before .writable .result) (c .if3 .left), length-sheetOf)
+
+returns-3 : tie.Need-returns-3
+returns-3 c =
+    sym (own (c .before .before .before) ∙ rw (eq-eqb (_ % 6) 0 (c .before .before .if2 .left), ← told (c .before), not-true (c .before .writable .result) (c .if3 .taken)))
+
+well-formed-requires : tie.Need-well-formed-requires
+well-formed-requires c κs =
+    let a = c .before .before .before .before .before .before .before .args in
+    let size = 4 + 4 * length (now (a .lengths)) + length (now (a .entries)) in
+    let ok = sym (c .before .writable .ensures) ∙ not-false (c .before .writable .result) (c .if3 .left) in
+    let few : leb size 65535 ≡ true = search (and-left, and-right) in
+    omega (arith, leb-true size 65535 few)
+
+returns-4 : tie.Need-returns-4
+returns-4 c = sym (past-writable (c .before .before) ∙ rw (← c .before .well-formed .ensures, not-true (c .before .well-formed .result) (c .if4 .taken)))
+
+returns-5 : tie.Need-returns-5
+returns-5 c =
+    let f = c .before .before in
+    sym (past-writable (f .before) ∙ rw (← f .well-formed .ensures, not-false (f .well-formed .result) (c .before .if4 .left), lt-ltb _ _ (c .if5 .taken)))
+
+returns-6 : tie.Need-returns-6
+returns-6 c =
+    let f = c .before .before in
+    sym (past-writable (f .before) ∙ rw (← f .well-formed .ensures, not-false (f .well-formed .result) (c .before .if4 .left), le-ltb _ _ (c .if5 .left)))
+
+pub refusal-spec : {M : Type 1} → statement M
+refusal-spec =
+    tie.close
+    (tie.spec (λ c κs. search needs) returns returns-2 (λ c κs. search needs) returns-3 well-formed-requires returns-4 (λ c. search needs) (λ c. search needs)
+    (λ c. search needs) returns-5 returns-6)
