@@ -2,3 +2,4 @@
 pub mod Sizes
 pub mod Laid
 pub mod Facts
+pub mod Stored
