@@ -7,13 +7,13 @@ ghost use Rattle.model_write.specs.Write.{laidOut, pairBytes, total, wrote, wri
 use model::CountAnswer;
 use model::Limits;
 
-// The pairs of runs of these lengths, the first at byte `first`, the others without gaps, stored from byte 4 on.
-fn put_pairs(lengths: &[usize], first: usize, sheet: &mut [u8])
+// The pairs of runs of these lengths, the first behind the pairs, the others without gaps, stored from byte 4 on.
+fn put_pairs(lengths: &[usize], sheet: &mut [u8])
     requires { ⌜ length (now lengths) ≤ 16 ⌝ }
-    requires { ⌜ first + 6 * total (now lengths) ≤ 65535 ⌝ }
-    ensures { λ _. ⌜ now (sheet .exit) ≡ sets (now (sheet .entry)) 4 (pairBytes (laidOut first (now (lengths .entry)))) ⌝ }
+    requires { ⌜ 4 + 4 * length (now lengths) + 6 * total (now lengths) ≤ 65535 ⌝ }
+    ensures { λ _. ⌜ now (sheet .exit) ≡ sets (now (sheet .entry)) 4 (pairBytes (laidOut (4 + 4 * length (now (lengths .entry))) (now (lengths .entry)))) ⌝ }
 {
-    let mut from = first;
+    let mut from = 4 + 4 * lengths.len();
     let mut i: usize = 0;
     while i < lengths.len() {
         let size = 6 * lengths[i];
@@ -60,7 +60,7 @@ pub fn write(
     sheet[0] = n as u8;
     sheet[1] = runs as u8;
     part_bytes_put::put16(sheet, 2, limit as u16);
-    put_pairs(lengths, first, sheet);
+    put_pairs(lengths, sheet);
     put_entries(entries, first, sheet);
     CountAnswer {
         code: 0,

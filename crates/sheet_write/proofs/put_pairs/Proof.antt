@@ -8,13 +8,13 @@ use Rattle.sheet_write.proofs.put_pairs.Statement.{statement}
 use Rattle.sheet_write.proofs.put_pairs.Tie as tie
 
 abbrev Inv-loop : tie.InvT-loop
-Inv-loop lengths first sheet₀ from₀ i₀ sheet from i =
+Inv-loop lengths sheet₀ from₀ i₀ sheet from i =
     (i ≤ length lengths)
-    × (from ≡ first + 6 * total (take i lengths))
-    × (sheet ≡ sets sheet₀ 4 (pairBytes (laidOut first (take i lengths))))
+    × (from ≡ 4 + 4 * length lengths + 6 * total (take i lengths))
+    × (sheet ≡ sets sheet₀ 4 (pairBytes (laidOut (4 + 4 * length lengths) (take i lengths))))
 
 abbrev μ-loop : tie.MeasureT-loop
-μ-loop lengths first sheet₀ from₀ i₀ sheet from i = length lengths - i
+μ-loop lengths sheet₀ from₀ i₀ sheet from i = length lengths - i
 
 -- The next run ends within 65,535 bytes.
 abbrev start-of : tie.At-loop Inv-loop μ-loop → tie.Start Inv-loop μ-loop
@@ -40,7 +40,7 @@ loop-again c =
     let i = l .loop .i in (
       omega arith,
       omega (arith, total-taken ms i (omega arith)),
-      rw (second .put162 .ensures, first .put16 .ensures, l .loop .inv .2, l .loop .inv .1) (pairs-more ms i (omega arith) (a .sheet .now) (a .first)),
+      rw (second .put162 .ensures, first .put16 .ensures, l .loop .inv .2, l .loop .inv .1) (pairs-more ms i (omega arith) (a .sheet .now) (4 + 4 * length ms)),
     )
 
 returns : tie.Need-returns Inv-loop μ-loop
@@ -49,7 +49,7 @@ returns c = let l = c .before in l .loop .inv .2 ∙ rw (take-all (l .loop .i) (
 pub put-pairs-spec : {M : Type 1} → statement M
 put-pairs-spec =
     tie.close
-    (tie.spec Inv-loop μ-loop loop-holds (λ c. search needs) (λ c. search needs) (λ c. omega (arith, low (c .before))) (λ c. search needs) (λ c. search needs) (λ c. omega (arith, low (c .before .before)))
+    (tie.spec Inv-loop μ-loop (λ c. search needs) (λ c. search needs) loop-holds (λ c. search needs) (λ c. search needs) (λ c. omega (arith, low (c .before))) (λ c. search needs) (λ c. search needs) (λ c. omega (arith, low (c .before .before)))
     (λ c κs. search needs) (λ c. search needs) (λ c. search needs) (λ c. omega (arith, low (c .before .before .before .before .before .before)))
     (λ c κs. search needs) (λ c. omega (arith, low (c .before .before .before .before .before .before .before .before .before))) (λ c. search needs)
     (λ c. search needs) loop-again (λ c. rw (c .before .loop .inv .2, length-sets)) returns)

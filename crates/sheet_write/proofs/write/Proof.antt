@@ -55,7 +55,7 @@ put-pairs-requires c κs =
 
 -- What is stored before the entries leaves the output as long as it was.
 as-long : (c : tie.After-put-pairs) →
-    length (c .put-pairs .last .1 .1 .0) ≡ length (now (start-of (c .before .before .before .before .before .before) .args .sheet))
+    length (c .put-pairs .last .1 .0) ≡ length (now (start-of (c .before .before .before .before .before .before) .args .sheet))
 as-long c = rw (c .put-pairs .ensures, length-sets, c .before .before .before .before .put16 .ensures, length-sets, length-set, length-set)
 
 put-entries-requires : tie.Need-put-entries-requires
