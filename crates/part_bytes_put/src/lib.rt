@@ -14,14 +14,14 @@ fn put(buffer: &mut [u8], i: usize, b: u8)
 }
 
 // A 16-bit number stored from byte `at` on.
-pub fn put16(buffer: &mut [u8], at: usize, v: u16)
-    ensures { λ _. ⌜ now (buffer .exit) ≡ sets (now (buffer .entry)) at (bytes16 v) ⌝ }
+pub fn put16(buffer: &mut [u8], at: usize, w: u16)
+    ensures { λ _. ⌜ now (buffer .exit) ≡ sets (now (buffer .entry)) at (bytes16 w) ⌝ }
 {
     if buffer.len() <= at {
         return;
     }
-    put(buffer, at, (v % 256) as u8);
-    put(buffer, at + 1, (v / 256 % 256) as u8);
+    put(buffer, at, (w % 256) as u8);
+    put(buffer, at + 1, (w / 256 % 256) as u8);
 }
 
 // A 32-bit number stored from byte `at` on.

@@ -8,7 +8,7 @@ use Rattle.part_bytes_put.proofs.put16.Tie as tie
 returns : tie.Need-returns
 returns c =
     let a = c .before .before .args in
-    sym (sets-beyond _ (a .at) (bytes16 (a .v)) (c .if1 .taken))
+    sym (sets-beyond _ (a .at) (bytes16 (a .w)) (c .if1 .taken))
 
 returns-2 : tie.Need-returns-2
 returns-2 c =
