@@ -2,7 +2,7 @@
 
 use crate::refusal::Refusal;
 use crate::session::check_opening;
-use crate::sheet::{Operation, ENTRY, HEADER, MAX_BYTES, MAX_PAIRS, PAIR};
+use crate::sheet::{ENTRY, HEADER, MAX_BYTES, MAX_PAIRS, PAIR};
 
 /// Writes the sheet of n, L and these entries to the first bytes of the output,
 /// cut into runs of so many entries each, and returns its size. The first run
@@ -46,12 +46,23 @@ fn size_of_sheet(entry_bytes: usize, runs: &[usize]) -> Result<usize, Refusal> {
     Ok(size)
 }
 
-/// 01, 13: each entry has a known kind and a value that fits it.
+/// The largest value of each kind: any for a proposal, a hint, and 0 for a look and
+/// a crash. (01, "Turn sheets".)
+const MAX_VALUES: [u32; 4] = [u32::MAX, 1, 0, 0];
+
+/// 01, 13: each entry has a known kind and a value that fits it. By the table, since
+/// what the entries ask for does not matter here.
 fn check_entries(entries: &[u8]) -> Result<(), Refusal> {
-    for entry in entries.chunks_exact(ENTRY) {
-        Operation::decode(entry)?;
+    let well_formed = |entry: &[u8]| {
+        let value = u32::from_le_bytes([entry[2], entry[3], entry[4], entry[5]]);
+        let most = MAX_VALUES.get(usize::from(entry[0]));
+        most.is_some_and(|most| value <= *most)
+    };
+    if entries.chunks_exact(ENTRY).all(well_formed) {
+        Ok(())
+    } else {
+        Err(Refusal::Entry)
     }
-    Ok(())
 }
 
 /// n, the number of pairs and L, then offset and length of each run.

@@ -218,6 +218,17 @@ fn round_trip_of(entries: &[u8]) {
 }
 
 #[test]
+fn thirteen_where_the_reader_has_it() {
+    let values = [0, 1, 2, 255, 256, 1 << 16, 1 << 24, 1 << 31, u32::MAX];
+    for (kind, value) in (0..=255).flat_map(|kind| values.map(|value| (kind, value))) {
+        let entry = raw(kind, 0, value);
+        let answer = answer((1, 3), &entry, &[1], 14).0;
+        let expected = Operation::decode(&entry).map(|_| 14);
+        assert_eq!(answer, expected.map_err(Refusal::code));
+    }
+}
+
+#[test]
 fn each_number_before_the_next() {
     let wrong = raw(9, 0, 0);
     refused(1, (0, 0), &wrong[..5], &[2], 0);
