@@ -96,15 +96,17 @@ static void start(size_t n, size_t most_rounds)
 
 static void entry(uint8_t kind, uint8_t seat, uint32_t value)
 {
-    uint8_t *bytes = entries + entries_length;
-    bytes[0] = kind;
-    bytes[1] = seat;
-    for (int i = 0; i < 4; i++)
-        bytes[2 + i] = (uint8_t)(value >> (8 * i));
+    put_entry(entries + entries_length, kind, seat, value);
     entries_length += JANUS_ENTRY_LENGTH;
 }
 
-/* A run of so many entries that are in order, or without the entries. */
+/* So many entries of all kinds. */
+static void add_entries(size_t count)
+{
+    for (size_t i = 0; i < count; i++)
+        entry((uint8_t)(i % 4), (uint8_t)(i / 4), i % 4 == 0 ? 0x01020304u * (uint32_t)i : i % 8 == 1);
+}
+
 static void cut(size_t length)
 {
     runs[run_count++] = length;
@@ -112,8 +114,7 @@ static void cut(size_t length)
 
 static void run(size_t length)
 {
-    for (size_t i = 0; i < length; i++)
-        entry((uint8_t)(i % 4), (uint8_t)(i / 4), i % 4 == 0 ? 0x01020304u * (uint32_t)i : i % 8 == 1);
+    add_entries(length);
     cut(length);
 }
 
@@ -187,30 +188,27 @@ static void largest(void)
     run(JANUS_ENTRIES_MAX);
     written("10,921 entries in one run");
     check(sheet_length == JANUS_SHEET_MAX - 1, "10,921 entries in one run", "65,534 bytes");
-    start(64, 256);
-    run(JANUS_ENTRIES_MAX + 1);
-    refused("10,922 entries", JANUS_BAD_CUTS);
+    add_entries(1);
+    runs[0]++;
+    refused("10,922 entries in one run", JANUS_BAD_CUTS);
     start(1, 3);
-    run(10917);
-    run(1);
-    run(1);
+    add_entries(10919);
+    cut(10917);
+    cut(1);
+    cut(1);
     written("10,919 entries in three runs");
-    run(1);
-    runs[2] = 2;
-    run_count = 3;
+    add_entries(1);
+    runs[2]++;
     check(JANUS_SHEET_SIZE(run_count, 10920) == JANUS_SHEET_MAX + 1, "10,920 entries in three runs", "65,536 bytes");
     refused("10,920 entries in three runs", JANUS_BAD_CUTS);
     start(1, 3);
-    for (int i = 0; i < JANUS_PAIRS_MAX; i++)
-        run(681);
-    for (int i = 0; i < 15; i++)
-        run(1);
-    runs[15] += 15;
-    run_count = JANUS_PAIRS_MAX;
+    add_entries(10911);
+    for (int i = 1; i < JANUS_PAIRS_MAX; i++)
+        cut(700);
+    cut(411);
     written("10,911 entries in sixteen runs");
-    run(1);
-    runs[0]++;
-    run_count = JANUS_PAIRS_MAX;
+    add_entries(1);
+    runs[15]++;
     refused("10,912 entries in sixteen runs", JANUS_BAD_CUTS);
 }
 
@@ -218,8 +216,8 @@ static void largest(void)
 static void sum(const char *what, size_t first, size_t second, uint32_t code)
 {
     start(1, 3);
-    run(3);
-    runs[0] = first;
+    add_entries(3);
+    cut(first);
     cut(second);
     if (code == JANUS_FINISHED)
         written(what);
@@ -246,8 +244,7 @@ static void sums(void)
     cut(1);
     refused("a sum of 2^64 and no entry", JANUS_BAD_CUTS);
     start(1, 3);
-    run(1);
-    run_count = 0;
+    add_entries(1);
     refused("an entry and no run", JANUS_BAD_CUTS);
 }
 
@@ -273,8 +270,8 @@ static void sizes(void)
     }
     for (size_t length = 0; length < 3 * JANUS_ENTRY_LENGTH; length++) {
         start(1, 3);
-        run(2);
-        runs[0] = length / JANUS_ENTRY_LENGTH;
+        add_entries(3);
+        cut(length / JANUS_ENTRY_LENGTH);
         entries_length = length;
         if (length % JANUS_ENTRY_LENGTH == 0)
             written("whole entries");
