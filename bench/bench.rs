@@ -54,8 +54,11 @@ fn running(run: fn(&[u8], u64, &mut [u8]) -> u32, sheet: &[u8]) -> impl FnMut() 
     move || assert_eq!(run(black_box(sheet), MOST as u64, &mut buffer), 0)
 }
 
-/// A call that writes the same sheet of one run, and returns its size, or 0.
-fn writing(write: fn(usize, usize, &[u8], &[usize], &mut [u8]) -> usize, sheet: &[u8]) -> impl FnMut() + '_ {
+/// The size of the sheet of n, L, entries and run lengths that is written to an output; 0 where it is refused.
+type Writer = fn(usize, usize, &[u8], &[usize], &mut [u8]) -> usize;
+
+/// A call that writes the sheet, which has one run, once more.
+fn writing(write: Writer, sheet: &[u8]) -> impl FnMut() + '_ {
     let (n, limit) = (usize::from(sheet[0]), usize::from(u16::from_le_bytes([sheet[2], sheet[3]])));
     let (entries, mut output) = (&sheet[HEADER..], sheet.to_vec());
     let run = [entries.len() / ENTRY];

@@ -29,7 +29,7 @@ use janus_reference::{entry, window, write, Operation, Refusal, Sheet};
 // ---------------------------------------------------------------- calls
 
 /// The arguments of one call, the output by its length.
-#[derive(Clone, PartialEq)]
+#[derive(Clone)]
 struct Call {
     n: usize,
     limit: usize,
