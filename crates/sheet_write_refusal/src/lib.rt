@@ -1,13 +1,14 @@
 // The refusal of what is to be written as a sheet. 02, wish 3: "Order: 1, 2, 12 for the entry buffer, 17, 13, then 15 if the output is too short."
 ghost use mathlib.Core.Path.{_≡_};
 ghost use mathlib.Core.Bool.{_&&_};
-ghost use Prim.Native.Nat.{_+_, _*_, _/_, min};
+ghost use Prim.Native.Nat.{_+_, _*_, _/_};
 ghost use lib.ListN.{length};
 ghost use lib.Dec.{leb, eqb};
-ghost use Rattle.model.specs.Sheet.{entriesAt};
-ghost use Rattle.model_write.specs.Write.{total, wellFormed, writeRefusal};
+ghost use Rattle.model_write.specs.Write.{total, wellFormed, bufferEntries, writeRefusal};
 use model::Limits;
 use model::Operation;
+use part_entry::entry_of;
+use part_entry::number32;
 
 // Whether the run lengths add up to so many entries, however large they are: each is taken off the entries that are left.
 fn add_up(lengths: &[usize], entries: usize) -> bool
@@ -40,15 +41,23 @@ fn writable(size: usize, lengths: &[usize]) -> bool
     add_up(lengths, size / 6)
 }
 
-// 01, 13: "entry with an unknown kind or a wrong value": whether none of the first 10,922 entries is such a one. (No sheet has more.)
+// 01, 13: "entry with an unknown kind or a wrong value": whether no entry is such a one.
 fn well_formed(entries: &[u8]) -> bool
-    ensures { λ r. ⌜ r ≡ wellFormed (entriesAt (now (entries .entry)) 0 (min (length (now (entries .entry)) / 6) 10922)) ⌝ }
+    ensures { λ r. ⌜ r ≡ wellFormed (bufferEntries (now (entries .entry))) ⌝ }
 {
-    let whole = entries.len() / 6;
-    let count = if whole < 10922 { whole } else { 10922 };
+    let count = entries.len() / 6;
     let mut i: usize = 0;
     while i < count {
-        let e = sheet_entry::entry_at(entries, (6 * i) as u16);
+        let at = 6 * i;
+        let low = at + 2;
+        let high = low + 2;
+        let value = number32(
+            entries[low],
+            entries[low + 1],
+            entries[high],
+            entries[high + 1],
+        );
+        let e = entry_of(entries[at], entries[at + 1], value);
         if let Operation::Malformed = e {
             return false;
         }

@@ -1,7 +1,6 @@
 -- `sheet_write_refusal::refusal` meets its contract: each part is tested in its turn. Assumes nothing.
 use denote.Ref.{now}
-use Rattle.base.specs.Prelude.{ℕ, _+_, _*_, _/_, _%_, min, arith, _≡_, sym, _∙_, cond, not, true, List, length, leb, ltb, eq-eqb, ne-eqb, le-ltb, lt-ltb, leb-true, not-false, not-true, needs}
-use Rattle.base.specs.Bools.{and-left, and-right}
+use Rattle.base.specs.Prelude.{ℕ, _+_, _*_, _%_, arith, _≡_, sym, _∙_, cond, not, List, length, ltb, eq-eqb, ne-eqb, le-ltb, lt-ltb, not-false, not-true, needs}
 use Rattle.model_laws.specs.Types.{Limits}
 use Rattle.model.specs.Refusal.{refusal, openTests}
 use Rattle.model_laws.specs.Accepted.{refusal-append}
@@ -68,35 +67,22 @@ returns-3 : tie.Need-returns-3
 returns-3 c =
     sym (own (c .before .before .before) ∙ rw (eq-eqb (_ % 6) 0 (c .before .before .if2 .left), ← told (c .before), not-true (c .before .writable .result) (c .if3 .taken)))
 
--- Then there are so few entries that all of them are looked at.
-all-formed : (c : tie.After-well-formed) →
-    let es = now (c .before .before .before .before .before .before .before .before .args .entries) in
-    c .well-formed .result ≡ wellFormed (bufferEntries es)
-all-formed c =
-    let w = c .before in
-    let a = w .before .before .before .before .before .before .before .args in
-    let size = 4 + 4 * length (now (a .lengths)) + length (now (a .entries)) in
-    let ok = sym (w .before .writable .ensures) ∙ not-false (w .before .writable .result) (w .if3 .left) in
-    let few : leb size 65535 ≡ true = search (and-left, and-right) in
-    let all : min (length (now (a .entries)) / 6) 10922 ≡ length (now (a .entries)) / 6 = omega (arith, leb-true size 65535 few) in
-    c .well-formed .ensures ∙ rw all
-
 -- An entry is malformed.
 returns-4 : tie.Need-returns-4
 returns-4 c =
     let f = c .before in
-    sym (past-writable (f .before) ∙ rw (← all-formed f, not-true (f .well-formed .result) (c .if4 .taken)))
+    sym (past-writable (f .before) ∙ rw (← f .well-formed .ensures, not-true (f .well-formed .result) (c .if4 .taken)))
 
 -- The output is too short.
 returns-5 : tie.Need-returns-5
 returns-5 c =
     let f = c .before .before in
-    sym (past-writable (f .before) ∙ rw (← all-formed f, not-false (f .well-formed .result) (c .before .if4 .left), lt-ltb _ _ (c .if5 .taken)))
+    sym (past-writable (f .before) ∙ rw (← f .well-formed .ensures, not-false (f .well-formed .result) (c .before .if4 .left), lt-ltb _ _ (c .if5 .taken)))
 
 returns-6 : tie.Need-returns-6
 returns-6 c =
     let f = c .before .before in
-    sym (past-writable (f .before) ∙ rw (← all-formed f, not-false (f .well-formed .result) (c .before .if4 .left), le-ltb _ _ (c .if5 .left)))
+    sym (past-writable (f .before) ∙ rw (← f .well-formed .ensures, not-false (f .well-formed .result) (c .before .if4 .left), le-ltb _ _ (c .if5 .left)))
 
 pub refusal-spec : {M : Type 1} → statement M
 refusal-spec =
