@@ -5,3 +5,4 @@ pub mod SheetOf
 pub mod Facts
 pub mod Written
 pub mod Read
+pub mod Functions
