@@ -1,6 +1,6 @@
 -- Document 01, "One turn at a time": what an accepted turn does. A turn makes at most one register operation. So it is
 -- given in three parts: which register it accesses (`access`), what the process becomes by the value read (`next`), and
--- what is written (`written`). The counts follow from the access and, at a flag write, from the mark that it found (`counted`).
+-- what is written (`stored`). The counts follow from the access and, at a flag write, from the mark that it found (`counted`).
 use Prim.Native.Nat.{ℕ, _+_, _-_, min}
 use mathlib.Core.Bool.{Bool, true, false, cond}
 use lib.ListN.{set}
@@ -103,22 +103,22 @@ next W L q leader x = nextAt W L (q .round) (q .estimate) (q .phase) leader x
 unfoldable pub learnt : Process → ℕ → Process
 learnt q x = cond (eqb x 0) q (process Decided (q .round) x)
 
--- ---- what is written: the estimate to a register, or a mark
+-- ---- what is written: the session with the estimate stored in a register, or with a mark
 
-unfoldable pub written : Session → Access → (estimate : ℕ) → Session
-written s Nothing e = s
-written s (ReadValue r) e = s
-written s (WriteValue r) e = withValues s (set (s .values) (r - 1) e)
-written s (ReadMark r) e = s
-written s (SetMark r) e = withMarks s (set (s .marks) (r - 1) true)
-written s ReadDecision e = s
-written s WriteDecision e = withDecision s e
+unfoldable pub stored : Session → Access → (estimate : ℕ) → Session
+stored s Nothing e = s
+stored s (ReadValue r) e = s
+stored s (WriteValue r) e = withValues s (set (s .values) (r - 1) e)
+stored s (ReadMark r) e = s
+stored s (SetMark r) e = withMarks s (set (s .marks) (r - 1) true)
+stored s ReadDecision e = s
+stored s WriteDecision e = withDecision s e
 
 -- ---- the turn
 
 -- A turn of process p: one access, what is written by it, and the process as the value read makes it.
 unfoldable pub turn : Session → (p : ℕ) → Access → (ℕ → Process) → Session
-turn s p a becomes = withProcess (written s a (processAt s p .estimate)) p (becomes (found s a))
+turn s p a becomes = withProcess (stored s a (processAt s p .estimate)) p (becomes (found s a))
 
 -- 1 where a flag write found its round unmarked (x is the mark that it found), else 0.
 abbrev pub newlyMarked : (x : ℕ) → ℕ

@@ -3,7 +3,7 @@ use Rattle.base.specs.Prelude.{ℕ, suc, zero, _<_, _%_, arith, _≡_, refl, sy
 use Rattle.model_laws.specs.Types.{Waiting, Crashed, Process, Session, Counts, Operation, Propose, Step, Learn, Crash, Malformed}
 use Rattle.model.specs.Board.{processAt, withProcess, noCounts}
 use Rattle.model.specs.Window.{window}
-use Rattle.model.specs.Step.{counted, turn, written, found, learnt, process}
+use Rattle.model.specs.Step.{counted, turn, stored, found, learnt, process}
 use Rattle.model.specs.Refusal.{refusal, isMalformed, processOf, ownTests, tests, stepped, full}
 use Rattle.model.specs.Machine.{accessOf, becomes, after, countsAfter, answered, perform}
 use Rattle.model.specs.Public.{operate, withCounts, withoutCounts}
@@ -118,15 +118,15 @@ module _ (s : Session) (o : Operation) {k : ℕ} (code : k ≡ codeOf s noCounts
 module _ (W : ℕ) (s : Session) where
   pub proposed-is : (p v : ℕ) {i : ℕ} {q : Process} → i ≡ p → q ≡ process Waiting (processAt s i .round) v →
       withProcess s i q ≡ after W s (Propose p v)
-  unfolding after turn written accessOf becomes
+  unfolding after turn stored accessOf becomes
   proposed-is p v ei eq = rw (eq, ei)
 
   pub crashed-is : (p : ℕ) {i : ℕ} {q : Process} → i ≡ p → q ≡ process Crashed (processAt s i .round) (processAt s i .estimate) →
       withProcess s i q ≡ after W s (Crash p)
-  unfolding after turn written accessOf becomes
+  unfolding after turn stored accessOf becomes
   crashed-is p ei eq = rw (eq, ei)
 
   pub learnt-is : (p : ℕ) {i : ℕ} {q : Process} → i ≡ p → q ≡ learnt (processAt s i) (s .decision) →
       withProcess s i q ≡ after W s (Learn p)
-  unfolding after turn written accessOf becomes found
+  unfolding after turn stored accessOf becomes found
   learnt-is p ei eq = rw (eq, ei)

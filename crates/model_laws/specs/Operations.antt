@@ -3,7 +3,7 @@ use Rattle.base.specs.Prelude.{ℕ, suc, zero, _≤_, _<_, arith, _≡_, refl, 
 use Rattle.model_laws.specs.Types.{Access, Nothing, ReadValue, WriteValue, ReadMark, SetMark, ReadDecision, WriteDecision, Process, Session, Counts, Limits, Waiting, Crashed, Operation, Propose, Step, Learn, Crash, Malformed}
 use Rattle.model.specs.Window.{window}
 use Rattle.model.specs.Board.{processAt, opened, maxProcesses, maxRounds}
-use Rattle.model.specs.Step.{access, written, turn, found}
+use Rattle.model.specs.Step.{access, stored, turn, found}
 use Rattle.model.specs.Refusal.{refusal, stepped, openTests, ownTests, processOf, tests}
 use Rattle.model.specs.Machine.{accessOf, becomes, after, countsAfter, answered, perform}
 use Rattle.model.specs.Sound.{soundAt, soundProcess}
@@ -13,7 +13,7 @@ use Rattle.model_laws.specs.Accepted.{NoneHolds, none-holds, Accepted, a
 use Rattle.model_laws.specs.Phases.{process-facts, inside-some}
 use Rattle.model_laws.specs.Ranges.{InRange, access-range}
 use Rattle.model_laws.specs.Keeps.{next-sound, learnt-sound, placed-sound}
-use Rattle.model_laws.specs.Sounds.{sound-facts, facts-sound, idle-sound, sound-process, set-sound, written-sound}
+use Rattle.model_laws.specs.Sounds.{sound-facts, facts-sound, idle-sound, sound-process, set-sound, stored-sound}
 
 -- What a write leaves: n, the limit and the processes.
 pub record Same (s t : Session) : Type 0 where
@@ -21,15 +21,15 @@ pub record Same (s t : Session) : Type 0 where
   pub limit : t .limit ≡ s .limit
   pub processes : t .processes ≡ s .processes
 
-pub written-same : (s : Session) (a : Access) (e : ℕ) → Same s (written s a e)
-unfolding written
-written-same s Nothing e = record { n = refl; limit = refl; processes = refl }
-written-same s (ReadValue j) e = record { n = refl; limit = refl; processes = refl }
-written-same s (WriteValue j) e = record { n = refl; limit = refl; processes = refl }
-written-same s (ReadMark j) e = record { n = refl; limit = refl; processes = refl }
-written-same s (SetMark j) e = record { n = refl; limit = refl; processes = refl }
-written-same s ReadDecision e = record { n = refl; limit = refl; processes = refl }
-written-same s WriteDecision e = record { n = refl; limit = refl; processes = refl }
+pub stored-same : (s : Session) (a : Access) (e : ℕ) → Same s (stored s a e)
+unfolding stored
+stored-same s Nothing e = record { n = refl; limit = refl; processes = refl }
+stored-same s (ReadValue j) e = record { n = refl; limit = refl; processes = refl }
+stored-same s (WriteValue j) e = record { n = refl; limit = refl; processes = refl }
+stored-same s (ReadMark j) e = record { n = refl; limit = refl; processes = refl }
+stored-same s (SetMark j) e = record { n = refl; limit = refl; processes = refl }
+stored-same s ReadDecision e = record { n = refl; limit = refl; processes = refl }
+stored-same s WriteDecision e = record { n = refl; limit = refl; processes = refl }
 
 -- A turn that accesses a register 1 to L and makes a sound process of one of the n.
 pub turn-sound : (W : ℕ) (s : Session) (p : ℕ) (a : Access) (becomes : ℕ → Process) → soundAt W s ≡ true → p < s .n →
@@ -38,9 +38,9 @@ unfolding turn
 turn-sound W s p a becomes t low ok one =
     let e = processAt s p .estimate in
     facts-sound W _
-    (set-sound W (written s a e) p (becomes (found s a)) (written-sound W s a e ok (sound-facts W s t))
-    (rw (written-same s a e .n) low)
-    (rw (written-same s a e .limit) one))
+    (set-sound W (stored s a e) p (becomes (found s a)) (stored-sound W s a e ok (sound-facts W s t))
+    (rw (stored-same s a e .n) low)
+    (rw (stored-same s a e .limit) one))
 
 -- The register operation of a sound process is on registers 1 to L, and so on registers 1 to M, where L is at most M.
 operation-reach : (W L M : ℕ) (q : Process) (o : Operation) → L ≤ M → soundProcess W L q ≡ true → InRange M (accessOf L q o)
@@ -72,7 +72,7 @@ module _ (W : ℕ) (s : Session) (o : Operation) where
   -- No operation changes n or the limit.
   pub after-same : (after W s o .n ≡ s .n) × (after W s o .limit ≡ s .limit)
   unfolding after turn
-  after-same = (written-same s _ _ .n, written-same s _ _ .limit)
+  after-same = (stored-same s _ _ .n, stored-same s _ _ .limit)
 
   module _ (t : soundAt W s ≡ true) where
     -- The register operation of any operation is on registers 1 to L, and so on the arrays' registers.

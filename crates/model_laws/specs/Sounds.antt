@@ -2,7 +2,7 @@
 use Rattle.base.specs.Prelude.{ℕ, _-_, _≤_, _<_, arith, _≡_, refl, true, not, drop, drop-set-lt, eqb, leb-true, le-leb}
 use Rattle.model_laws.specs.Types.{Access, Nothing, ReadValue, WriteValue, ReadMark, SetMark, ReadDecision, WriteDecision, Process, Session}
 use Rattle.model.specs.Board.{processAt, withProcess, idle, maxProcesses, maxRounds}
-use Rattle.model.specs.Step.{written}
+use Rattle.model.specs.Step.{stored}
 use Rattle.model.specs.Refusal.{status, isOutside}
 use Rattle.model.specs.Window.{window}
 use Rattle.model.specs.Sound.{every, soundPhase, soundProcess, soundAt, sound}
@@ -46,15 +46,15 @@ pub set-sound : (W : ℕ) (s : Session) (p : ℕ) (q : Process) → Sound W s �
 set-sound W s p q f low one = search (drop-set-lt (s .n) (s .processes) p q low, every-set (soundProcess W (s .limit)))
 
 -- A register 1 to L is written, or a round 1 to L is marked.
-pub written-sound : (W : ℕ) (s : Session) (a : Access) (e : ℕ) → InRange (s .limit) a → Sound W s → Sound W (written s a e)
-unfolding written
-written-sound W s Nothing e ok f = f
-written-sound W s (ReadValue r) e ok f = f
-written-sound W s (WriteValue r) e ok f = let below : r - 1 < s .limit = omega arith in search drop-set-lt
-written-sound W s (ReadMark r) e ok f = f
-written-sound W s (SetMark r) e ok f = let below : r - 1 < s .limit = omega arith in search drop-set-lt
-written-sound W s ReadDecision e ok f = f
-written-sound W s WriteDecision e ok f = search
+pub stored-sound : (W : ℕ) (s : Session) (a : Access) (e : ℕ) → InRange (s .limit) a → Sound W s → Sound W (stored s a e)
+unfolding stored
+stored-sound W s Nothing e ok f = f
+stored-sound W s (ReadValue r) e ok f = f
+stored-sound W s (WriteValue r) e ok f = let below : r - 1 < s .limit = omega arith in search drop-set-lt
+stored-sound W s (ReadMark r) e ok f = f
+stored-sound W s (SetMark r) e ok f = let below : r - 1 < s .limit = omega arith in search drop-set-lt
+stored-sound W s ReadDecision e ok f = f
+stored-sound W s WriteDecision e ok f = search
 
 -- A sound session has at most 256 rounds and 64 processes.
 pub sound-low : (s : Session) → sound s ≡ true → s .limit ≤ maxRounds

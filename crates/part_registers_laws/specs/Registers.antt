@@ -2,7 +2,7 @@
 use Rattle.base.specs.Prelude.{ℕ, _+_, _-_, _%_, _≤_, arith, _≡_, refl, sym, ap, Bool, true, false, List, getD, set, ltb}
 use Rattle.model_laws.specs.Types.{Phase, Idle, Waiting, Write, Scan, Adopt, Compare, Flag, CheckMark, CheckValue, Commit, Exhausted, Crashed, Decided, Access, Nothing, ReadValue, WriteValue, ReadMark, SetMark, ReadDecision, WriteDecision, Process, Session, Counts, Step}
 use Rattle.model.specs.Board.{processAt, with, maxRounds}
-use Rattle.model.specs.Step.{accessAt, access, next, bit, found, written, turn, counted}
+use Rattle.model.specs.Step.{accessAt, access, next, bit, found, stored, turn, counted}
 use Rattle.model.specs.Machine.{accessOf, becomes, after, countsAfter}
 use Rattle.base.specs.Bools.{cond-cases}
 use Rattle.model_laws.specs.Ranges.{InRange}
@@ -91,7 +91,7 @@ pub turn-is : (s : Session) (p : ℕ) (a : Access) (becomes : ℕ → Process) �
     turn s p a becomes
     ≡ with s (valuesAfter (s .values) a (processAt s p .estimate)) (marksAfter (s .marks) a)
     (decisionAfter (s .decision) a (processAt s p .estimate)) (set (s .processes) p (becomes (found s a)))
-unfolding turn written
+unfolding turn stored
 turn-is s p Nothing becomes ok = refl
 turn-is s p (ReadValue r) becomes ok = refl
 turn-is s p (WriteValue r) becomes ok = rw (slot-is r (ok .0) (ok .1))

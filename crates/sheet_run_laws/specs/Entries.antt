@@ -3,7 +3,7 @@
 use Rattle.base.specs.Prelude.{ℕ, _<_, _≤_, arith, _≡_, refl, sym, _∙_, ap, Bool, true, false, cond, true≢false, List, set, leb, le-leb, lt-leb}
 use Rattle.model_laws.specs.Types.{Phase, Waiting, Crashed, Access, Nothing, ReadDecision, Process, Session, Counts, Operation, Propose, Step, Learn, Crash, Malformed, Ending, BudgetEnded, Refused}
 use Rattle.model.specs.Board.{processAt, with, withProcess}
-use Rattle.model.specs.Step.{access, next, learnt, found, written, turn, counted, process}
+use Rattle.model.specs.Step.{access, next, learnt, found, stored, turn, counted, process}
 use Rattle.model.specs.Refusal.{refusal, ownTests, processOf, isMalformed, tests, stepTests}
 use Rattle.model.specs.Machine.{accessOf, becomes, after, countsAfter}
 use Rattle.model.specs.Sound.{soundAt}
@@ -99,7 +99,7 @@ step-counts W s p leader c {m = m} t told named ea er ex =
 
 pub other-leaves : (W : ℕ) (s : Session) (p : ℕ) (c : Counts) (o : Operation) {q : Process} → isStep o ≡ false → p ≡ processOf o →
     entryRefusal (processAt s p .phase) c o ≡ 0 → q ≡ movedTo (processAt s p) (s .decision) o → withProcess s p q ≡ after W s o
-unfolding after accessOf becomes turn written found
+unfolding after accessOf becomes turn stored found
 other-leaves W s p c (Propose m v) not-step named ok eq = rw (eq, named)
 other-leaves W s p c (Step m leader) not-step named ok eq = absurd (true≢false not-step)
 other-leaves W s p c (Learn m) not-step named ok eq = rw (eq, named)

@@ -3,8 +3,8 @@
 use Rattle.base.specs.Prelude.{ℕ, _<_, arith, ℕ-discrete, _≡_, List, _++_, length-set, getD-set-same, getD-set-other}
 use Rattle.model_laws.specs.Types.{Access, Process, Session}
 use Rattle.model.specs.Board.{processAt, idle}
-use Rattle.model.specs.Step.{found, written, turn}
-use Rattle.model_laws.specs.Operations.{written-same}
+use Rattle.model.specs.Step.{found, stored, turn}
+use Rattle.model_laws.specs.Operations.{stored-same}
 use Rattle.model_rule.specs.Event.{Event}
 use Rattle.theory_past.specs.Lawful.{Lawful}
 use Rattle.theory_walk.specs.Place.{Stands}
@@ -23,14 +23,14 @@ pub record Invariant (W : ℕ) (s : Session) (h : List Event) : Type 0 where
 pub turn-invariant : {W : ℕ} {s : Session} {h : List Event} → Invariant W s h →
     (p : ℕ) (a : Access) (becomes : ℕ → Process) (es : List Event) →
     p < s .n →
-    Long (written s a (processAt s p .estimate)) × Matches (written s a (processAt s p .estimate)) (es ++ h) →
+    Long (stored s a (processAt s p .estimate)) × Matches (stored s a (processAt s p .estimate)) (es ++ h) →
     Lawful W (s .n) (es ++ h) →
     ((o : ℕ) → (o ≡ p → ⊥) → SpareAll o es) →
     Stands W p (becomes (found s a)) (es ++ h) →
     Invariant W (turn s p a becomes) (es ++ h)
 unfolding turn
 turn-invariant {W} {s} i p a becomes es low board lawful others mine =
-    let same = written-same s a (processAt s p .estimate) in
+    let same = stored-same s a (processAt s p .estimate) in
     let long = board .0 in
     let matches = board .1 in
     record {

@@ -3,7 +3,7 @@ use Rattle.base.specs.Prelude.{ℕ, _-_, _≤_, arith, ℕ-discrete, _≡_, ref
 use Rattle.base.specs.Bools.{cond-cases}
 use Rattle.model_laws.specs.Types.{Access, Nothing, ReadValue, WriteValue, ReadMark, SetMark, ReadDecision, WriteDecision, Session}
 use Rattle.model.specs.Board.{valueAt, markAt}
-use Rattle.model.specs.Step.{found, written}
+use Rattle.model.specs.Step.{found, stored}
 use Rattle.model_laws.specs.Ranges.{InRange}
 use Rattle.model_rule.specs.Event.{Event, write, flag, commit, here, there, Happened}
 use Rattle.theory_past.specs.Epoch.{last}
@@ -59,8 +59,8 @@ silent-matches same other k =
 module _ {s : Session} {h : List Event} (long : Long s) (k : Matches s h) where
   -- A value that is written to register r.
   pub write-matches : (p r v : ℕ) → InRange (s .limit) (WriteValue r) →
-      Long (written s (WriteValue r) v) × Matches (written s (WriteValue r) v) (write p r v ∷ h)
-  unfolding written
+      Long (stored s (WriteValue r) v) × Matches (stored s (WriteValue r) v) (write p r v ∷ h)
+  unfolding stored
   write-matches p r v ok = (
     record { values = simp length-set (long .values); marks = long .marks; processes = long .processes },
     record {
@@ -72,8 +72,8 @@ module _ {s : Session} {h : List Event} (long : Long s) (k : Matches s h) where
 
   -- A mark that is set, of round i.
   pub flag-matches : (i v : ℕ) → InRange (s .limit) (SetMark i) →
-      Long (written s (SetMark i) v) × Matches (written s (SetMark i) v) (flag i ∷ h)
-  unfolding written
+      Long (stored s (SetMark i) v) × Matches (stored s (SetMark i) v) (flag i ∷ h)
+  unfolding stored
   flag-matches i v ok = (
     record { values = long .values; marks = simp length-set (long .marks); processes = long .processes },
     record {
@@ -89,8 +89,8 @@ module _ {s : Session} {h : List Event} (long : Long s) (k : Matches s h) where
   )
 
   -- A value that is written to the decision register.
-  pub commit-matches : (r v : ℕ) → Long (written s WriteDecision v) × Matches (written s WriteDecision v) (commit r v ∷ h)
-  unfolding written
+  pub commit-matches : (r v : ℕ) → Long (stored s WriteDecision v) × Matches (stored s WriteDecision v) (commit r v ∷ h)
+  unfolding stored
   commit-matches r v = (
     record { values = long .values; marks = long .marks; processes = long .processes },
     record {

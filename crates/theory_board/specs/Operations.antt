@@ -3,7 +3,7 @@ use Rattle.base.specs.Prelude.{ℕ, zero, suc, _-_, _≡_, refl, sym, _∙_, Bo
 use Rattle.base.specs.Bools.{cond-cases}
 use Rattle.model_laws.specs.Types.{Phase, Idle, Waiting, Write, Scan, Adopt, Compare, Flag, CheckMark, CheckValue, Commit, Exhausted, Crashed, Decided, Session, Counts, Operation, Propose, Step, Learn, Crash, Malformed}
 use Rattle.model.specs.Board.{processAt}
-use Rattle.model.specs.Step.{accessAt, access, found, written}
+use Rattle.model.specs.Step.{accessAt, access, found, stored}
 use Rattle.model.specs.Refusal.{status, isOutside, isGone, processOf}
 use Rattle.model.specs.Machine.{accessOf, becomes, after}
 use Rattle.model.specs.Sound.{soundAt}
@@ -23,12 +23,12 @@ use Rattle.theory_board.specs.Invariant.{Invariant, turn-invariant}
 
 step-events : {s : Session} {h : List Event} (p r v : ℕ) (φ : Phase) (leader : Bool) → Long s → Matches s h →
     InRange (s .limit) (accessAt (s .limit) r φ leader) →
-    let t = written s (accessAt (s .limit) r φ leader) v in Long t × Matches t (stepEvents p r v φ ++ h)
-unfolding accessAt written
+    let t = stored s (accessAt (s .limit) r φ leader) v in Long t × Matches t (stepEvents p r v φ ++ h)
+unfolding accessAt stored
 step-events p r v Idle leader l k ok = (l, k)
 step-events p r v Waiting false l k ok = (l, k)
 step-events {s} {h} p r v Waiting true l k ok =
-    cond-cases (λ a. Long (written s a v) × Matches (written s a v) h) (ltb r (s .limit)) (λ t. (l, k)) (λ t. (l, k))
+    cond-cases (λ a. Long (stored s a v) × Matches (stored s a v) h) (ltb r (s .limit)) (λ t. (l, k)) (λ t. (l, k))
 step-events p r v Write leader l k ok = write-matches l k p r v ok
 step-events p r v (Scan j) leader l k ok = (l, k)
 step-events p r v (Adopt j) leader l k ok = (l, k)
@@ -76,7 +76,7 @@ module _ {W : ℕ} {s : Session} {h : List Event} (i : Invariant W s h) (sound :
 
   pub operation-invariant : (o : Operation) → Accepted s c o →
       Invariant W (after W s o) (eventsOf (processAt s (processOf o)) (s .decision) o ++ h)
-  unfolding after accessOf access becomes written found
+  unfolding after accessOf access becomes stored found
   operation-invariant (Propose p v) a =
       let q = processAt s p in
       turn-invariant i p _ _ (proposal v ∷ []) (a .below)

@@ -2,7 +2,7 @@
 use Rattle.base.specs.Prelude.{ℕ, suc, zero, _+_, _-_, _≤_, _<_, arith, _≡_, refl, _∙_, Bool, true, false, List, ℕ-discrete, length, getD, set, getD-set-same, getD-set-other}
 use Rattle.model_laws.specs.Types.{Access, Nothing, ReadValue, WriteValue, ReadMark, SetMark, ReadDecision, WriteDecision, Process, Session, Counts, Operation}
 use Rattle.model.specs.Board.{processAt}
-use Rattle.model.specs.Step.{bit, found, written, turn, newlyMarked, counted}
+use Rattle.model.specs.Step.{bit, found, stored, turn, newlyMarked, counted}
 use Rattle.model.specs.Refusal.{refusal, tests, processOf, stepped}
 use Rattle.model.specs.Machine.{accessOf, becomes, after, countsAfter, answered, perform}
 use Rattle.model.specs.Sound.{soundAt}
@@ -38,15 +38,15 @@ module _ (marks : List Bool) (i : ℕ) where
 
 -- Contested grows as the marked rounds do.
 module _ (s : Session) (c : Counts) (same : c .contested ≡ markedRounds s) (long : s .limit ≤ length (s .marks)) where
-  written-contested : (a : Access) (e : ℕ) → InRange (s .limit) a → counted a (found s a) c .contested ≡ markedRounds (written s a e)
-  unfolding counted found written
-  written-contested Nothing e ok = same
-  written-contested (ReadValue r) e ok = same
-  written-contested (WriteValue r) e ok = same
-  written-contested (ReadMark r) e ok = same
-  written-contested (SetMark r) e ok = rw (same, marked-set (s .marks) (r - 1) (s .limit) (omega arith) (omega arith))
-  written-contested ReadDecision e ok = same
-  written-contested WriteDecision e ok = same
+  stored-contested : (a : Access) (e : ℕ) → InRange (s .limit) a → counted a (found s a) c .contested ≡ markedRounds (stored s a e)
+  unfolding counted found stored
+  stored-contested Nothing e ok = same
+  stored-contested (ReadValue r) e ok = same
+  stored-contested (WriteValue r) e ok = same
+  stored-contested (ReadMark r) e ok = same
+  stored-contested (SetMark r) e ok = rw (same, marked-set (s .marks) (r - 1) (s .limit) (omega arith) (omega arith))
+  stored-contested ReadDecision e ok = same
+  stored-contested WriteDecision e ok = same
 
   -- An operation on a sound session, accepted or refused.
   pub perform-contested : (W : ℕ) (o : Operation) → soundAt W s ≡ true →
@@ -55,5 +55,5 @@ module _ (s : Session) (c : Counts) (same : c .contested ≡ markedRounds s) (lo
   perform-contested W o t = go (refusal (tests s c o))
     where
       go : (k : ℕ) → let a = stepped k s (after W s o) c (countsAfter s c o) in a .counts .contested ≡ markedRounds (a .session)
-      go zero = written-contested _ _ (access-in-range W s o t)
+      go zero = stored-contested _ _ (access-in-range W s o t)
       go (suc k) = same
