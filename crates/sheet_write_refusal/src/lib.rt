@@ -1,10 +1,11 @@
 // The refusal of what is to be written as a sheet. 02, wish 3: "Order: 1, 2, 12 for the entry buffer, 17, 13, then 15 if the output is too short."
 ghost use mathlib.Core.Path.{_≡_};
 ghost use mathlib.Core.Bool.{_&&_};
-ghost use Prim.Native.Nat.{_+_, _*_, _/_};
+ghost use Prim.Native.Nat.{_+_, _*_, _/_, min};
 ghost use lib.ListN.{length};
 ghost use lib.Dec.{leb, eqb};
-ghost use Rattle.model_write.specs.Write.{total, wellFormed, bufferEntries, writeRefusal};
+ghost use Rattle.model.specs.Sheet.{entriesAt};
+ghost use Rattle.model_write.specs.Write.{total, wellFormed, writeRefusal};
 use model::Limits;
 use model::Operation;
 use part_entry::entry_of;
@@ -41,11 +42,12 @@ fn writable(size: usize, lengths: &[usize]) -> bool
     add_up(lengths, size / 6)
 }
 
-// 01, 13: "entry with an unknown kind or a wrong value": whether no entry is such a one.
+// 01, 13: "entry with an unknown kind or a wrong value": whether none of the first 10,922 entries is such a one. (No sheet has more.)
 fn well_formed(entries: &[u8]) -> bool
-    ensures { λ r. ⌜ r ≡ wellFormed (bufferEntries (now (entries .entry))) ⌝ }
+    ensures { λ r. ⌜ r ≡ wellFormed (entriesAt (now (entries .entry)) 0 (min (length (now (entries .entry)) / 6) 10922)) ⌝ }
 {
-    let count = entries.len() / 6;
+    let whole = entries.len() / 6;
+    let count = if whole < 10922 { whole } else { 10922 };
     let mut i: usize = 0;
     while i < count {
         let at = 6 * i;
@@ -84,10 +86,12 @@ pub fn refusal(
     if entries.len() % 6 != 0 {
         return 12;
     }
-    if !writable(entries.len(), lengths) {
+    let fits = writable(entries.len(), lengths);
+    let formed = well_formed(entries);
+    if !fits {
         return 17;
     }
-    if !well_formed(entries) {
+    if !formed {
         return 13;
     }
     if room < 4 + 4 * lengths.len() + entries.len() {

@@ -3,6 +3,7 @@ use denote.Ref.{now}
 use Rattle.base.specs.Prelude.{_+_, _*_, _≤_, _<_, arith, _≡_, sym, _∙_, length, length-set, leb-true, not-false, needs}
 use lib.Seq.{length-sets}
 use Rattle.base.specs.Bools.{and-right}
+use Rattle.model_write.specs.Write.{wrote, written}
 use Rattle.model_write_laws.specs.Sizes.{length-sheetOf}
 use Rattle.model_write_laws.specs.Facts.{WriteFacts, write-facts}
 use Rattle.model_write_laws.specs.Stored.{sheet-stored, written-refused, written-accepted}
@@ -73,11 +74,14 @@ returns-2 c =
     let header = pairs .before .before .before .before in
     let e = header .before .before in
     let a = start-of e .args in
-    written-accepted (a .most) (a .n) (a .limit) (now (a .entries)) (now (a .lengths)) (now (a .sheet)) (sym (e .before .refusal .ensures) ∙ e .if1 .left)
-    (sym (length-sheetOf (a .n) (a .limit) (now (a .entries)) (now (a .lengths))))
-    (entries .put-entries .ensures
-    ∙ rw (pairs .put-pairs .ensures, header .put16 .ensures)
-    (sheet-stored (a .n) (a .limit) (now (a .entries)) (now (a .lengths)) (now (a .sheet)) (facts e .fits)))
+    let es = now (a .entries) in
+    let ms = now (a .lengths) in
+    let accepted : wrote (record { code = 0; count = 4 + 4 * length ms + length es }) (entries .put-entries .last .1 .1 .0)
+    ≡ written (a .most) (a .n) (a .limit) es ms (now (a .sheet)) =
+    written-accepted (a .most) (a .n) (a .limit) es ms (now (a .sheet)) (sym (e .before .refusal .ensures) ∙ e .if1 .left)
+    (sym (length-sheetOf (a .n) (a .limit) es ms))
+    (entries .put-entries .ensures ∙ rw (pairs .put-pairs .ensures, header .put16 .ensures) (sheet-stored (a .n) (a .limit) es ms (now (a .sheet)) (facts e .fits)))
+    in accepted
 
 pub write-spec : {M : Type 1} → statement M
 write-spec =

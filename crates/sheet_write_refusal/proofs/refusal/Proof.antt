@@ -1,6 +1,7 @@
 -- `sheet_write_refusal::refusal` meets its contract: each part is tested in its turn. Assumes nothing.
 use denote.Ref.{now}
-use Rattle.base.specs.Prelude.{ℕ, _+_, _*_, _%_, arith, _≡_, sym, _∙_, cond, not, List, length, ltb, eq-eqb, ne-eqb, le-ltb, lt-ltb, not-false, not-true, needs}
+use Rattle.base.specs.Prelude.{ℕ, _+_, _*_, _/_, _%_, min, arith, _≡_, sym, _∙_, cond, not, true, false, List, length, leb, ltb, eq-eqb, ne-eqb, le-ltb, lt-ltb, leb-true, not-false, not-true, needs}
+use Rattle.base.specs.Bools.{and-left, and-right}
 use Rattle.model_laws.specs.Types.{Limits}
 use Rattle.model.specs.Refusal.{refusal, openTests}
 use Rattle.model_laws.specs.Accepted.{refusal-append}
@@ -53,39 +54,55 @@ told c =
     let a = c .before .before .before .before .before .before .args in
     rw (length-sheetOf (a .n) (a .limit) (now (a .entries)) (now (a .lengths))) (c .writable .ensures)
 
--- Where it can.
+-- It can not.
+returns-3 : tie.Need-returns-3
+returns-3 c =
+    let w = c .before .before in
+    let fits : w .writable .result ≡ false = not-true _ (c .if3 .taken) in
+    sym (own (w .before .before) ∙ rw (eq-eqb (_ % 6) 0 (w .before .if2 .left), ← told w, fits))
+
+-- It can: the entries decide, and then the output's length.
 past-writable : (c : tie.Else3) →
-    let a = c .before .before .before .before .before .before .before .args in
+    let a = c .before .before .before .before .before .before .before .before .args in
     let es = now (a .entries) in
     writeRefusal (a .most) (a .n) (a .limit) es (now (a .lengths)) (a .room) ≡
     cond (not (wellFormed (bufferEntries es))) 13 (cond (ltb (a .room) (4 + 4 * length (now (a .lengths)) + length es)) 15 0)
 past-writable c =
-    own (c .before .before .before)
-    ∙ rw (eq-eqb (_ % 6) 0 (c .before .before .if2 .left), ← told (c .before), not-false (c .before .writable .result) (c .if3 .left), length-sheetOf)
+    let w = c .before .before in
+    let fits : w .writable .result ≡ true = not-false _ (c .if3 .left) in
+    own (w .before .before) ∙ rw (eq-eqb (_ % 6) 0 (w .before .if2 .left), ← told w, fits, length-sheetOf)
 
-returns-3 : tie.Need-returns-3
-returns-3 c =
-    sym (own (c .before .before .before) ∙ rw (eq-eqb (_ % 6) 0 (c .before .before .if2 .left), ← told (c .before), not-true (c .before .writable .result) (c .if3 .taken)))
+-- There are so few entries that all of them were looked at.
+all-formed : (c : tie.Else3) →
+    c .before .well-formed .result ≡ wellFormed (bufferEntries (now (c .before .before .before .before .before .before .before .before .args .entries)))
+all-formed c =
+    let w = c .before .before in
+    let a = w .before .before .before .before .before .before .args in
+    let size = 4 + 4 * length (now (a .lengths)) + length (now (a .entries)) in
+    let ok = sym (w .writable .ensures) ∙ not-false (w .writable .result) (c .if3 .left) in
+    let few : leb size 65535 ≡ true = search (and-left, and-right) in
+    let all : min (length (now (a .entries)) / 6) 10922 ≡ length (now (a .entries)) / 6 = omega (arith, leb-true size 65535 few) in
+    c .before .well-formed .ensures ∙ rw all
 
 -- An entry is malformed.
 returns-4 : tie.Need-returns-4
 returns-4 c =
-    let f = c .before in
-    sym (past-writable (f .before) ∙ rw (← f .well-formed .ensures, not-true (f .well-formed .result) (c .if4 .taken)))
+    let e = c .before in
+    let malformed : e .before .well-formed .result ≡ false = not-true _ (c .if4 .taken) in
+    sym (past-writable e ∙ rw (← all-formed e, malformed))
 
--- The output is too short.
+-- None is, and the output is too short, or is not.
+formed-so : (c : tie.Else4) → c .before .before .well-formed .result ≡ true
+formed-so c = not-false _ (c .if4 .left)
+
 returns-5 : tie.Need-returns-5
-returns-5 c =
-    let f = c .before .before in
-    sym (past-writable (f .before) ∙ rw (← f .well-formed .ensures, not-false (f .well-formed .result) (c .before .if4 .left), lt-ltb _ _ (c .if5 .taken)))
+returns-5 c = let e = c .before .before in sym (past-writable e ∙ rw (← all-formed e, formed-so (c .before), lt-ltb _ _ (c .if5 .taken)))
 
 returns-6 : tie.Need-returns-6
-returns-6 c =
-    let f = c .before .before in
-    sym (past-writable (f .before) ∙ rw (← f .well-formed .ensures, not-false (f .well-formed .result) (c .before .if4 .left), le-ltb _ _ (c .if5 .left)))
+returns-6 c = let e = c .before .before in sym (past-writable e ∙ rw (← all-formed e, formed-so (c .before), le-ltb _ _ (c .if5 .left)))
 
 pub refusal-spec : {M : Type 1} → statement M
 refusal-spec =
     tie.close
-    (tie.spec (λ c κs. search needs) returns returns-2 (λ c κs. search needs) returns-3 (λ c κs. search needs) returns-4 (λ c. search needs) (λ c. search needs)
+    (tie.spec (λ c κs. search needs) returns returns-2 (λ c κs. search needs) (λ c κs. search needs) returns-3 returns-4 (λ c. search needs) (λ c. search needs)
     (λ c. search needs) returns-5 returns-6)
