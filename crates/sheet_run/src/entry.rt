@@ -3,7 +3,7 @@ ghost use mathlib.Core.Path.{_≡_};
 ghost use mathlib.Core.Bool.{_||_};
 ghost use lib.Dec.{leb};
 ghost use Rattle.model.specs.Refusal.{refusal, processOf, stepTests};
-ghost use Rattle.sheet_run_laws.specs.Entries.{haltOf, entryRefusal, movedTo, otherAccess};
+ghost use Rattle.sheet_run_laws.specs.Entries.{haltOf, entryRefusal, changesOf, movedTo, otherAccess};
 use model::Access;
 use model::Counts;
 use model::Ending;
@@ -63,8 +63,21 @@ pub(crate) fn refusal_of(q: Process, c: Counts, e: Operation) -> u32
     }
 }
 
-// 01, "One turn at a time", proposal, look and crash: what the process becomes. (The answer for the other two, a work turn and a malformed
-// entry, is not used.)
+// Whether it changes the record of its process: a look at a blank D does not. (A record that stays is not stored again.)
+pub(crate) fn changes(decision: u32, e: Operation) -> bool
+    ensures { λ r. ⌜ r ≡ changesOf decision e ⌝ }
+{
+    match e {
+        Operation::Propose(_, _) => true,
+        Operation::Step(_, _) => false,
+        Operation::Learn(_) => decision != 0,
+        Operation::Crash(_) => true,
+        Operation::Malformed => false,
+    }
+}
+
+// 01, "One turn at a time", proposal, look and crash: what the process becomes where it changes. (The answer for the two entries that change
+// none here, a work turn and a malformed one, is not used.)
 pub(crate) fn becomes(q: Process, decision: u32, e: Operation) -> Process
     ensures { λ r. ⌜ r ≡ movedTo q decision e ⌝ }
 {

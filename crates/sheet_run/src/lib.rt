@@ -70,7 +70,9 @@ fn carry(sheet: &[u8], budget: usize, window: usize, mut s: Session, mut c: Coun
             if code != 0 {
                 return ran(k, s, c, Ending::Refused(code, k));
             }
-            s.processes[p] = entry::becomes(q, s.decision, e);
+            if entry::changes(s.decision, e) {
+                s.processes[p] = entry::becomes(q, s.decision, e);
+            }
             c = part_counts::counted(entry::access_of(e), 0, c);
         }
         k += 1;

@@ -1,8 +1,9 @@
--- One entry as the runner's code takes it: a work turn has a path of its own, and of the others each is a refusal, a register operation and
--- what the process becomes. The laws say that this is what the machine does.
-use Rattle.base.specs.Prelude.{ℕ, _<_, _≤_, arith, _≡_, refl, sym, _∙_, ap, Bool, true, false, cond, true≢false, List, set, leb, le-leb, lt-leb}
+-- One entry as the runner's code takes it: a work turn has a path of its own, and of the others each is a refusal, a register operation and,
+-- where the record changes, what the process becomes. The laws say that this is what the machine does.
+use Rattle.base.specs.Prelude.{ℕ, _<_, _≤_, arith, _≡_, refl, sym, _∙_, ap, Bool, true, false, cond, not, true≢false, List, set, leb, eqb, le-leb, lt-leb, not-false}
+use lib.Seq.{set-getD}
 use Rattle.model_laws.specs.Types.{Phase, Waiting, Crashed, Access, Nothing, ReadDecision, Process, Session, Counts, Operation, Propose, Step, Learn, Crash, Malformed, Ending, BudgetEnded, Refused}
-use Rattle.model.specs.Board.{processAt, with, withProcess}
+use Rattle.model.specs.Board.{processAt, with, withProcess, idle}
 use Rattle.model.specs.Step.{access, next, learnt, found, stored, turn, counted, process}
 use Rattle.model.specs.Refusal.{refusal, ownTests, processOf, isMalformed, tests, stepTests}
 use Rattle.model.specs.Machine.{accessOf, becomes, after, countsAfter}
@@ -28,7 +29,15 @@ entryRefusal φ c o = cond (isMalformed o) 13 (refusal (ownTests φ c o))
 
 -- ---- entries that are no work turn
 
--- What the process becomes, by the decision register D. (Of a work turn and a malformed entry any record will do.)
+-- Whether the record of the process changes, by the decision register D.
+abbrev pub changesOf : (D : ℕ) → Operation → Bool
+changesOf D (Propose p v) = true
+changesOf D (Step p leader) = false
+changesOf D (Learn p) = not (eqb D 0)
+changesOf D (Crash p) = true
+changesOf D Malformed = false
+
+-- To what, where it does. (Where it does not, any record will do.)
 abbrev pub movedTo : Process → (D : ℕ) → Operation → Process
 movedTo q D (Propose p v) = process Waiting (q .round) v
 movedTo q D (Step p leader) = process Crashed (q .round) (q .estimate)
@@ -97,14 +106,26 @@ step-counts W s p leader c {m = m} t told named ea er ex =
 
 -- ---- what an entry that is no work turn leaves
 
-pub other-leaves : (W : ℕ) (s : Session) (p : ℕ) (c : Counts) (o : Operation) {q : Process} → isStep o ≡ false → p ≡ processOf o →
-    entryRefusal (processAt s p .phase) c o ≡ 0 → q ≡ movedTo (processAt s p) (s .decision) o → withProcess s p q ≡ after W s o
-unfolding after accessOf becomes turn stored found
-other-leaves W s p c (Propose m v) not-step named ok eq = rw (eq, named)
-other-leaves W s p c (Step m leader) not-step named ok eq = absurd (true≢false not-step)
-other-leaves W s p c (Learn m) not-step named ok eq = rw (eq, named)
-other-leaves W s p c (Crash m) not-step named ok eq = rw (eq, named)
-other-leaves W s p c Malformed not-step named ok eq = absurd (omega arith)
+module _ (W : ℕ) (s : Session) (p : ℕ) where
+  -- Where the record changes.
+  pub other-changes : (o : Operation) {q : Process} → isStep o ≡ false → p ≡ processOf o →
+      changesOf (s .decision) o ≡ true → q ≡ movedTo (processAt s p) (s .decision) o → withProcess s p q ≡ after W s o
+  unfolding after accessOf becomes turn stored found
+  other-changes (Propose m v) not-step named h eq = rw (eq, named)
+  other-changes (Step m leader) not-step named h eq = absurd (true≢false not-step)
+  other-changes (Learn m) not-step named h eq = rw (eq, named)
+  other-changes (Crash m) not-step named h eq = rw (eq, named)
+  other-changes Malformed not-step named h eq = absurd (true≢false (sym h))
+
+  -- And where it does not: a look at a blank D.
+  pub other-stays : (c : Counts) (o : Operation) → isStep o ≡ false →
+      changesOf (s .decision) o ≡ false → entryRefusal (processAt s p .phase) c o ≡ 0 → s ≡ after W s o
+  unfolding after accessOf becomes turn stored found learnt
+  other-stays c (Propose m v) not-step h ok = absurd (true≢false h)
+  other-stays c (Step m leader) not-step h ok = absurd (true≢false not-step)
+  other-stays c (Learn m) not-step h ok = rw (not-false (eqb (s .decision) 0) h, set-getD (s .processes) m idle)
+  other-stays c (Crash m) not-step h ok = absurd (true≢false h)
+  other-stays c Malformed not-step h ok = absurd (omega arith)
 
 -- What it counts: its register operation is no flag write, so that any x will do for what it found.
 pub other-counts : (s : Session) (c : Counts) (o : Operation) (x : ℕ) → isStep o ≡ false → counted (otherAccess o) x c ≡ countsAfter s c o

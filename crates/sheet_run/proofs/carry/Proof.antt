@@ -10,7 +10,7 @@ use Rattle.model.specs.Sheet.{entries}
 use Rattle.sheet_place_laws.specs.declared.Handed.the-variants.{Next}
 use Rattle.sheet_place_laws.specs.Places.{handed, rest}
 use Rattle.sheet_place_laws.specs.PlaceLaws.{begin-rest, begin-proper}
-use Rattle.sheet_run_laws.specs.Entries.{isStep, step-refusal, step-leaves, step-counts, other-leaves, other-counts}
+use Rattle.sheet_run_laws.specs.Entries.{isStep, step-refusal, step-leaves, step-counts, other-changes, other-stays, other-counts}
 use Rattle.sheet_run_laws.specs.Carried.{Carrying, Entered, entered-none, tallied}
 use Rattle.sheet_run_laws.specs.Carried.{ends, row-low, shorter, halted, due, refused, goes-on}
 use Rattle.sheet_run.proofs.carry.Statement.{statement}
@@ -174,9 +174,12 @@ loop-again c =
     let other = other-tag e (w .0 .keys2) in
     let f = entered-none (other-entered (record { before = record { before = j .before; match2 = w .0 }; refusal-of = w .1 })) (w .2 .left) in
     on f
-    (w .7
-    ∙ other-leaves W (l .s) (process-of h) (l .c) e other (f .named) (sym (f .code)) (w .3 .ensures))
-    (w .6 ∙ tallied f (rw (w .4 .ensures) (other-counts (l .s) (l .c) e _ other)) (w .5 .ensures))
+    (w .8
+    ∙ ⊎-elim
+    (λ v. v .2 ∙ other-changes W (l .s) (process-of h) e other (f .named) (sym (w .3 .ensures) ∙ v .0 .taken) (v .1 .ensures))
+    (λ v. v .1 ∙ other-stays W (l .s) (process-of h) (l .c) e other (sym (w .3 .ensures) ∙ v .0 .left) (sym (f .code)))
+    (w .4 .came))
+    (w .7 ∙ tallied f (rw (w .5 .ensures) (other-counts (l .s) (l .c) e _ other)) (w .6 .ensures))
     (c .place-after .ensures))
     (j .match2 .came)
 
@@ -188,7 +191,7 @@ carry-spec =
     returns (λ c κs. search needs) (λ c κs. search needs) (λ c κs. search needs) (λ c κs. search needs) returns-2 (λ c. omega (arith, low c)) low
     (λ c. search needs) (λ c κs. search needs) (λ c κs. search needs) returns-3 (λ c κs. search needs) (λ c κs. search needs) (λ c κs. search needs)
     (λ c κs. search needs) (λ c κs. search needs) (λ c. omega (arith, low (stored-at c))) (λ c. low (stored-at c)) (λ c κs. search needs)
-    (λ c κs. search needs) (λ c κs. search needs) returns-4 (λ c κs. search needs)
-    (λ c. omega (arith, low (c .before .before .before .before .before)))
-    (λ c. low (c .before .before .before .before .before)) (λ c κs. search needs) (λ c κs. search needs) add-k (λ c κs. search needs)
+    (λ c κs. search needs) (λ c κs. search needs) returns-4 (λ c κs. search needs) (λ c κs. search needs)
+    (λ c. omega (arith, low (c .before .before .before .before .before .before .before)))
+    (λ c. low (c .before .before .before .before .before .before .before)) (λ c κs. search needs) (λ c κs. search needs) add-k (λ c κs. search needs)
     loop-less loop-again)
