@@ -48,7 +48,7 @@ pub fn write(
 ) -> CountAnswer
     ensures { λ r. ⌜ wrote r (now (sheet .exit)) ≡ written most n limit (now (entries .entry)) (now (lengths .entry)) (now (sheet .entry)) ⌝ }
 {
-    let code = sheet_write_refusal::refusal(most, n, limit, entries, lengths, sheet.len());
+    let code = sheet_write_refusal::write_refusal(most, n, limit, entries, lengths, sheet.len());
     if code != 0 {
         return CountAnswer {
             code: code,

@@ -69,7 +69,7 @@ fn well_formed(entries: &[u8]) -> bool
 }
 
 // 0 where it is accepted, within a caller's limits. `room` is the length of the output.
-pub fn refusal(
+pub fn write_refusal(
     most: Limits,
     n: usize,
     limit: usize,

@@ -5,11 +5,6 @@ use Rattle.base.specs.Arrays.{sets-beyond}
 use Rattle.part_bytes_put.proofs.put16.Statement.{statement}
 use Rattle.part_bytes_put.proofs.put16.Tie as tie
 
-returns : tie.Need-returns
-returns c =
-    let a = c .before .before .args in
-    sym (sets-beyond _ (a .at) (bytes16 (a .w)) (c .if1 .taken))
-
 returns-2 : tie.Need-returns-2
 returns-2 c =
     let second = c .before .before in
@@ -19,4 +14,4 @@ returns-2 c =
 pub put16-spec : {M : Type 1} → statement M
 put16-spec =
     tie.close
-    (tie.spec returns (λ c. search needs) (λ c κs. search needs) (λ c. search needs) (λ c. search needs) (λ c κs. search needs) (λ c. search needs) returns-2)
+    (tie.spec (λ c. sym (sets-beyond _ _ (bytes16 (c .before .before .args .w)) (c .if1 .taken))) (λ c. search needs) (λ c κs. search needs) (λ c. search needs) (λ c. search needs) (λ c κs. search needs) (λ c. search needs) returns-2)

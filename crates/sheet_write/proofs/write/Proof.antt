@@ -19,7 +19,7 @@ facts : (c : tie.Else1) →
     WriteFacts (a .most) (a .n) (a .limit) (now (a .entries)) (now (a .lengths)) (length (now (a .sheet)))
 facts c =
     let a = start-of c .args in
-    write-facts (a .most) (a .n) (a .limit) (now (a .entries)) (now (a .lengths)) _ (sym (c .before .refusal .ensures) ∙ c .if1 .left)
+    write-facts (a .most) (a .n) (a .limit) (now (a .entries)) (now (a .lengths)) _ (sym (c .before .write-refusal .ensures) ∙ c .if1 .left)
 
 -- The sheet's size, which is 65,535 at most, fits in.
 size : (c : tie.Else1) →
@@ -47,7 +47,7 @@ rounds-low c =
 returns : tie.Need-returns
 returns c =
     let a = c .before .before .before .before .before .args in
-    written-refused (a .most) (a .n) (a .limit) (now (a .entries)) (now (a .lengths)) (now (a .sheet)) _ (c .before .refusal .ensures) (c .if1 .taken)
+    written-refused (a .most) (a .n) (a .limit) (now (a .entries)) (now (a .lengths)) (now (a .sheet)) _ (c .before .write-refusal .ensures) (c .if1 .taken)
 
 put-pairs-requires : tie.Need-put-pairs-requires
 put-pairs-requires c κs =
@@ -78,7 +78,7 @@ returns-2 c =
     let ms = now (a .lengths) in
     let accepted : wrote (record { code = 0; count = 4 + 4 * length ms + length es }) (entries .put-entries .last .1 .1 .0)
     ≡ written (a .most) (a .n) (a .limit) es ms (now (a .sheet)) =
-    written-accepted (a .most) (a .n) (a .limit) es ms (now (a .sheet)) (sym (e .before .refusal .ensures) ∙ e .if1 .left)
+    written-accepted (a .most) (a .n) (a .limit) es ms (now (a .sheet)) (sym (e .before .write-refusal .ensures) ∙ e .if1 .left)
     (sym (length-sheetOf (a .n) (a .limit) es ms))
     (entries .put-entries .ensures ∙ rw (pairs .put-pairs .ensures, header .put16 .ensures) (sheet-stored (a .n) (a .limit) es ms (now (a .sheet)) (facts e .fits)))
     in accepted

@@ -1,4 +1,4 @@
--- `sheet_write_refusal::refusal` meets its contract: each part is tested in its turn. Assumes nothing.
+-- `sheet_write_refusal::write_refusal` meets its contract: each part is tested in its turn. Assumes nothing.
 use denote.Ref.{now}
 use Rattle.base.specs.Prelude.{ℕ, _+_, _*_, _/_, _%_, min, arith, _≡_, sym, _∙_, cond, not, true, false, List, length, leb, ltb, eq-eqb, ne-eqb, le-ltb, lt-ltb, leb-true, not-false, not-true, needs}
 use Rattle.base.specs.Bools.{and-left, and-right}
@@ -7,8 +7,8 @@ use Rattle.model.specs.Refusal.{refusal, openTests}
 use Rattle.model_laws.specs.Accepted.{refusal-append}
 use Rattle.model_write.specs.Write.{sheetOf, wholeBuffer, writable, wellFormed, bufferEntries, writeRefusal}
 use Rattle.model_write_laws.specs.Sizes.{length-sheetOf}
-use Rattle.sheet_write_refusal.proofs.refusal.Statement.{statement}
-use Rattle.sheet_write_refusal.proofs.refusal.Tie as tie
+use Rattle.sheet_write_refusal.proofs.write_refusal.Statement.{statement}
+use Rattle.sheet_write_refusal.proofs.write_refusal.Tie as tie
 
 module _ (most : Limits) (n L : ℕ) (es ms : List ℕ) (room : ℕ) {k : ℕ} (opening : k ≡ refusal (openTests most n L)) where
   -- A refused opening decides.
@@ -101,8 +101,8 @@ returns-5 c = let e = c .before .before in sym (past-writable e ∙ rw (← all-
 returns-6 : tie.Need-returns-6
 returns-6 c = let e = c .before .before in sym (past-writable e ∙ rw (← all-formed e, formed-so (c .before), le-ltb _ _ (c .if5 .left)))
 
-pub refusal-spec : {M : Type 1} → statement M
-refusal-spec =
+pub write-refusal-spec : {M : Type 1} → statement M
+write-refusal-spec =
     tie.close
     (tie.spec (λ c κs. search needs) returns returns-2 (λ c κs. search needs) (λ c κs. search needs) returns-3 returns-4 (λ c. search needs) (λ c. search needs)
     (λ c. search needs) returns-5 returns-6)
