@@ -1,6 +1,6 @@
 -- `sheet_write_refusal::write_refusal` meets its contract: each part is tested in its turn. Assumes nothing.
 use denote.Ref.{now}
-use Rattle.base.specs.Prelude.{ℕ, _+_, _*_, _/_, _%_, min, arith, _≡_, sym, _∙_, cond, not, true, false, List, length, leb, ltb, eq-eqb, ne-eqb, le-ltb, lt-ltb, leb-true, not-false, not-true, needs}
+use Rattle.base.specs.Prelude.{ℕ, _+_, _*_, _/_, _%_, min, arith, _≡_, sym, _∙_, cond, not, true, List, length, leb, ltb, eq-eqb, ne-eqb, le-ltb, lt-ltb, leb-true, not-false, not-true, needs}
 use Rattle.base.specs.Bools.{and-left, and-right}
 use Rattle.model_laws.specs.Types.{Limits}
 use Rattle.model.specs.Refusal.{refusal, openTests}
@@ -58,7 +58,7 @@ told c =
 returns-3 : tie.Need-returns-3
 returns-3 c =
     let w = c .before .before in
-    let fits : w .writable .result ≡ false = not-true _ (c .if3 .taken) in
+    let fits = not-true (w .writable .result) (c .if3 .taken) in
     sym (own (w .before .before) ∙ rw (eq-eqb (_ % 6) 0 (w .before .if2 .left), ← told w, fits))
 
 -- It can: the entries decide, and then the output's length.
@@ -69,7 +69,7 @@ past-writable : (c : tie.Else3) →
     cond (not (wellFormed (bufferEntries es))) 13 (cond (ltb (a .room) (4 + 4 * length (now (a .lengths)) + length es)) 15 0)
 past-writable c =
     let w = c .before .before in
-    let fits : w .writable .result ≡ true = not-false _ (c .if3 .left) in
+    let fits = not-false (w .writable .result) (c .if3 .left) in
     own (w .before .before) ∙ rw (eq-eqb (_ % 6) 0 (w .before .if2 .left), ← told w, fits, length-sheetOf)
 
 -- There are so few entries that all of them were looked at.
@@ -88,12 +88,12 @@ all-formed c =
 returns-4 : tie.Need-returns-4
 returns-4 c =
     let e = c .before in
-    let malformed : e .before .well-formed .result ≡ false = not-true _ (c .if4 .taken) in
+    let malformed = not-true (e .before .well-formed .result) (c .if4 .taken) in
     sym (past-writable e ∙ rw (← all-formed e, malformed))
 
 -- None is, and the output is too short, or is not.
 formed-so : (c : tie.Else4) → c .before .before .well-formed .result ≡ true
-formed-so c = not-false _ (c .if4 .left)
+formed-so c = not-false (c .before .before .well-formed .result) (c .if4 .left)
 
 returns-5 : tie.Need-returns-5
 returns-5 c = let e = c .before .before in sym (past-writable e ∙ rw (← all-formed e, formed-so (c .before), lt-ltb _ _ (c .if5 .taken)))
