@@ -2,6 +2,9 @@
 ghost use mathlib.Core.Path.{_≡_};
 ghost use mathlib.Core.List.{[], _∷_};
 ghost use Rattle.model.specs.Bytes.{word32};
+ghost use Prim.Native.Nat.{ℕ};
+ghost use mathlib.Core.Bool.{not};
+ghost use Rattle.model.specs.Refusal.{isMalformed};
 ghost use Rattle.model.specs.Sheet.{entryOf};
 use model::Operation;
 
@@ -32,6 +35,18 @@ pub fn entry_of(kind: u8, p: u8, value: u32) -> Operation
         return Operation::Crash(process);
     }
     Operation::Malformed
+}
+
+// Whether it is one of these, whatever its process: by the largest value of each kind.
+pub fn formed(kind: u8, value: u32) -> bool
+    ensures { λ r. ⌜ ((p : ℕ) → r ≡ not (isMalformed (entryOf kind p value))) ⌝ }
+{
+    let largest: [u32; 4] = [4294967295, 1, 0, 0];
+    if kind < 4 {
+        value <= largest[kind as usize]
+    } else {
+        false
+    }
 }
 
 // The 32-bit number of four bytes.

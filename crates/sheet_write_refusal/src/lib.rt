@@ -7,8 +7,7 @@ ghost use lib.Dec.{leb, eqb};
 ghost use Rattle.model.specs.Sheet.{entriesAt};
 ghost use Rattle.model_write.specs.Write.{total, wellFormed, writeRefusal};
 use model::Limits;
-use model::Operation;
-use part_entry::entry_of;
+use part_entry::formed;
 use part_entry::number32;
 
 // Whether the run lengths add up to so many entries, however large they are: each is taken off the entries that are left.
@@ -59,8 +58,7 @@ fn well_formed(entries: &[u8]) -> bool
             entries[high],
             entries[high + 1],
         );
-        let e = entry_of(entries[at], entries[at + 1], value);
-        if let Operation::Malformed = e {
+        if !formed(entries[at], value) {
             return false;
         }
         i += 1;
@@ -87,11 +85,11 @@ pub fn write_refusal(
         return 12;
     }
     let fits = writable(entries.len(), lengths);
-    let formed = well_formed(entries);
+    let known = well_formed(entries);
     if !fits {
         return 17;
     }
-    if !formed {
+    if !known {
         return 13;
     }
     if room < 4 + 4 * lengths.len() + entries.len() {
