@@ -11,6 +11,7 @@ pub mod Operations
 pub mod Answers
 pub mod ByteLaws
 pub mod SheetLaws
+pub mod SheetFacts
 pub mod Passes
 pub mod SoundTests
 pub mod SoundRecords

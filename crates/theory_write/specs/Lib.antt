@@ -2,7 +2,6 @@
 pub mod Follow
 pub mod Pairs
 pub mod SheetOf
-pub mod Facts
 pub mod Written
 pub mod Read
 pub mod Functions

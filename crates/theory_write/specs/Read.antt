@@ -11,7 +11,7 @@ use Rattle.theory_write.specs.Follow.{laidOut-lengths, total-lengths, ru
 use Rattle.theory_write.specs.Pairs.{sheet-parts}
 use Rattle.theory_write.specs.SheetOf.{entries-sheetOf}
 use Rattle.model_write_laws.specs.Facts.{WriteFacts, facts-write}
-use Rattle.theory_write.specs.Facts.{read-facts}
+use Rattle.model_laws.specs.SheetFacts.{sheet-facts}
 
 -- As many cuts as runs.
 length-lengthsOf : (s : List ℕ) → length (lengthsOf s) ≡ runCount s
@@ -48,7 +48,7 @@ module _ (s : List ℕ) (whole : every wholeEntries (runs s) ≡ true) (gap : ga
 pub read-writes : ReadWrites
 unfolding written
 read-writes most s out bytes ok formed gap room =
-    let a = read-facts most s ok in
+    let a = sheet-facts most s ok in
     let n = processCount s in
     let L = roundLimit s in
     let es = entryBytes s in
