@@ -1,6 +1,6 @@
-//! The proved runner beside the separately written one, on the same sheets, in one run.
+//! The proved runner beside the separately written one, on the same sheets, in one run; and the proved writer beside the other.
 //!
-//! usage: bench                                              the table of sheets
+//! usage: bench                                              the tables of sheets that are run and of one that is written
 //!        bench operations PROGRAM                           the table of operations; PROGRAM is the proved one (operations.rs)
 //!        bench calls                                        the separate program's side of it
 //!        bench count proved|separate N L ENTRIES CALLS      that many calls on that sheet, for a tool that counts instructions
@@ -8,30 +8,22 @@
 //! A table has nanoseconds for each of the two, and their ratio. Rounds of the two alternate, and the best of each counts, so that another
 //! load on the machine weighs on both alike.
 
+#[path = "../reference/library.rs"]
+mod library;
 mod operations;
 
+use std::hint::black_box;
 use std::time::Instant;
 
-use janus_reference::{entry, window, Counts, Operation, Phase, Session};
-
-extern "C" {
-    fn janus_run(sheet: *const u8, length: usize, budget: usize, buffer: *mut u8, size: usize) -> u32;
-}
+use janus_reference::{entry, window, write, Counts, Operation, Phase, Session};
 
 const BUFFER: usize = 256;
 const MOST: usize = 10_921;
+const WRITTEN: usize = 10_920;
+const HEADER: usize = 8;
+const ENTRY: usize = 6;
 const ROUNDS: usize = 150;
 const ENTRIES_A_ROUND: usize = 400_000;
-
-/// The proved entry, on slices.
-fn proved(sheet: &[u8], budget: usize, buffer: &mut [u8]) -> u32 {
-    // The library reads the sheet and writes the buffer, each of the length told.
-    unsafe { janus_run(sheet.as_ptr(), sheet.len(), budget, buffer.as_mut_ptr(), buffer.len()) }
-}
-
-fn separate(sheet: &[u8], budget: usize, buffer: &mut [u8]) -> u32 {
-    entry(sheet, budget as u64, buffer)
-}
 
 /// A sheet of one run: every process proposes, then all take turns, told to lead but for one that would be spent.
 fn sheet(n: usize, limit: usize, entries: usize) -> Vec<u8> {
@@ -56,30 +48,52 @@ fn sheet(n: usize, limit: usize, entries: usize) -> Vec<u8> {
     bytes
 }
 
-/// A number of calls on a sheet, none of which is refused.
-fn repeat(run: fn(&[u8], usize, &mut [u8]) -> u32, sheet: &[u8], calls: usize) {
+/// A call that runs a sheet, of which no entry is refused.
+fn running(run: fn(&[u8], u64, &mut [u8]) -> u32, sheet: &[u8]) -> impl FnMut() + '_ {
     let mut buffer = [0; BUFFER];
-    for _ in 0..calls {
-        assert_eq!(run(std::hint::black_box(sheet), MOST, &mut buffer), 0);
-    }
+    move || assert_eq!(run(black_box(sheet), MOST as u64, &mut buffer), 0)
 }
 
-/// Nanoseconds an entry of one round of calls.
-fn round(run: fn(&[u8], usize, &mut [u8]) -> u32, sheet: &[u8], entries: usize) -> f64 {
-    let calls = ENTRIES_A_ROUND.div_ceil(entries);
+/// The size of the sheet of n, L, entries and run lengths that is written to an output; 0 where it is refused.
+type Writer = fn(usize, usize, &[u8], &[usize], &mut [u8]) -> usize;
+
+/// A call that writes the sheet, which has one run, once more.
+fn writing(write: Writer, sheet: &[u8]) -> impl FnMut() + '_ {
+    let (n, limit) = (usize::from(sheet[0]), usize::from(u16::from_le_bytes([sheet[2], sheet[3]])));
+    let (entries, mut output) = (&sheet[HEADER..], sheet.to_vec());
+    let run = [entries.len() / ENTRY];
+    move || assert_eq!(write(n, limit, black_box(entries), &run, &mut output), sheet.len())
+}
+
+fn write_proved(n: usize, limit: usize, entries: &[u8], runs: &[usize], output: &mut [u8]) -> usize {
+    let mut size = 0;
+    library::write(n, limit, entries, runs, output, &mut size);
+    size
+}
+
+fn write_separate(n: usize, limit: usize, entries: &[u8], runs: &[usize], output: &mut [u8]) -> usize {
+    write(n, limit, entries, runs, output).unwrap_or(0)
+}
+
+/// Nanoseconds of so many calls.
+fn round(calls: usize, call: &mut impl FnMut()) -> f64 {
     let start = Instant::now();
-    repeat(run, sheet, calls);
-    start.elapsed().as_nanos() as f64 / (calls * entries) as f64
+    for _ in 0..calls {
+        call();
+    }
+    start.elapsed().as_nanos() as f64
 }
 
-fn compare(n: usize, limit: usize, entries: usize) {
-    let sheet = sheet(n, limit, entries);
-    let (mut ours, mut theirs) = (f64::MAX, f64::MAX);
+/// The best rounds of both, on so many entries a call: nanoseconds an entry, and their ratio.
+fn compare(name: &str, entries: usize, mut ours: impl FnMut(), mut theirs: impl FnMut()) {
+    let calls = ENTRIES_A_ROUND.div_ceil(entries);
+    let mut best = [f64::MAX; 2];
     for _ in 0..ROUNDS {
-        ours = ours.min(round(proved, &sheet, entries));
-        theirs = theirs.min(round(separate, &sheet, entries));
+        best[0] = best[0].min(round(calls, &mut ours));
+        best[1] = best[1].min(round(calls, &mut theirs));
     }
-    println!("| {n} | {limit} | {entries} | {ours:.2} | {theirs:.2} | {:.2} |", ours / theirs);
+    let [ours, theirs] = best.map(|time| time / (calls * entries) as f64);
+    println!("| {name} | {ours:.2} | {theirs:.2} | {:.2} |", ours / theirs);
 }
 
 fn table() {
@@ -88,10 +102,16 @@ fn table() {
     for entries in [100, MOST] {
         for n in [1, 8, 64] {
             for limit in [window(n) as usize, 256] {
-                compare(n, limit, entries);
+                let (name, sheet) = (format!("{n} | {limit} | {entries}"), sheet(n, limit, entries));
+                compare(&name, entries, running(library::run, &sheet), running(entry, &sheet));
             }
         }
     }
+    println!("\n| operation, n 8, L 256 | proved, ns an entry | separate, ns an entry | ratio |");
+    println!("|---|---|---|---|");
+    let sheet = sheet(8, 256, WRITTEN);
+    compare("writing 10,920 entries", WRITTEN, writing(write_proved, &sheet), writing(write_separate, &sheet));
+    println!();
 }
 
 fn main() {
@@ -102,8 +122,8 @@ fn main() {
         ["calls"] => operations::answer(),
         ["operations", program] => operations::table(program),
         ["count", which, n, limit, entries, calls] => {
-            let run = if which == "proved" { proved } else { separate };
-            repeat(run, &sheet(number(n), number(limit), number(entries)), number(calls));
+            let run = if which == "proved" { library::run } else { entry };
+            round(number(calls), &mut running(run, &sheet(number(n), number(limit), number(entries))));
         }
         _ => println!("usage: bench [calls | operations PROGRAM | count proved|separate N L ENTRIES CALLS]"),
     }

@@ -1,6 +1,7 @@
 #!/usr/bin/env bash
-# The benchmark: builds both sides for release and prints a table of sheets and one of single operations. With valgrind on the machine it also
-# counts instructions an entry: those of 11 calls on a sheet of 10,921 entries less those of one call, by the entries of ten.
+# The benchmark: builds both sides for release and prints a table of sheets that are run, one of a sheet that is written and one of single
+# operations. With valgrind on the machine it also counts instructions an entry that is run: those of 11 calls on a sheet of 10,921 entries
+# less those of one call, by the entries of ten.
 set -euo pipefail
 cd "$(dirname "$0")/.."
 ./build.sh archive use_bench reference

@@ -111,8 +111,8 @@ def sheet(n, limit, runs):
     return struct.pack("<BBH", n, len(runs), limit) + pairs + b"".join(runs)
 
 
-def made(text):
-    """The sheet of a list's text."""
+def listed(text):
+    """What a list's text gives: n, L and the bytes of each run."""
     lines = List()
     for place, line in enumerate(re.split("\r\n|\n|\r", text), 1):
         words = line.split("#")[0].split()
@@ -124,7 +124,7 @@ def made(text):
     for name in ("n", "L"):
         if name not in lines.sizes:
             raise Wrong(f"there is no line {name}; n and L are both needed")
-    return sheet(lines.sizes["n"], lines.sizes["L"], lines.runs)
+    return lines.sizes["n"], lines.sizes["L"], lines.runs
 
 
 def read(name):
@@ -148,7 +148,7 @@ def convert(source, target):
     try:
         if "-" not in (source, target) and os.path.exists(target) and os.path.samefile(source, target):
             raise Wrong("it cannot be the list and the sheet at once")
-        data = made(read(source))
+        data = sheet(*listed(read(source)))
     except UnicodeDecodeError:
         raise Wrong(f"{shown(source)}: this is no text in UTF-8, so no list of lines") from None
     except OSError as error:

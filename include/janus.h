@@ -2,8 +2,9 @@
  * janus.h: up to 64 seats agree on one number. For C99 and C++11 and later, on x86-64.
  *
  * A session is one agreement between n seats over rounds 1 to L. A sheet lists what the seats do, in order: propose a number, take
- * a work turn, look at the decision, crash. janus_run opens a session, carries the sheet's entries out one after another and
- * writes down which seats have decided, and on what number. janus_report runs a sheet too and writes the board report's text.
+ * a work turn, look at the decision, crash. janus_write makes a sheet of a list of entries. janus_run opens a session, carries the
+ * sheet's entries out one after another and writes down which seats have decided, and on what number. janus_report runs a sheet
+ * too and writes the board report's text.
  *
  * THE GUARANTEE
  *
@@ -13,6 +14,10 @@
  *   This is proved for every sheet and every budget, unless the sheet or the buffer is refused as a whole (the buffer is then as
  *   it was). docs/AGREEMENT.md has the theorem. Proved as well, for every sheet, damaged ones included: each number returned and
  *   each byte written is what the rules of the scope document give.
+ *
+ *   A sheet that janus_write has made is read as it was given: the same n, L and entries, cut into the same runs. And a sheet with
+ *   an accepted header, well-formed entries, no gaps and no trailing bytes comes back byte for byte when what is read in it is
+ *   written again. Both are proved.
  *
  * THE SHEET (numbers are little-endian)
  *
@@ -29,6 +34,7 @@
  *   kind 3  crash      value: 0
  *
  *   A run may have length 0. Bytes in no run are ignored. A sheet has 4 to 65,535 bytes, so it has 10,921 entries at most.
+ *   janus_write makes the header and the pairs, so that nobody counts offsets by hand.
  */
 #ifndef JANUS_H
 #define JANUS_H
@@ -37,8 +43,8 @@
 #include <stdint.h>
 
 #define JANUS_VERSION_MAJOR 1
-#define JANUS_VERSION_MINOR 0
-#define JANUS_VERSION "1.0"
+#define JANUS_VERSION_MINOR 1
+#define JANUS_VERSION "1.1"
 
 #define JANUS_SEATS_MAX 64
 #define JANUS_ROUNDS_MAX 256
@@ -50,27 +56,32 @@
 #define JANUS_BUFFER_LENGTH 256
 #define JANUS_REPORT_LENGTH 5120
 
+/* The bytes of a sheet that janus_write makes of so many runs and entries. */
+#define JANUS_SHEET_SIZE(runs, entries) (4u + 4u * (runs) + 6u * (entries))
+
 enum { JANUS_PROPOSE = 0, JANUS_WORK = 1, JANUS_LOOK = 2, JANUS_CRASH = 3 };
 enum { JANUS_HINT_NO = 0, JANUS_HINT_YES = 1 };
 
 /*
- * WHAT JANUS_RUN RETURNS: names, numbers and words
+ * WHAT JANUS_RUN AND JANUS_WRITE RETURN: names, numbers and words
  *
- * The tests are made in this order: 15; 10; 1; 2; 11 over all pairs; 12 over all runs. Then entry by entry: 13; for a proposal 4,
- * 5, 6, for a work turn 4, 7, 8, 9, for a look or a crash 4, 7, 8. The first refused entry ends the run. The numbers 3, 14 and 16
- * of the scope document are for callers that hold a session; janus_run never returns them.
+ * The tests of janus_run are made in this order: 15; 10; 1; 2; 11 over all pairs; 12 over all runs. Then entry by entry: 13; for a
+ * proposal 4, 5, 6, for a work turn 4, 7, 8, 9, for a look or a crash 4, 7, 8. The first refused entry ends the run. Those of
+ * janus_write: 1; 2; 12; 17; 13 over all entries; 15; refused, it changes nothing. The numbers 3, 14 and 16 of the scope document
+ * are for callers that hold a session; neither function returns them.
  */
 #define JANUS_RESULTS(X)                                                                                                    \
     X(JANUS_FINISHED, 0, "finished")                                                                                        \
     X(JANUS_BUDGET_ENDED, 100, "budget ended with entries left")                                                            \
-    /* The buffer or the sheet is refused as a whole. The buffer is as it was. */                                           \
+    /* The buffer, the sheet or what is to be written is refused as a whole. The buffer is as it was. */                    \
     X(JANUS_BAD_BUFFER, 15, "buffer of wrong length")                                                                       \
     X(JANUS_BAD_SHEET, 10, "sheet under 4 or over 65,535 bytes, over 16 pairs, or too short for its pairs")                 \
     X(JANUS_BAD_SEAT_COUNT, 1, "seats not 1 to 64")                                                                         \
     X(JANUS_BAD_ROUND_LIMIT, 2, "round limit below the window or above 256")                                                \
     X(JANUS_BAD_PAIRS, 11, "pairs unsorted, overlapping, before the end of the pairs, or past the sheet")                   \
-    X(JANUS_BAD_RUN, 12, "length of a run not a multiple of 6")                                                             \
-    /* An entry is refused. The entries before it were carried out, and the buffer tells how they left the seats. */        \
+    X(JANUS_BAD_RUN, 12, "length of a run, or of the entries to be written, not a multiple of 6")                           \
+    X(JANUS_BAD_CUTS, 17, "over 16 runs or 65,535 bytes to be written, or run lengths that do not add up to the entries")   \
+    /* An entry is refused. janus_run: those before it were carried out, and the buffer tells how they left the seats. */   \
     X(JANUS_BAD_ENTRY, 13, "entry with an unknown kind or a wrong value")                                                   \
     X(JANUS_NO_SUCH_SEAT, 4, "seat number n or above")                                                                      \
     X(JANUS_BLANK_PROPOSAL, 5, "proposal of 0")                                                                             \
@@ -89,6 +100,30 @@ extern "C" {
 #else
 #define JANUS_NOEXCEPT
 #endif
+
+/*
+ * Writes a sheet of n = `seats`, L = `limit` and the entries, 6 bytes each as above, cut into runs of runs[0], runs[1], ..
+ * entries. The first run starts right behind the pairs, each next one at the end of the run before it. Returns 0 and, through
+ * `size`, the sheet's size, which is JANUS_SHEET_SIZE of its runs and entries; bytes of the buffer `sheet` behind it are kept.
+ * Otherwise returns the number of the first of these that does not hold, and changes neither the buffer nor *size:
+ *
+ *    1  n is 1 to 64
+ *    2  L is from the window W to 256
+ *   12  `entries_length`, in bytes, is a multiple of 6
+ *   17  there are 16 runs or less, the sheet has 65,535 bytes or less, and the run lengths add up to the entries; they may be of
+ *       any size, and a sum above SIZE_MAX does not add up
+ *   13  each entry is of a known kind, with a value that its kind may have
+ *   15  `sheet_length` is the sheet's size or more
+ *
+ * Nothing else of an entry is tested: a seat of n or above and a proposal of 0 are written, and refused when the sheet is run. No
+ * runs and no entries make a sheet of 4 bytes. Entries are carried out alike however they are cut; one run for all will do:
+ *
+ *   size_t run = COUNT, size;
+ *   uint8_t sheet[JANUS_SHEET_SIZE(1, COUNT)];
+ *   code = janus_write(n, limit, entries, COUNT * JANUS_ENTRY_LENGTH, &run, 1, sheet, sizeof sheet, &size);
+ */
+uint32_t janus_write(size_t seats, size_t limit, const uint8_t *entries, size_t entries_length, const size_t *runs,
+                     size_t run_count, uint8_t *sheet, size_t sheet_length, size_t *size) JANUS_NOEXCEPT;
 
 /*
  * Runs a sheet. `budget` is the most entries that are carried out; the one behind them is not tried, be it good or bad:
@@ -120,17 +155,18 @@ size_t janus_report(const uint8_t *sheet, size_t sheet_length, uint8_t *buffer, 
 #endif
 
 /*
- * POINTERS. The sheet must be readable for its length and the buffer writable for its length, the two must not overlap, and no
- * other thread may write either during the call: the proof begins there. With length 0 a pointer is not looked at and may be
- * NULL: no sheet is answered with 10, no buffer with 15.
+ * POINTERS. What is read must be readable for its length and what is written writable for its length: the sheet that is run, the
+ * entries and the run lengths; the buffer, the sheet that is written and *size. None of them may overlap one that is written, and
+ * no other thread may write any of them during the call: the proof begins there. With length or count 0 a pointer is not looked at
+ * and may be NULL: no sheet is answered with 10, no buffer with 15; no entries and no runs are in order. `size` must not be NULL.
  *
  * THREADS. The functions keep no state, allocate nothing, take no lock, make no system call and call nothing but memcpy and
- * memset. Any number of threads may call them at once, each with a buffer of its own; they may share a sheet.
+ * memset. Any number of threads may call them at once, each with a buffer of its own; they may share what is only read.
  *
- * STACK. A call of janus_run takes about 18 KB, one of janus_report about 31 KB, and some 3 KB more if the dynamic linker binds
- * memcpy and memset during the call (measured with glibc 2.36 on a processor with AVX-512); either takes less than JANUS_STACK. The C
- * library keeps data of its own on a thread's stack. Give a thread JANUS_THREAD_STACK and what your own functions take. A call on a
- * stack that is too short ends in the guard page, if there is one, never beyond it.
+ * STACK. A call of janus_run takes about 18 KB, one of janus_report about 31 KB, one of janus_write less than 1 KB, and some 3 KB
+ * more if the dynamic linker binds memcpy and memset during the call (measured with glibc 2.36 on a processor with AVX-512); each
+ * takes less than JANUS_STACK. The C library keeps data of its own on a thread's stack. Give a thread JANUS_THREAD_STACK and what
+ * your own functions take. A call on a stack that is too short ends in the guard page, if there is one, never beyond it.
  *
  * LINKING. ./install.sh PREFIX builds the archive and installs it, this header and PREFIX/lib/pkgconfig/janus.pc. Then, with
  * PKG_CONFIG_PATH=PREFIX/lib/pkgconfig: cc server.c $(pkg-config --cflags --libs janus). The code is position-independent and
@@ -141,7 +177,7 @@ size_t janus_report(const uint8_t *sheet, size_t sheet_length, uint8_t *buffer, 
 #define JANUS_STACK 32768
 #define JANUS_THREAD_STACK 65536
 
-/* The words of a number that janus_run returned. */
+/* The words of a number that janus_run or janus_write returned. */
 static inline const char *janus_result_text(uint32_t number)
 {
 #define JANUS_RESULT_WORDS(name, value, words) \
@@ -150,7 +186,7 @@ static inline const char *janus_result_text(uint32_t number)
     switch (number) {
         JANUS_RESULTS(JANUS_RESULT_WORDS)
     default:
-        return "not a number that janus_run returns";
+        return "not a number that janus_run or janus_write returns";
     }
 #undef JANUS_RESULT_WORDS
 }

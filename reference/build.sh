@@ -1,7 +1,7 @@
 #!/bin/sh
 # Builds the reference program and its unit tests into target/reference/ and
-# runs the tests. With the path of a libjanus.a it also builds the differential
-# harness against that library.
+# runs the tests. With the path of a libjanus.a it also builds the programs that
+# compare that library with the reference: differential and writes.
 #
 # usage: reference/build.sh [LIBRARY]
 set -eu
@@ -24,9 +24,11 @@ build --crate-type rlib --crate-name janus_reference \
 build --crate-name reference $uses reference/src/main.rs -o "$out/reference"
 build --test --crate-name tests reference/src/lib.rs -o "$out/tests"
 if [ -n "$library" ]; then
-    build --crate-name differential $uses \
-        -L native="$library" -l static=janus \
-        reference/differential.rs -o "$out/differential"
+    for program in differential writes; do
+        build --crate-name "$program" $uses \
+            -L native="$library" -l static=janus \
+            "reference/$program.rs" -o "$out/$program"
+    done
 fi
 
 "$out/tests" >"$out/tests.txt" 2>&1 || {

@@ -12,111 +12,29 @@
 //! was not reached as often as the table expects; fewer sheets may be too few for
 //! that, and it says so.
 //!
-//! The library is linked in statically as `entry` and exports
-//! `uint32_t janus_run(const uint8_t *sheet, size_t sheet_len, uint64_t budget,
-//! uint8_t *buffer, size_t buffer_len)` and `size_t janus_report(const uint8_t
-//! *sheet, size_t sheet_len, uint8_t *buffer, size_t buffer_len)`. Where the
-//! environment variable BOARD_REPORT names the report's program, that is run on
-//! every 50th of the first 100,000 sheets, and its text is compared too.
+//! The library is linked in statically (`library.rs`). Where the environment
+//! variable BOARD_REPORT names the report's program, that is run on every 50th of
+//! the first 100,000 sheets, and its text is compared too.
+
+#[macro_use]
+mod harness;
+mod library;
 
 use std::ffi::OsStr;
-use std::io::{self, Read, Write};
+use std::io::{self, Write};
 use std::process::{Command, ExitCode, Stdio};
-use std::sync::mpsc::{channel, Receiver, RecvTimeoutError};
-use std::time::{Duration, Instant, SystemTime, UNIX_EPOCH};
+use std::time::{Duration, Instant};
 
+use harness::{
+    ends, raw, same_bytes, size, Comparison, Entry, Random, Reached, GUARD, MOST_ENTRIES,
+};
 use janus_reference::runner::BUFFER;
 use janus_reference::sheet::MAX_BYTES;
 use janus_reference::{
     entry, run, window, Access, Counts, Operation, Phase, Process, Refusal, Session, Sheet,
 };
 
-// ---------------------------------------------------------------- the library
-
-/// The C functions under test.
-mod library {
-    extern "C" {
-        fn janus_run(
-            sheet: *const u8,
-            sheet_len: usize,
-            budget: u64,
-            buffer: *mut u8,
-            buffer_len: usize,
-        ) -> u32;
-        fn janus_report(
-            sheet: *const u8,
-            sheet_len: usize,
-            buffer: *mut u8,
-            buffer_len: usize,
-        ) -> usize;
-    }
-
-    pub fn run(sheet: &[u8], budget: u64, buffer: &mut [u8]) -> u32 {
-        let (from, to) = (sheet.as_ptr(), buffer.as_mut_ptr());
-        // SAFETY: both pointers stand with their own lengths.
-        unsafe { janus_run(from, sheet.len(), budget, to, buffer.len()) }
-    }
-
-    pub fn report(sheet: &[u8], buffer: &mut [u8]) -> usize {
-        let (from, to) = (sheet.as_ptr(), buffer.as_mut_ptr());
-        // SAFETY: both pointers stand with their own lengths.
-        unsafe { janus_report(from, sheet.len(), to, buffer.len()) }
-    }
-}
-
-// ---------------------------------------------------------------- random words
-
-/// The generator splitmix64.
-struct Random(u64);
-
-impl Random {
-    /// The generator of one sheet, by seed and index.
-    fn of(seed: u64, index: u64) -> Random {
-        let mut first = Random(seed);
-        let base = first.word();
-        let mut second = Random(base ^ index.wrapping_mul(0xd134_2543_de82_ef95));
-        Random(second.word())
-    }
-
-    fn word(&mut self) -> u64 {
-        self.0 = self.0.wrapping_add(0x9e37_79b9_7f4a_7c15);
-        let mut word = self.0;
-        word = (word ^ (word >> 30)).wrapping_mul(0xbf58_476d_1ce4_e5b9);
-        word = (word ^ (word >> 27)).wrapping_mul(0x94d0_49bb_1331_11eb);
-        word ^ (word >> 31)
-    }
-
-    /// A number below the bound, which is 1 or more.
-    fn below(&mut self, bound: usize) -> usize {
-        ((u128::from(self.word()) * bound as u128) >> 64) as usize
-    }
-
-    fn between(&mut self, low: usize, high: usize) -> usize {
-        low + self.below(high - low + 1)
-    }
-
-    /// True once in so many times; never for 0.
-    fn once_in(&mut self, odds: usize) -> bool {
-        odds != 0 && self.below(odds) == 0
-    }
-
-    fn pick<T: Copy>(&mut self, from: &[T]) -> T {
-        from[self.below(from.len())]
-    }
-
-    fn byte(&mut self) -> u8 {
-        self.word() as u8
-    }
-}
-
 // ---------------------------------------------------------------- sheets
-
-type Entry = [u8; 6];
-
-fn raw(kind: u8, process: usize, value: u32) -> Entry {
-    let [a, b, c, d] = value.to_le_bytes();
-    [kind, process as u8, a, b, c, d]
-}
 
 fn encode(operation: Operation) -> Entry {
     match operation {
@@ -126,9 +44,6 @@ fn encode(operation: Operation) -> Entry {
         Operation::Crash { process } => raw(3, process, 0),
     }
 }
-
-/// The most entries a sheet can hold.
-const MOST_ENTRIES: usize = 10_921;
 
 /// Which process has the next turn.
 #[derive(Clone, Copy)]
@@ -415,15 +330,11 @@ fn assemble(random: &mut Random, n: u8, limit: u16, entries: &[Entry]) -> Vec<u8
         _ if entries.is_empty() => random.below(2),
         _ => 1,
     };
-    let mut cuts: Vec<usize> = (1..pairs)
-        .map(|_| random.between(0, entries.len()))
-        .collect();
-    cuts.sort_unstable();
-    cuts.push(entries.len());
+    let cuts = ends(random, entries.len(), pairs);
     let gaps = if roomy { random.pick(&[0, 0, 1, 9]) } else { 0 };
     let (mut header, mut body, mut from) = (vec![n, pairs as u8], Vec::new(), 0);
     header.extend(limit.to_le_bytes());
-    for &cut in &cuts[..pairs] {
+    for cut in cuts {
         body.extend((0..random.between(0, gaps)).map(|_| random.byte()));
         let offset = 4 + 4 * pairs + body.len();
         let run = entries[from..cut].concat();
@@ -434,23 +345,6 @@ fn assemble(random: &mut Random, n: u8, limit: u16, entries: &[Entry]) -> Vec<u8
     }
     body.extend((0..random.between(0, gaps)).map(|_| random.byte()));
     [header, body].concat()
-}
-
-/// Seats and round limit, most of them small.
-fn size(random: &mut Random) -> (usize, usize) {
-    let n = match random.below(10) {
-        0..=4 => random.between(1, 6),
-        5..=7 => random.between(5, 20),
-        _ => random.between(1, 64),
-    };
-    let least = window(n) as usize;
-    let limit = match random.below(10) {
-        0..=3 => least,
-        4..=6 => random.between(least, least + 8),
-        7 | 8 => random.between(least, 64),
-        _ => random.pick(&[255, 256, 128, 200]),
-    };
-    (n, limit)
 }
 
 /// A sheet of so many entries or somewhat more, in order but for its end.
@@ -660,16 +554,6 @@ fn budget(random: &mut Random, entries: u64) -> u64 {
 
 // ---------------------------------------------------------------- coverage
 
-/// Names each thing that the sheets are expected to reach, and how often a full
-/// run must reach it at least: once where nothing is said.
-macro_rules! events {
-    ($($event:ident: $name:literal $(at least $least:literal)?,)*) => {
-        #[derive(Clone, Copy)]
-        enum Event { $($event,)* }
-        const EVENTS: &[(&str, u64)] = &[$(($name, [$($least,)? 1][0]),)*];
-    };
-}
-
 events! {
     Proposed: "proposal",
     GateNo: "gate, hint no",
@@ -811,7 +695,7 @@ struct AtStance {
 }
 
 struct Coverage {
-    events: [u64; EVENTS.len()],
+    reached: Reached,
     stances: [AtStance; STANCES.len()],
     /// By n: commits, sheets with L = W, and refusals of L = W - 1.
     commits: [u64; 65],
@@ -823,7 +707,7 @@ struct Coverage {
 impl Coverage {
     fn new() -> Coverage {
         Coverage {
-            events: [0; EVENTS.len()],
+            reached: Reached::none_of(EVENTS),
             stances: [AtStance::default(); STANCES.len()],
             commits: [0; 65],
             least: [0; 65],
@@ -833,11 +717,11 @@ impl Coverage {
     }
 
     fn note(&mut self, event: Event) {
-        self.events[event as usize] += 1;
+        self.reached.note(event);
     }
 
     fn note_if(&mut self, happened: bool, event: Event) {
-        self.events[event as usize] += u64::from(happened);
+        self.reached.note_if(happened, event);
     }
 
     /// Runs the sheet once more, entry by entry, noting what it reaches. Tells
@@ -1172,14 +1056,7 @@ fn look(before: Process, after: Process, coverage: &mut Coverage) {
 impl Coverage {
     /// Prints all that was reached; returns what was expected and was not.
     fn print(&self) -> Vec<String> {
-        let mut missing = Vec::new();
-        println!("{:46} {:>12}", "reached", "times");
-        for ((name, least), &times) in EVENTS.iter().zip(&self.events) {
-            println!("{name:46} {times:12}");
-            if times < *least {
-                missing.push(format!("{name} ({times} of {least} times)"));
-            }
-        }
+        let mut missing = self.reached.print();
         self.print_stances(&mut missing);
         for (name, by_n) in [
             ("a commit", &self.commits),
@@ -1231,9 +1108,6 @@ struct Clock {
     programs: u64,
 }
 
-/// Bytes on either side of the lent buffer, which no call may touch.
-const GUARD: usize = 64;
-
 /// Calls both sides with equal buffers; what differs, in words.
 fn compare(case: &Case, budget: u64, fill: u8, clock: &mut Clock) -> Result<(), String> {
     let mut ours = [fill; GUARD + BUFFER + 1 + GUARD];
@@ -1249,14 +1123,7 @@ fn compare(case: &Case, budget: u64, fill: u8, clock: &mut Clock) -> Result<(), 
     if answer != expected {
         return Err(format!("code: library {answer}, reference {expected}"));
     }
-    let unequal = (0..ours.len()).find(|place| ours[*place] != theirs[*place]);
-    unequal.map_or(Ok(()), |place| {
-        let (theirs, ours) = (theirs[place], ours[place]);
-        let byte = place as i64 - GUARD as i64;
-        Err(format!(
-            "code {answer}, buffer byte {byte}: library {theirs}, reference {ours}"
-        ))
-    })
+    same_bytes(&format!("code {answer}, buffer"), &theirs, &ours)
 }
 
 /// No report's text is longer. (include/janus.h.)
@@ -1342,41 +1209,6 @@ fn compare_program(index: u64, case: &Case, clock: &mut Clock) -> Result<(), Str
     same_text(&text, case).map(|_| ())
 }
 
-/// Runs one case with each of its budgets, then its report.
-fn run_case(
-    index: u64,
-    random: &mut Random,
-    coverage: &mut Coverage,
-    clock: &mut Clock,
-) -> Result<(), (Case, String)> {
-    let case = Case::of(random);
-    let fill = random.byte();
-    for &budget in &case.budgets {
-        let same = compare(&case, budget, fill, clock);
-        if let Err(words) = same.and_then(|()| coverage.case(&case, budget)) {
-            let words = format!("budget {budget}, buffer {}: {words}", case.buffer);
-            return Err((case, words));
-        }
-    }
-    compare_report(&case, fill, clock)
-        .and_then(|()| compare_program(index, &case, clock))
-        .map_err(|words| (case, words))
-}
-
-/// COUNT, 1 or more, and SEED of the command line, or none where they are not
-/// such numbers.
-fn arguments() -> Option<(u64, u64)> {
-    let words: Vec<String> = std::env::args().skip(1).collect();
-    let count = words.first().map_or(Ok(FULL), |word| word.parse());
-    let clock = || SystemTime::now().duration_since(UNIX_EPOCH);
-    let seed = match words.get(1) {
-        Some(word) => word.parse().ok(),
-        None => clock().ok().map(|since| since.as_nanos() as u64),
-    };
-    let count = count.ok().filter(|count| *count > 0)?;
-    (words.len() <= 2).then_some((count, seed?))
-}
-
 fn print_clock(count: u64, coverage: &Coverage, clock: &Clock) {
     let (calls, entries) = (clock.calls, coverage.entries);
     println!("{count} sheets, {calls} calls, {entries} entries carried out");
@@ -1389,119 +1221,57 @@ fn print_clock(count: u64, coverage: &Coverage, clock: &Clock) {
     }
 }
 
-/// Keeps the sheet of a case that went wrong, with words on it.
-fn keep(seed: u64, index: u64, sheet: &[u8], words: &str) -> ExitCode {
-    let file = format!("difference-{seed}-{index}.sheet");
-    println!("difference: seed {seed} index {index}: {words}");
-    match std::fs::write(&file, sheet) {
-        Ok(()) => println!("sheet written to {file}"),
-        Err(error) => println!("{file} could not be written: {error}"),
-    }
-    ExitCode::FAILURE
+/// Random sheets by the C entry and by their reports.
+struct Sheets {
+    coverage: Coverage,
+    clock: Clock,
 }
 
-/// Runs all cases, with a byte 0 on standard output before each.
-fn work(count: u64, seed: u64) -> io::Result<ExitCode> {
-    println!("seed {seed}");
-    let (mut coverage, mut clock) = (Coverage::new(), Clock::default());
-    for index in 0..count {
-        io::stdout().write_all(&[0])?;
-        io::stdout().flush()?;
-        let mut random = Random::of(seed, index);
-        if let Err((case, words)) = run_case(index, &mut random, &mut coverage, &mut clock) {
-            return Ok(keep(seed, index, &case.sheet, &words));
+impl Comparison for Sheets {
+    const NAME: &'static str = "differential";
+    const CASES: &'static str = "sheets";
+    const KEPT: &'static str = "sheet";
+    const FULL: u64 = 100_000;
+    type Case = Case;
+
+    fn new() -> Sheets {
+        Sheets {
+            coverage: Coverage::new(),
+            clock: Clock::default(),
         }
     }
-    let missing = coverage.print();
-    print_clock(count, &coverage, &clock);
-    for name in &missing {
-        println!("not reached: {name}");
-    }
-    if !missing.is_empty() && count >= FULL {
-        return Ok(ExitCode::FAILURE);
-    }
-    if !missing.is_empty() {
-        let left = missing.len();
-        println!(
-            "{count} sheets are too few for full coverage, {left} short of it; {FULL} are enough"
-        );
-    }
-    println!("differential: {count} sheets, no difference");
-    Ok(ExitCode::SUCCESS)
-}
 
-/// So many sheets reach all that is expected, and a run of so many must.
-const FULL: u64 = 100_000;
+    fn case(random: &mut Random) -> Case {
+        Case::of(random)
+    }
 
-/// Set for the process that runs the cases.
-const WORKER: &str = "DIFFERENTIAL_WORKER";
-/// How long one case may take.
-const PATIENCE: Duration = Duration::from_secs(60);
-
-/// Has another process run the cases, so that a fault or an endless run of the
-/// library is a difference with its sheet like any other.
-fn supervise(count: u64, seed: u64) -> io::Result<ExitCode> {
-    let mut worker = Command::new(std::env::current_exe()?)
-        .args([count.to_string(), seed.to_string()])
-        .env(WORKER, "")
-        .stdout(Stdio::piped())
-        .spawn()?;
-    let chunks = chunks_of(worker.stdout.take().expect("a piped output"));
-    let mut begun: u64 = 0;
-    let endless = loop {
-        match chunks.recv_timeout(PATIENCE) {
-            Ok(mut chunk) => {
-                let length = chunk.len();
-                chunk.retain(|byte| *byte != 0);
-                begun += (length - chunk.len()) as u64;
-                io::stdout().write_all(&chunk)?;
-            }
-            Err(RecvTimeoutError::Disconnected) => break false,
-            Err(RecvTimeoutError::Timeout) => break true,
+    /// Each of the case's budgets, then its report.
+    fn compare(&mut self, index: u64, case: &Case, random: &mut Random) -> Result<(), String> {
+        let (clock, fill) = (&mut self.clock, random.byte());
+        for &budget in &case.budgets {
+            compare(case, budget, fill, clock)
+                .and_then(|()| self.coverage.case(case, budget))
+                .map_err(|words| format!("budget {budget}, buffer {}: {words}", case.buffer))?;
         }
-    };
-    if endless {
-        worker.kill()?;
+        compare_report(case, fill, clock)?;
+        compare_program(index, case, clock)
     }
-    let status = worker.wait()?;
-    if let Some(code) = status.code() {
-        return Ok(ExitCode::from(code as u8));
-    }
-    let index = begun.saturating_sub(1);
-    let case = Case::of(&mut Random::of(seed, index));
-    let end = match endless {
-        true => format!("no answer in {PATIENCE:?}"),
-        false => format!("a fault ({status})"),
-    };
-    let words = format!("{end}, one of the budgets {:?}", case.budgets);
-    Ok(keep(seed, index, &case.sheet, &words))
-}
 
-/// What is read from a pipe, for as long as it is open.
-fn chunks_of(mut pipe: impl Read + Send + 'static) -> Receiver<Vec<u8>> {
-    let (sender, receiver) = channel();
-    std::thread::spawn(move || {
-        let mut chunk = [0; 4096];
-        while let Ok(length @ 1..) = pipe.read(&mut chunk) {
-            if sender.send(chunk[..length].to_vec()).is_err() {
-                break;
-            }
-        }
-    });
-    receiver
+    fn print(&self, count: u64) -> Vec<String> {
+        let missing = self.coverage.print();
+        print_clock(count, &self.coverage, &self.clock);
+        missing
+    }
+
+    fn words(case: &Case) -> String {
+        format!("one of the budgets {:?}", case.budgets)
+    }
+
+    fn kept(case: &Case) -> &[u8] {
+        &case.sheet
+    }
 }
 
 fn main() -> ExitCode {
-    let Some((count, seed)) = arguments() else {
-        eprintln!("usage: differential [COUNT] [SEED]");
-        return ExitCode::from(2);
-    };
-    let part = match std::env::var_os(WORKER) {
-        Some(_) => work,
-        None => supervise,
-    };
-    part(count, seed).unwrap_or_else(|error| {
-        eprintln!("differential: {error}");
-        ExitCode::from(2)
-    })
+    harness::run::<Sheets>()
 }

@@ -296,7 +296,7 @@ static void last_seat(void)
 /* Each number has words of its own, and the numbers are those of the scope document. */
 static void words(void)
 {
-    const uint32_t numbers[] = {0, 1, 2, 4, 5, 6, 7, 8, 9, 10, 11, 12, 13, 15, 100};
+    const uint32_t numbers[] = {0, 1, 2, 4, 5, 6, 7, 8, 9, 10, 11, 12, 13, 15, 17, 100};
     const size_t count = sizeof numbers / sizeof *numbers;
     const char *none = janus_result_text(UINT32_MAX);
     for (size_t i = 0; i < count; i++) {
@@ -305,6 +305,7 @@ static void words(void)
             check(strcmp(janus_result_text(numbers[i]), janus_result_text(numbers[j])) != 0, "the words of two numbers", "differ");
     }
     check(strcmp(janus_result_text(3), none) == 0, "the words of 3", "there are none");
+    check(strcmp(janus_result_text(16), none) == 0, "the words of 16", "there are none");
     check(strcmp(janus_result_text(JANUS_BLANK_PROPOSAL), "proposal of 0") == 0, "the words of 5", "as in the table");
 }
 

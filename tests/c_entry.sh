@@ -11,7 +11,7 @@ mkdir -p "$out"
 strict=(-Wall -Wextra -Wpedantic -Werror -Iinclude)
 
 # What the archive has: its own functions and their constants, no data that can be written, and two names that it asks for.
-odd=$(nm "$archive" | grep -E '.' | grep -vE '^janus\.o:$| T janus_(run|report)$| U mem(cpy|set)$| [rt] ' || true)
+odd=$(nm "$archive" | grep -E '.' | grep -vE '^janus\.o:$| T janus_(run|report|write)$| U mem(cpy|set)$| [rt] ' || true)
 [[ -z $odd ]] || { echo "c entry: FAILED: the archive has: $odd" >&2; exit 1; }
 
 # The header alone, included twice, and the example, in each language. C++ knows that nothing is thrown.
@@ -20,6 +20,7 @@ cat >"$out/header.c" <<'END'
 #include "janus.h"
 #ifdef __cplusplus
 static_assert(noexcept(janus_run(nullptr, 0, 0, nullptr, 0)) && noexcept(janus_report(nullptr, 0, nullptr, 0)), "noexcept");
+static_assert(noexcept(janus_write(0, 0, nullptr, 0, nullptr, 0, nullptr, 0, nullptr)), "noexcept");
 #endif
 END
 for language in "gcc -std=c99" "gcc -std=c11" "gcc -std=c17" "g++ -std=c++11 -x c++" "g++ -std=c++17 -x c++"; do
@@ -51,6 +52,11 @@ build c_report "${sanitized[@]}"
 for sheet in examples/*.sheet; do
     "$out/c_report" text <"$sheet" | cmp - <(target/reference/reference report <"$sheet")
 done
+
+# janus_write, and examples/sheet.py, which makes the same sheets.
+build c_write "${sanitized[@]}"
+"$out/c_write"
+python3 tests/written_sheets.py "$out/c_write"
 
 build c_stack -O1 -pthread -Wl,-z,lazy
 "$out/c_stack"

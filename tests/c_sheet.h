@@ -27,10 +27,22 @@ static inline void check(int ok, const char *what, const char *fact)
     passed++;
 }
 
-static inline void put(size_t at, uint32_t value, size_t bytes)
+static inline void put_number(uint8_t *at, uint32_t value, size_t bytes)
 {
     for (size_t i = 0; i < bytes; i++)
-        sheet[at + i] = (uint8_t)(value >> (8 * i));
+        at[i] = (uint8_t)(value >> (8 * i));
+}
+
+static inline void put_entry(uint8_t *at, uint8_t kind, uint8_t seat, uint32_t value)
+{
+    at[0] = kind;
+    at[1] = seat;
+    put_number(at + 2, value, 4);
+}
+
+static inline void put(size_t at, uint32_t value, size_t bytes)
+{
+    put_number(sheet + at, value, bytes);
 }
 
 /* A sheet of n seats and the round limit L with p pairs, all bytes after its first four 0. */
@@ -59,9 +71,7 @@ static inline void end_at(size_t length)
 
 static inline void add(uint8_t kind, uint8_t seat, uint32_t value)
 {
-    sheet[sheet_length] = kind;
-    sheet[sheet_length + 1] = seat;
-    put(sheet_length + 2, value, 4);
+    put_entry(sheet + sheet_length, kind, seat, value);
     end_at(sheet_length + JANUS_ENTRY_LENGTH);
 }
 

@@ -66,6 +66,18 @@ static void *reports(void *unused)
     return __builtin_frame_address(0);
 }
 
+static uint8_t copy[sizeof sheet];
+
+/* The sheet's own entries, in one run. */
+static void *writes(void *unused)
+{
+    const size_t length = sheet_length - HEADER, count = length / JANUS_ENTRY_LENGTH;
+    size_t size;
+    (void)unused;
+    janus_write(sheet[0], sheet[2] + 256u * sheet[3], sheet + HEADER, length, &count, 1, copy, sizeof copy, &size);
+    return __builtin_frame_address(0);
+}
+
 /* Seats in each other's way, then a look and a crash; now and then a byte of the header is another. */
 static void any_sheet(void)
 {
@@ -102,5 +114,6 @@ int main(int argc, char **argv)
     check(used < 1024, "a thread that does nothing", "takes next to nothing");
     measure("janus_run", runs, 18 * 1024);
     measure("janus_report", reports, JANUS_STACK);
+    measure("janus_write", writes, 1024);
     return 0;
 }

@@ -11,29 +11,49 @@ echo "sample sheets: each is what examples/sheet.py makes of its list"
 python3 tests/paper_cases.py check
 python3 tests/paper_lists.py
 
-# What a short run of the harness must find: a library that always answers 0 and leaves the buffers alone.
+# What a short run of either harness must find: a library that always answers 0 and leaves the buffers alone.
 out=target/tests/wrong
 mkdir -p "$out"
-harness() { # WORDS..: the harness, compiled with the words, as target/tests/wrong/differential; 200 sheets must end in a difference
-    rustc --edition 2021 --crate-name differential "$@" reference/differential.rs -o "$out/differential"
-    (cd "$out" && ! ./differential 200 1 >differential.log)
+harness() { # NAME WORDS..: the harness, compiled with the words, in target/tests/wrong; 200 cases must end in a difference
+    rustc --edition 2021 --crate-name "$1" "${@:2}" "reference/$1.rs" -o "$out/$1"
+    (cd "$out" && ! "./$1" 200 1 >differs.log)
 }
-echo 'unsigned janus_run(void) { return 0; } unsigned long janus_report(void) { return 0; }' | gcc -x c -c - -o "$out/janus.o"
-harness --extern janus_reference=target/reference/libjanus_reference.rlib -C link-arg="$out/janus.o"
-grep -q '^difference: seed 1 index ' "$out/differential.log"
-echo "differential: a library that always answers 0 is found in 200 sheets"
+differs() { # WORDS: the difference that was found must be told so
+    grep -q "^difference: seed 1 index $1" "$out/differs.log" || { cat "$out/differs.log"; exit 1; }
+}
+gcc -x c -c - -o "$out/janus.o" <<'END'
+unsigned janus_run(void) { return 0; }
+unsigned long janus_report(void) { return 0; }
+unsigned janus_write(void) { return 0; }
+END
+for name in differential writes; do
+    harness "$name" --extern janus_reference=target/reference/libjanus_reference.rlib -C link-arg="$out/janus.o"
+    differs ''
+    echo "$name: a library that always answers 0 is found in 200 cases"
+done
 
-# And a wrong count, here of the separate program: the marked rounds show it, or the report.
-miscounts() { # WHAT EDIT DIFFERENCE: a copy of the program, its board edited by sed, differs in those words
+# And a wrong program, here a copy of the separate one beside the library.
+wrong() { # NAME FILE WHAT EDIT DIFFERENCE: the copy, its file edited by sed, differs in those words
     rm -rf "$out/src"
     cp -r reference/src "$out"
-    sed -i "$2" "$out/src/board.rs"
-    [[ $(cat "$out/src/board.rs") != "$(cat reference/src/board.rs)" ]]
+    sed -i "$4" "$out/src/$2"
+    if cmp -s "reference/src/$2" "$out/src/$2"; then echo "reference: nothing to edit: $4" && exit 1; fi
     rustc --edition 2021 --crate-type rlib --crate-name janus_reference "$out/src/lib.rs" -o "$out/libjanus_reference.rlib"
-    harness --extern janus_reference="$out/libjanus_reference.rlib" -L native=target/staticlib -l static=janus
-    grep -q "^difference: seed 1 index .*: $3" "$out/differential.log" || { cat "$out/differential.log"; exit 1; }
-    echo "differential: a program that counts $1 is found in 200 sheets"
+    harness "$1" --extern janus_reference="$out/libjanus_reference.rlib" -L native=target/staticlib -l static=janus
+    differs ".*: $5"
+    echo "$1: a program that $3 is found in 200 cases"
+}
+miscounts() { # the marked rounds show it, or the report
+    wrong differential board.rs "counts $1" "${@:2}"
 }
 miscounts "every flag write as contested" 's/u32::from(!\*mark)/1/' 'reference: contested [0-9]*, marked rounds [0-9]*$'
 miscounts "only flag writes of marked rounds as contested" 's/u32::from(!\*mark)/u32::from(*mark)/' 'reference: contested [0-9]*, marked rounds [0-9]*$'
 miscounts "a read for a flag write" 's/ \*mark = true;/ *mark = true; self.counts.reads += 1;/' 'report: library$'
+miswrites() {
+    wrong writes write.rs "$@"
+}
+miswrites "tests 13 before 17" '/let size = size_of_sheet/{h;d};/check_entries(entries)?;/G' 'code: library 17, reference 13$'
+miswrites "adds run lengths up in 64 bits" 's/sum.checked_add(\*run)/Some(sum.wrapping_add(*run))/' 'code: library 17, reference [0-9]*$'
+miswrites "leaves a gap of one byte" 's/let mut offset = header.len();/let mut offset = header.len() + 1;/' 'code 0, output byte [0-9]*: '
+miswrites "returns the size without the header" '/copy_from_slice(entries)/{n;s/size/size - HEADER/}' 'code 0, size: library [0-9]*, reference [0-9]*$'
+miswrites "returns 15 at an exact fit" 's/output.len() < size/output.len() <= size/' 'code: library 0, reference 15$'

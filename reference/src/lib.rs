@@ -34,6 +34,7 @@ pub mod session;
 pub mod sheet;
 pub mod sound;
 pub mod trace;
+pub mod write;
 
 #[cfg(test)]
 mod tests;
@@ -46,3 +47,4 @@ pub use runner::{entry, run, Ending};
 pub use session::{window, Session};
 pub use sheet::{Operation, Sheet};
 pub use trace::{trace, traces};
+pub use write::write;

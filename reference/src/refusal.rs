@@ -1,6 +1,7 @@
-//! The numbers returned. (01, "Numbers returned".)
+//! The numbers returned. (01, "Numbers returned"; 02, wish 3.)
 
-/// A row of the table in 01, "Numbers returned"; `code` gives its number.
+/// A row of the table in 01, "Numbers returned", or a number that 02 adds to it;
+/// `code` gives its number.
 #[derive(Clone, Copy, PartialEq, Eq, Debug)]
 #[repr(u8)]
 pub enum Refusal {
@@ -28,7 +29,8 @@ pub enum Refusal {
     /// Pairs unsorted, overlapping, before the end of the pairs, or past the
     /// sheet.
     Pairs = 11,
-    /// A run's length not a multiple of 6.
+    /// A run's length not a multiple of 6; of a writer's entries, their length. (02,
+    /// wish 3.)
     RunLength = 12,
     /// Entry with an unknown kind or a wrong value.
     Entry = 13,
@@ -38,6 +40,9 @@ pub enum Refusal {
     Buffer = 15,
     /// Work or look, some tally count already 4,294,967,295.
     CountsFull = 16,
+    /// Writing a sheet: more than 16 runs, over 65,535 bytes, or run lengths that
+    /// do not add up to the entries. (02, wish 3.)
+    Cuts = 17,
 }
 
 impl Refusal {

@@ -6,11 +6,11 @@ use crate::session::{check_opening, Session};
 /// The most bytes of a sheet. (01, "Numbers returned", 10.)
 pub const MAX_BYTES: usize = 65_535;
 /// The most pairs of a sheet. (01: p, 0 to 16.)
-const MAX_PAIRS: u8 = 16;
+pub(crate) const MAX_PAIRS: u8 = 16;
 /// The bytes of n, p and L.
-const HEADER: usize = 4;
+pub(crate) const HEADER: usize = 4;
 /// The bytes of an offset and a length.
-const PAIR: usize = 4;
+pub(crate) const PAIR: usize = 4;
 /// The bytes of an entry. (01: kind, seat, 32-bit value.)
 pub const ENTRY: usize = 6;
 

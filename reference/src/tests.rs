@@ -1,10 +1,11 @@
-//! The paper cases of document 01 and each number it returns.
+//! The paper cases of document 01 and each number that it and 02 return.
 
 mod operations;
 mod paper;
 mod random;
 mod sheets;
 mod soundness;
+mod writer;
 
 use crate::{Counts, Operation, Process, Refusal, Session};
 

@@ -1,7 +1,7 @@
 -- Arrays in structs, and stores of lists.
 use lib.Seq.{paste-suc}
-use Rattle.base.specs.Prelude.{ℕ, _+_, suc, _≤_, _<_, arith, add-zero, add-suc, suc-add, add-one, zero-add, _≡_, sym, _∙_}
-use Rattle.base.specs.Prelude.{List, [], _∷_, _++_, map, length, length-map, length-set, getD, set, sets, take, drop}
+use Rattle.base.specs.Prelude.{ℕ, _+_, suc, _≤_, _<_, arith, add-zero, add-suc, suc-add, add-one, zero-add, le-of-lt, _≡_, refl, sym, _∙_}
+use Rattle.base.specs.Prelude.{List, [], _∷_, _++_, map, length, length-map, length-set, getD, set, set-out, sets, take, take-suc, length-take-le, drop}
 
 -- The length of an array in a struct, as the struct's own rule has it: that of the list of its elements' values.
 pub length-mapped : (X Y : Type 0) (f : X → Y) (l : List X) (n : ℕ) → length (map f l) ≡ n → length l ≡ n
@@ -11,6 +11,17 @@ length-mapped X Y f l n h = sym (length-map l f) ∙ h
 pub sets-append : (l : List ℕ) (i : ℕ) (vs ws : List ℕ) → sets l i (vs ++ ws) ≡ sets (sets l i vs) (i + length vs) ws
 sets-append l i [] ws = rw add-zero
 sets-append l i (v ∷ vs) ws = rw (add-suc, ← suc-add) (sets-append (set l i v) (suc i) vs ws)
+
+-- One value more of a list that is being stored.
+pub sets-more : (l : List ℕ) (i : ℕ) (vs : List ℕ) (k : ℕ) → k < length vs
+    → set (sets l i (take k vs)) (i + k) (getD vs k 0) ≡ sets l i (take (k + 1) vs)
+sets-more l i vs k h =
+    rw (add-one, take-suc vs k 0 h, sets-append, length-take-le k vs (le-of-lt h))
+
+-- Past the end of a list nothing is stored.
+pub sets-beyond : (l : List ℕ) (i : ℕ) (vs : List ℕ) → length l ≤ i → sets l i vs ≡ l
+sets-beyond l i [] h = refl
+sets-beyond l i (v ∷ vs) h = rw (set-out l i v h) (sets-beyond l (suc i) vs (omega arith))
 
 -- Of n values the first i are copied to the first i places of a buffer, and the rest of it is as it was.
 abbrev pub Copied : (from : List ℕ) (n : ℕ) (before buffer : List ℕ) (i : ℕ) → Type 0

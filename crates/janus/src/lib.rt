@@ -1,9 +1,10 @@
 // The functions for callers in C, which include/janus.h declares: the runner (01, "Turn sheets", last paragraph) with a sheet, a
-// budget and a buffer of exactly 256 bytes, and the board report.
+// budget and a buffer of exactly 256 bytes, the board report, and the sheet writer (02, wish 3).
 ghost use mathlib.Core.Path.{_≡_};
 ghost use Rattle.model.specs.Runner.{run as runOf};
 ghost use Rattle.model.specs.Export.{exportCode, exportBuffer};
 ghost use Rattle.model_report.specs.ReportExport.{reportCode, reportBuffer};
+ghost use Rattle.model_write.specs.WriteExport.{writeExport};
 use model::Ending;
 use model::Ran;
 
@@ -44,4 +45,27 @@ pub extern "C" fn janus_report(sheet: &[u8], buffer: &mut [u8]) -> usize
     ensures writes { λ _. ⌜ now (buffer .exit) ≡ reportBuffer (now (sheet .entry)) (now (buffer .entry)) ⌝ }
 {
     janus_report::put_report(run(sheet, 10921), buffer)
+}
+
+// Writes a sheet of the entries, cut into runs of the given lengths in entries, to the lent buffer: 0, and its size to the lent number; or the
+// refusal's number and nothing changed.
+#[no_mangle]
+pub extern "C" fn janus_write(
+    n: usize,
+    limit: usize,
+    entries: &[u8],
+    lengths: &[usize],
+    sheet: &mut [u8],
+    size: &mut usize,
+) -> u32
+    ensures code { λ r. ⌜ r ≡ writeExport n limit (now (entries .entry)) (now (lengths .entry)) (now (sheet .entry)) (now (size .entry)) .code ⌝ }
+    ensures writes { λ _. ⌜ now (sheet .exit) ≡ writeExport n limit (now (entries .entry)) (now (lengths .entry)) (now (sheet .entry)) (now (size .entry)) .buffer ⌝ }
+    ensures size { λ _. ⌜ now (size .exit) ≡ writeExport n limit (now (entries .entry)) (now (lengths .entry)) (now (sheet .entry)) (now (size .entry)) .size ⌝ }
+{
+    let answer = sheet_write::write(session_opened::server(), n, limit, entries, lengths, sheet);
+    let code = answer.code;
+    if code == 0 {
+        *size = answer.count;
+    }
+    code
 }

@@ -19,6 +19,10 @@ word32 s i = word16 s i + 65536 * word16 s (i + 2)
 
 -- ---- written
 
+-- A 16-bit number.
+abbrev pub bytes16 : ℕ → List ℕ
+bytes16 v = v % 256 ∷ v / 256 % 256 ∷ []
+
 -- A 32-bit number.
 abbrev pub bytes32 : ℕ → List ℕ
 bytes32 v = v % 256 ∷ v / 256 % 256 ∷ v / 65536 % 256 ∷ v / 16777216 % 256 ∷ []

@@ -1,5 +1,5 @@
 -- What is known where an operation is accepted: none of its tests holds.
-use Rattle.base.specs.Prelude.{ℕ, _<_, arith, _≡_, false, List, [], _∷_, leb-false}
+use Rattle.base.specs.Prelude.{ℕ, _<_, arith, _≡_, refl, Bool, true, false, cond, List, [], _∷_, _++_, eqb, ne-eqb, leb-false}
 use Rattle.base.specs.Bools.{cond-cases}
 use Rattle.model_laws.specs.Types.{Phase, Session, Counts, Operation, Propose, Step, Learn, Crash, Malformed}
 use Rattle.model.specs.Board.{processAt}
@@ -25,6 +25,16 @@ returned k (t ∷ ts) other =
 
 pub none-holds : (ts : List Test) → Without 0 ts → refusal ts ≡ 0 → NoneHolds ts
 none-holds ts other e = returned 0 ts other e .1
+
+-- Tests in front of others: the first refusal among them, else that of the others.
+pub refusal-append : (ts us : List Test) → Without 0 ts → refusal (ts ++ us) ≡ cond (eqb (refusal ts) 0) (refusal us) (refusal ts)
+refusal-append [] us other = refl
+refusal-append (t ∷ ts) us other = front (t .0) (refusal-append ts us (other .1))
+  where
+    front : (b : Bool) → refusal (ts ++ us) ≡ cond (eqb (refusal ts) 0) (refusal us) (refusal ts)
+        → cond b (t .1) (refusal (ts ++ us)) ≡ cond (eqb (cond b (t .1) (refusal ts)) 0) (refusal us) (cond b (t .1) (refusal ts))
+    front true later = rw (ne-eqb (t .1) 0 (other .0))
+    front false later = later
 
 -- The operations' own tests have numbers from 5 on: not 0, and not 3.
 own-without : (k : ℕ) → k < 5 → (φ : Phase) (c : Counts) (o : Operation) → Without k (ownTests φ c o)

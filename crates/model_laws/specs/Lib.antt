@@ -10,6 +10,8 @@ pub mod Sounds
 pub mod Operations
 pub mod Answers
 pub mod ByteLaws
+pub mod SheetLaws
+pub mod SheetFacts
 pub mod Passes
 pub mod SoundTests
 pub mod SoundRecords

@@ -2,7 +2,8 @@
 use Rattle.base.specs.Prelude.{ℕ, suc, zero, _+_, _*_, _≤_, arith, _≡_, refl, ap, true, List, [], _∷_, length, length-append}
 use Rattle.model.specs.declared.Limits.{Limits}
 use Rattle.model.specs.Sheet.{Run, runs, headerEnd, inOrder, entriesAt, entriesOf, entries, sheetRefusal}
-use Rattle.sheet_place_laws.specs.WellFormed.{accepted-formed, in-order}
+use Rattle.model_laws.specs.SheetFacts.{sheet-facts}
+use Rattle.sheet_place_laws.specs.Ordered.{in-order}
 
 length-entriesAt : (s : List ℕ) (i k : ℕ) → length (entriesAt s i k) ≡ k
 length-entriesAt s i zero = refl
@@ -20,5 +21,5 @@ most-of s from size (x ∷ xs) f h =
 pub most-entries : (most : Limits) (s : List ℕ) → sheetRefusal most s ≡ 0 → length (entries s) ≤ 10921
 unfolding entries
 most-entries most s h =
-    let a = accepted-formed most s h in
+    let a = sheet-facts most s h in
     omega (arith, a .few, most-of s (headerEnd s) (length s) (runs s) (a .header) (a .ordered))

@@ -8,15 +8,16 @@ use Rattle.model.specs.Refusal.{refusal, full, processOf, tests}
 use Rattle.model.specs.Machine.{accessOf, after, countsAfter, answered, perform}
 use Rattle.model.specs.Sound.{soundAt}
 use Rattle.model.specs.Runner.{ran, runBy, runFrom, runWithin, run}
-use Rattle.model.specs.Sheet.{processCount, roundLimit, entries, sheetTests, sheetRefusal}
-use Rattle.model_laws.specs.Accepted.{none-holds, Accepted, accepted}
+use Rattle.model.specs.Sheet.{processCount, roundLimit, entries, sheetRefusal}
+use Rattle.model_laws.specs.Accepted.{Accepted, accepted}
+use Rattle.model_laws.specs.SheetFacts.{sheet-facts}
 use Rattle.model_laws.specs.Answers.{accepted-counts}
 use Rattle.model_laws.specs.Operations.{opened-sound, open-accepted, after-sound}
 use Rattle.model_laws.specs.Sounds.{sound-facts}
 use Rattle.model_laws.specs.Windows.{window-least}
 use Rattle.sheet_place_laws.specs.declared.Handed.the-variants.{Next, End}
 use Rattle.sheet_place_laws.specs.Places.{handed, advanced, rest, Inside, Proper}
-use Rattle.sheet_place_laws.specs.WellFormed.{accepted-inside}
+use Rattle.sheet_place_laws.specs.Ordered.{accepted-inside}
 use Rattle.sheet_place_laws.specs.PlaceLaws.{advanced-proper, rest-next, rest-end}
 use Rattle.sheet_run_laws.specs.Entries.{haltOf, entryRefusal, entry-refusal, number-refusal}
 
@@ -35,11 +36,11 @@ pub record Begun (t : List ℕ) (W : ℕ) (s : Session) : Type 0 where
 -- An accepted sheet opens a sound session.
 pub sheet-opens : (t : List ℕ) {W : ℕ} {s : Session} → sheetRefusal serverLimits t ≡ 0 → W ≡ window (processCount t) →
     s ≡ opened (processCount t) (roundLimit t) → Begun t W s
-unfolding sheetRefusal opened
+unfolding opened
 sheet-opens t e ew es =
     let inside = accepted-inside serverLimits t e in
-    let a = none-holds (sheetTests serverLimits t) (omega arith) e in
-    let f = open-accepted serverLimits (processCount t) (roundLimit t) (rw (a .1 .0, a .1 .1 .0)) in
+    let a = sheet-facts serverLimits t e .opens in
+    let f = open-accepted serverLimits (processCount t) (roundLimit t) (rw (a .0, a .1 .0)) in
     rw (ew, es)
     (record {
       opened = record {

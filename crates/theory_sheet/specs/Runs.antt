@@ -8,11 +8,11 @@ use Rattle.model.specs.Machine.{perform}
 use Rattle.model.specs.Public.{operate}
 use Rattle.model.specs.Sound.{sound}
 use Rattle.model.specs.Refusal.{refusal, openTests}
-use Rattle.model.specs.Sheet.{processCount, roundLimit, entries, sheetTests, sheetRefusal}
+use Rattle.model.specs.Sheet.{processCount, roundLimit, entries, sheetRefusal}
 use Rattle.model.specs.Export.{decidedBytes, endingBuffer, exportBuffer}
 use Rattle.model.specs.Runner.{ran, runBy, runFrom, runWithin, run}
 use Rattle.model_laws.specs.Windows.{window-least, window-square}
-use Rattle.model_laws.specs.Accepted.{none-holds}
+use Rattle.model_laws.specs.SheetFacts.{sheet-facts}
 use Rattle.model_laws.specs.Operations.{open-accepted}
 use Rattle.model_rule.specs.Event.{Event}
 use Rattle.model_rule.specs.Calls.{Input, machine, past}
@@ -102,8 +102,7 @@ module _ (t : List ℕ) (budget : ℕ) (ok : sheetRefusal serverLimits t ≡ 0) 
 
   -- The header's n and L open a session.
   pub sheet-opens : refusal (openTests serverLimits (processCount t) (roundLimit t)) ≡ 0
-  unfolding sheetRefusal
-  sheet-opens = let a = none-holds (sheetTests serverLimits t) (omega arith) ok in rw (a .1 .0, a .1 .1 .0)
+  sheet-opens = let a = sheet-facts serverLimits t ok .opens in rw (a .0, a .1 .0)
 
   pub sheet-reached : (1 ≤ processCount t) × Reached (windowOf t) (processCount t) (roundLimit t) (openedBy t) []
   sheet-reached =

@@ -1,7 +1,7 @@
 -- `part_bytes_put::put32` meets its contract: the four stores are those of the four bytes. Assumes nothing.
 use Rattle.base.specs.Prelude.{sym, add-one, add-two, add-three, needs}
 use Rattle.model.specs.Bytes.{bytes32}
-use Rattle.part_bytes_put.specs.Beyond.{sets-beyond}
+use Rattle.base.specs.Arrays.{sets-beyond}
 use Rattle.part_bytes_put.proofs.put32.Statement.{statement}
 use Rattle.part_bytes_put.proofs.put32.Tie as tie
 

@@ -1,9 +1,9 @@
--- `sheet_entry::entry_of` meets its contract: at each `return` the tests that led there say which case of
+-- `part_entry::entry_of` meets its contract: at each `return` the tests that led there say which case of
 -- `entryOf` holds. Assumes nothing.
 use borrow.Author.Tests.{eq-eqb, ne-eqb}
 use Rattle.base.specs.Bools.{cond-same}
-use Rattle.sheet_entry.proofs.entry_of.Statement.{statement}
-use Rattle.sheet_entry.proofs.entry_of.Tie as tie
+use Rattle.part_entry.proofs.entry_of.Statement.{statement}
+use Rattle.part_entry.proofs.entry_of.Tie as tie
 
 ruleset tests = (eq-eqb, ne-eqb, cond-same)
 

@@ -1,23 +1,10 @@
--- What holds of the bytes of an accepted sheet, within whatever limits.
-use Rattle.base.specs.Prelude.{ℕ, suc, zero, _+_, _≤_, _<_, arith, _≡_, true, List, _∷_, length, leb-true, not-false}
+-- Runs in order, and that those of an accepted sheet, within whatever limits, end within its bytes.
+use Rattle.base.specs.Prelude.{ℕ, suc, zero, _+_, _≤_, _<_, arith, _≡_, true, List, _∷_, length, leb-true}
 use Rattle.base.specs.Bools.{and-left, and-right}
 use Rattle.model.specs.declared.Limits.{Limits}
-use Rattle.model.specs.Sheet.{Run, runAt, runCount, runsFrom, runs, headerEnd, inOrder, sheetTests, sheetRefusal}
-use Rattle.model_laws.specs.Accepted.{none-holds}
+use Rattle.model.specs.Sheet.{Run, runAt, runCount, runsFrom, headerEnd, inOrder, sheetRefusal}
+use Rattle.model_laws.specs.SheetFacts.{sheet-facts}
 use Rattle.sheet_place_laws.specs.Places.{Inside}
-
--- It has the four bytes of its header, those of its pairs, 65,535 at most, and its runs are in order.
-pub record WellFormed (s : List ℕ) : Type 0 where
-  pub some : 4 ≤ length s
-  pub few : length s ≤ 65535
-  pub header : headerEnd s ≤ length s
-  pub ordered : inOrder (headerEnd s) (length s) (runs s) ≡ true
-
-pub accepted-formed : (most : Limits) (s : List ℕ) → sheetRefusal most s ≡ 0 → WellFormed s
-unfolding sheetRefusal
-accepted-formed most s e =
-    let a = none-holds (sheetTests most s) (omega arith) e in
-    search (and-left, and-right, leb-true, not-false)
 
 -- The first of runs in order lies where it may, and the others are in order behind it.
 pub in-order : (from size : ℕ) (x : Run) (xs : List Run) → inOrder from size (x ∷ xs) ≡ true
@@ -38,6 +25,6 @@ ends-in s size (suc k) from i h j (suc d) e l =
 -- So every run of it ends within 65,535 bytes.
 pub accepted-inside : (most : Limits) (s : List ℕ) → sheetRefusal most s ≡ 0 → Inside s
 accepted-inside most s h =
-    let a = accepted-formed most s h in
+    let a = sheet-facts most s h in
     let ends = ends-in s (length s) (runCount s) (headerEnd s) 0 (a .ordered) in
     record { ends = λ i l. omega (arith, a .few, ends i i (omega arith) l) }

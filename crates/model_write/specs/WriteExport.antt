@@ -1,0 +1,24 @@
+-- The writer for callers in C (document 02, wish 3): the refusal or 0; the size goes to a lent number, which a refused call leaves as it was.
+use Prim.Native.Nat.{ℕ}
+use mathlib.Core.Bool.{cond}
+use mathlib.Core.List.{List}
+use lib.Dec.{eqb}
+use Rattle.model.specs.declared.CountAnswer.{CountAnswer}
+use Rattle.model.specs.Board.{serverLimits}
+use Rattle.model_write.specs.Write.{Written, written}
+
+-- What C gets: the code, what the output buffer holds, and the lent number.
+pub record WriteExport : Type 0 where
+  pub code : ℕ
+  pub buffer : List ℕ
+  pub size : ℕ
+
+-- The size where the call was accepted, else the number as it was.
+abbrev pub sizeLeft : CountAnswer → (size : ℕ) → ℕ
+sizeLeft a before = cond (eqb (a .code) 0) (a .count) before
+
+-- Within the server's limits.
+unfoldable pub writeExport : (n L : ℕ) (entries lengths output : List ℕ) (size : ℕ) → WriteExport
+writeExport n L es ms out size =
+    let w = written serverLimits n L es ms out in
+    record { code = w .answer .code; buffer = w .buffer; size = sizeLeft (w .answer) size }

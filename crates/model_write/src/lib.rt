@@ -1,0 +1,1 @@
+// The sheet writer as a definition: specs/. No code.

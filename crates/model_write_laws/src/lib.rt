@@ -1,0 +1,1 @@
+// Laws of the sheet writer's definition: specs/. No code.

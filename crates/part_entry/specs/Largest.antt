@@ -1,0 +1,25 @@
+-- Document 01, "Turn sheets": "Kinds: 0 propose (any value), 1 work (value 0 is hint no, 1 is yes), 2 look (0), 3 crash (0)", as the largest value of each.
+use Rattle.base.specs.Prelude.{ℕ, zero, suc, _<_, arith, _≡_, refl, false, not, List, [], _∷_, getD, leb, le-leb, lt-leb, ne-eqb}
+use Rattle.model.specs.Refusal.{isMalformed}
+use Rattle.model.specs.Sheet.{entryOf}
+
+abbrev pub largest : List ℕ
+largest = 4294967295 ∷ 1 ∷ 0 ∷ 0 ∷ []
+
+-- An entry of a kind is well-formed exactly if its value is at most the kind's largest, whatever its process.
+pub formed-largest : (kind p v : ℕ) → kind < 4 → v < 4294967296 → leb v (getD largest kind 0) ≡ not (isMalformed (entryOf kind p v))
+formed-largest zero p v known low = le-leb v 4294967295 (omega arith)
+formed-largest (suc zero) p zero known low = refl
+formed-largest (suc zero) p (suc zero) known low = refl
+formed-largest (suc zero) p (suc (suc v)) known low =
+    rw (lt-leb (suc (suc v)) 1 (omega arith), ne-eqb (suc (suc v)) 0 (λ e. omega arith), ne-eqb (suc (suc v)) 1 (λ e. omega arith))
+formed-largest (suc (suc zero)) p zero known low = refl
+formed-largest (suc (suc zero)) p (suc v) known low = rw (lt-leb (suc v) 0 (omega arith), ne-eqb (suc v) 0 (λ e. omega arith))
+formed-largest (suc (suc (suc zero))) p zero known low = refl
+formed-largest (suc (suc (suc zero))) p (suc v) known low = rw (lt-leb (suc v) 0 (omega arith), ne-eqb (suc v) 0 (λ e. omega arith))
+formed-largest (suc (suc (suc (suc k)))) p v known low = absurd (omega arith)
+
+-- There is no other kind.
+pub formed-unknown : (kind p v : ℕ) → (kind < 4 → ⊥) → not (isMalformed (entryOf kind p v)) ≡ false
+formed-unknown kind p v other =
+    rw (ne-eqb kind 0 (λ e. omega arith), ne-eqb kind 1 (λ e. omega arith), ne-eqb kind 2 (λ e. omega arith), ne-eqb kind 3 (λ e. omega arith))

@@ -1,0 +1,2 @@
+-- Which values an entry of a kind may have.
+pub mod Largest

@@ -1,0 +1,316 @@
+//! What the programs share that compare the library with the reference: random
+//! words, parts of random sheets, the table of what was reached, and the run of
+//! many cases by a process that is watched.
+
+use std::io::{self, Read, Write};
+use std::process::{Command, ExitCode, Stdio};
+use std::sync::mpsc::{channel, Receiver, RecvTimeoutError};
+use std::time::{Duration, SystemTime, UNIX_EPOCH};
+
+use janus_reference::window;
+
+// ---------------------------------------------------------------- random words
+
+/// The generator splitmix64.
+pub struct Random(u64);
+
+impl Random {
+    /// The generator of one case, by seed and index.
+    fn of(seed: u64, index: u64) -> Random {
+        let mut first = Random(seed);
+        let base = first.word();
+        let mut second = Random(base ^ index.wrapping_mul(0xd134_2543_de82_ef95));
+        Random(second.word())
+    }
+
+    pub fn word(&mut self) -> u64 {
+        self.0 = self.0.wrapping_add(0x9e37_79b9_7f4a_7c15);
+        let mut word = self.0;
+        word = (word ^ (word >> 30)).wrapping_mul(0xbf58_476d_1ce4_e5b9);
+        word = (word ^ (word >> 27)).wrapping_mul(0x94d0_49bb_1331_11eb);
+        word ^ (word >> 31)
+    }
+
+    /// A number below the bound, which is 1 or more.
+    pub fn below(&mut self, bound: usize) -> usize {
+        ((u128::from(self.word()) * bound as u128) >> 64) as usize
+    }
+
+    pub fn between(&mut self, low: usize, high: usize) -> usize {
+        low + self.below(high - low + 1)
+    }
+
+    /// True once in so many times; never for 0.
+    pub fn once_in(&mut self, odds: usize) -> bool {
+        odds != 0 && self.below(odds) == 0
+    }
+
+    pub fn pick<T: Copy>(&mut self, from: &[T]) -> T {
+        from[self.below(from.len())]
+    }
+
+    pub fn byte(&mut self) -> u8 {
+        self.word() as u8
+    }
+}
+
+// ---------------------------------------------------------------- parts of sheets
+
+pub type Entry = [u8; 6];
+
+pub fn raw(kind: u8, process: usize, value: u32) -> Entry {
+    let [a, b, c, d] = value.to_le_bytes();
+    [kind, process as u8, a, b, c, d]
+}
+
+/// The most entries a sheet can hold.
+pub const MOST_ENTRIES: usize = 10_921;
+
+/// Seats and round limit, most of them small.
+pub fn size(random: &mut Random) -> (usize, usize) {
+    let n = match random.below(10) {
+        0..=4 => random.between(1, 6),
+        5..=7 => random.between(5, 20),
+        _ => random.between(1, 64),
+    };
+    let least = window(n) as usize;
+    let limit = match random.below(10) {
+        0..=3 => least,
+        4..=6 => random.between(least, least + 8),
+        7 | 8 => random.between(least, 64),
+        _ => random.pick(&[255, 256, 128, 200]),
+    };
+    (n, limit)
+}
+
+/// Where so many runs of the entries end: anywhere but for the last one.
+pub fn ends(random: &mut Random, entries: usize, runs: usize) -> Vec<usize> {
+    let mut ends: Vec<usize> = (1..runs).map(|_| random.between(0, entries)).collect();
+    ends.sort_unstable();
+    if runs > 0 {
+        ends.push(entries);
+    }
+    ends
+}
+
+// ---------------------------------------------------------------- what is reached
+
+/// Names each thing that the cases are expected to reach, and how often a full
+/// run must reach it at least: once where nothing is said.
+macro_rules! events {
+    ($($event:ident: $name:literal $(at least $least:literal)?,)*) => {
+        #[derive(Clone, Copy)]
+        enum Event { $($event,)* }
+        const EVENTS: &[(&str, u64)] = &[$(($name, [$($least,)? 1][0]),)*];
+        impl From<Event> for usize {
+            fn from(event: Event) -> usize {
+                event as usize
+            }
+        }
+    };
+}
+
+/// How often each event was reached.
+pub struct Reached {
+    events: &'static [(&'static str, u64)],
+    times: Vec<u64>,
+}
+
+impl Reached {
+    pub fn none_of(events: &'static [(&'static str, u64)]) -> Reached {
+        let times = vec![0; events.len()];
+        Reached { events, times }
+    }
+
+    pub fn note(&mut self, event: impl Into<usize>) {
+        self.times[event.into()] += 1;
+    }
+
+    pub fn note_if(&mut self, happened: bool, event: impl Into<usize>) {
+        self.times[event.into()] += u64::from(happened);
+    }
+
+    /// Prints the table; returns what was expected and was not reached.
+    pub fn print(&self) -> Vec<String> {
+        let mut missing = Vec::new();
+        println!("{:46} {:>12}", "reached", "times");
+        for ((name, least), &times) in self.events.iter().zip(&self.times) {
+            println!("{name:46} {times:12}");
+            if times < *least {
+                missing.push(format!("{name} ({times} of {least} times)"));
+            }
+        }
+        missing
+    }
+}
+
+// ---------------------------------------------------------------- the comparison
+
+/// Bytes on either side of a lent buffer, which no call may touch.
+pub const GUARD: usize = 64;
+
+/// The bytes that the two sides leave must be equal; places count from the lent
+/// buffer on.
+pub fn same_bytes(what: &str, theirs: &[u8], ours: &[u8]) -> Result<(), String> {
+    let unequal = (0..ours.len()).find(|place| ours[*place] != theirs[*place]);
+    unequal.map_or(Ok(()), |place| {
+        let (theirs, ours) = (theirs[place], ours[place]);
+        let byte = place as i64 - GUARD as i64;
+        Err(format!(
+            "{what} byte {byte}: library {theirs}, reference {ours}"
+        ))
+    })
+}
+
+/// A program that compares the two sides on random cases.
+pub trait Comparison {
+    /// The program's name, and its word for the cases.
+    const NAME: &'static str;
+    const CASES: &'static str;
+    /// What of a case is kept in a file where the sides differ.
+    const KEPT: &'static str;
+    /// So many cases reach all that is expected, and a run of so many must.
+    const FULL: u64;
+    type Case;
+
+    fn new() -> Self;
+    fn case(random: &mut Random) -> Self::Case;
+    /// What differs, in words.
+    fn compare(&mut self, index: u64, case: &Self::Case, random: &mut Random)
+        -> Result<(), String>;
+    /// Prints what so many cases reached; returns what they should have and did not.
+    fn print(&self, count: u64) -> Vec<String>;
+    /// What the kept bytes do not tell of a case that came to no end.
+    fn words(case: &Self::Case) -> String;
+    fn kept(case: &Self::Case) -> &[u8];
+}
+
+/// COUNT, 1 or more, and SEED of the command line, or none where they are not
+/// such numbers.
+fn arguments(full: u64) -> Option<(u64, u64)> {
+    let words: Vec<String> = std::env::args().skip(1).collect();
+    let count = words.first().map_or(Ok(full), |word| word.parse());
+    let clock = || SystemTime::now().duration_since(UNIX_EPOCH);
+    let seed = match words.get(1) {
+        Some(word) => word.parse().ok(),
+        None => clock().ok().map(|since| since.as_nanos() as u64),
+    };
+    let count = count.ok().filter(|count| *count > 0)?;
+    (words.len() <= 2).then_some((count, seed?))
+}
+
+/// Keeps the bytes of a case that went wrong, with words on it.
+fn keep<C: Comparison>(seed: u64, index: u64, case: &C::Case, words: &str) -> ExitCode {
+    let kept = C::KEPT;
+    let file = format!("difference-{seed}-{index}.{kept}");
+    println!("difference: seed {seed} index {index}: {words}");
+    match std::fs::write(&file, C::kept(case)) {
+        Ok(()) => println!("{kept} written to {file}"),
+        Err(error) => println!("{file} could not be written: {error}"),
+    }
+    ExitCode::FAILURE
+}
+
+/// Runs all cases, with a byte 0 on standard output before each.
+fn work<C: Comparison>(count: u64, seed: u64) -> io::Result<ExitCode> {
+    println!("seed {seed}");
+    let mut comparison = C::new();
+    for index in 0..count {
+        io::stdout().write_all(&[0])?;
+        io::stdout().flush()?;
+        let mut random = Random::of(seed, index);
+        let case = C::case(&mut random);
+        if let Err(words) = comparison.compare(index, &case, &mut random) {
+            return Ok(keep::<C>(seed, index, &case, &words));
+        }
+    }
+    let missing = comparison.print(count);
+    for name in &missing {
+        println!("not reached: {name}");
+    }
+    let (cases, full, left) = (C::CASES, C::FULL, missing.len());
+    if left > 0 && count >= full {
+        return Ok(ExitCode::FAILURE);
+    }
+    if left > 0 {
+        println!(
+            "{count} {cases} are too few for full coverage, {left} short of it; {full} are enough"
+        );
+    }
+    println!("{}: {count} {cases}, no difference", C::NAME);
+    Ok(ExitCode::SUCCESS)
+}
+
+/// Set for the process that runs the cases.
+const WORKER: &str = "COMPARISON_WORKER";
+/// How long one case may take.
+const PATIENCE: Duration = Duration::from_secs(60);
+
+/// Has another process run the cases, so that a fault or an endless run of the
+/// library is a difference with its case like any other.
+fn supervise<C: Comparison>(count: u64, seed: u64) -> io::Result<ExitCode> {
+    let mut worker = Command::new(std::env::current_exe()?)
+        .args([count.to_string(), seed.to_string()])
+        .env(WORKER, "")
+        .stdout(Stdio::piped())
+        .spawn()?;
+    let chunks = chunks_of(worker.stdout.take().expect("a piped output"));
+    let mut begun: u64 = 0;
+    let endless = loop {
+        match chunks.recv_timeout(PATIENCE) {
+            Ok(mut chunk) => {
+                let length = chunk.len();
+                chunk.retain(|byte| *byte != 0);
+                begun += (length - chunk.len()) as u64;
+                io::stdout().write_all(&chunk)?;
+            }
+            Err(RecvTimeoutError::Disconnected) => break false,
+            Err(RecvTimeoutError::Timeout) => break true,
+        }
+    };
+    if endless {
+        worker.kill()?;
+    }
+    let status = worker.wait()?;
+    if let Some(code) = status.code() {
+        return Ok(ExitCode::from(code as u8));
+    }
+    let index = begun.saturating_sub(1);
+    let case = C::case(&mut Random::of(seed, index));
+    let end = match endless {
+        true => format!("no answer in {PATIENCE:?}"),
+        false => format!("a fault ({status})"),
+    };
+    let words = format!("{end}, {}", C::words(&case));
+    Ok(keep::<C>(seed, index, &case, &words))
+}
+
+/// What is read from a pipe, for as long as it is open.
+fn chunks_of(mut pipe: impl Read + Send + 'static) -> Receiver<Vec<u8>> {
+    let (sender, receiver) = channel();
+    std::thread::spawn(move || {
+        let mut chunk = [0; 4096];
+        while let Ok(length @ 1..) = pipe.read(&mut chunk) {
+            if sender.send(chunk[..length].to_vec()).is_err() {
+                break;
+            }
+        }
+    });
+    receiver
+}
+
+/// The program: `NAME [COUNT] [SEED]`.
+pub fn run<C: Comparison>() -> ExitCode {
+    let Some((count, seed)) = arguments(C::FULL) else {
+        eprintln!("usage: {} [COUNT] [SEED]", C::NAME);
+        return ExitCode::from(2);
+    };
+    let part = match std::env::var_os(WORKER) {
+        Some(_) => work::<C>,
+        None => supervise::<C>,
+    };
+    part(count, seed).unwrap_or_else(|error| {
+        eprintln!("{}: {error}", C::NAME);
+        ExitCode::from(2)
+    })
+}
