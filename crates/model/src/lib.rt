@@ -109,6 +109,7 @@ pub struct DecisionAnswer {
     pub value: u32,
 }
 
+// How many: values that are listed; of the sheet writer (02, wish 3), bytes that are written.
 pub struct CountAnswer {
     pub code: u32,
     pub count: usize,
