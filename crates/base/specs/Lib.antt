@@ -2,4 +2,5 @@
 pub mod Bools
 pub mod Arrays
 pub mod Prelude
+pub mod Squares
 pub mod Walks

@@ -1,12 +1,8 @@
 -- The rounded-up root, and the window made of it.
 use Rattle.base.specs.Prelude.{ℕ, suc, zero, _+_, _*_, _≤_, arith, leb, leb-true}
 use Rattle.base.specs.Bools.{cond-cases}
+use Rattle.base.specs.Squares.{le-square}
 use Rattle.model.specs.Window.{rootFrom, rootUp, window}
-
--- A number is at most its square.
-pub le-square : (n : ℕ) → n ≤ n * n
-le-square zero = omega arith
-le-square (suc n) = omega arith
 
 -- The number found has a square of at least n, if the last number tried has.
 pub root-from-square : (fuel m n : ℕ) → n ≤ (m + fuel) * (m + fuel) → n ≤ rootFrom fuel m n * rootFrom fuel m n

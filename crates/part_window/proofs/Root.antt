@@ -1,5 +1,6 @@
 -- Laws of the root rounded up, for the loop of `window`. Assumes nothing.
 use Rattle.base.specs.Prelude.{ℕ, suc, zero, _+_, _*_, _-_, _≤_, _<_, _≡_, refl, mul-le-mul, lt-of-not-le, add-one, arith, le-leb, lt-leb}
+use Rattle.base.specs.Squares.{le-square}
 use Rattle.model.specs.Window.{rootFrom}
 
 -- Of two numbers the smaller has the smaller square.
@@ -9,11 +10,6 @@ square-small m k h = mul-le-mul h h
 -- The smaller square has the smaller root.
 pub root-small : (m k : ℕ) → m * m < k * k → m < k
 root-small m k h = lt-of-not-le (λ l. omega (arith, square-small k m l))
-
--- A number is at most its square.
-square-above : (m : ℕ) → m ≤ m * m
-square-above zero = omega arith
-square-above (suc m) = omega (arith, mul-le-mul {n₁ = 1} {m₁ = suc m} {n₂ = suc m} {m₂ = suc m} (omega arith) (omega arith))
 
 -- Where the square of m reaches n, the search from m stops at m.
 pub root-found : (fuel m n : ℕ) → n ≤ m * m → rootFrom fuel m n ≡ m
@@ -25,5 +21,5 @@ root-found (suc fuel) m n h = simp (le-leb _ _ h)
 pub root-above : (m n : ℕ) → m * m < n → rootFrom (n - m) m n ≡ rootFrom (n - (m + 1)) (m + 1) n
 unfolding rootFrom
 root-above m n h =
-    let one : n - m ≡ suc (n - (m + 1)) = omega (arith, square-above m) in
+    let one : n - m ≡ suc (n - (m + 1)) = omega (arith, le-square m) in
     rw (one, lt-leb n (m * m) h, add-one m)
