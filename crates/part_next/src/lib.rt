@@ -29,18 +29,23 @@ fn upward(limit: usize, k: usize) -> Phase
     }
 }
 
-// 01, "One turn at a time", gate with hint yes. The window plays no part.
-fn lead(limit: usize, round: usize, estimate: u32, x: u32) -> Process
-    ensures { λ r. ⌜ ((W : ℕ) → r ≡ nextAt W limit round estimate Phase.Waiting true x) ⌝ }
+// 01, "One turn at a time", gate. The tests stand as in `part_access::gate_access`, and where no register is read the hint is asked again: the
+// compiler then makes one branch of the tests of both functions, and behind it the phase goes by the hint alone. The window plays no part.
+fn waiting(limit: usize, round: usize, estimate: u32, leader: bool, x: u32) -> Process
+    ensures { λ r. ⌜ ((W : ℕ) → r ≡ nextAt W limit round estimate Phase.Waiting leader x) ⌝ }
 {
-    if round < limit {
-        if x == 0 {
-            process(Phase::Write, round + 1, estimate)
-        } else {
-            process(upward(limit, round + 1), round + 1, estimate)
+    if leader {
+        if round < limit {
+            if x == 0 {
+                return process(Phase::Write, round + 1, estimate);
+            }
+            return process(upward(limit, round + 1), round + 1, estimate);
         }
-    } else {
+    }
+    if leader {
         process(Phase::Exhausted, round, estimate)
+    } else {
+        process(Phase::Waiting, round, estimate)
     }
 }
 
@@ -139,13 +144,7 @@ pub fn next(window: usize, limit: usize, q: Process, leader: bool, x: u32) -> Pr
     let e = q.estimate;
     match phase {
         Phase::Idle => process(Phase::Idle, r, e),
-        Phase::Waiting => {
-            if leader {
-                lead(limit, r, e, x)
-            } else {
-                process(Phase::Waiting, r, e)
-            }
-        }
+        Phase::Waiting => waiting(limit, r, e, leader, x),
         Phase::Write => process(Phase::Compare(0), r, e),
         Phase::Scan(k) => process(scan(limit, k, x == 0), r, e),
         Phase::Adopt(k) => process(Phase::Compare(0), k, adopted(e, x)),

@@ -13,7 +13,7 @@ next-spec =
     tie.close
     (tie.spec
     (search needs) (search needs)  -- idle: told, process
-    (search needs) (search needs) (search needs)  -- waiting: told, lead, process
+    (search needs) (search needs)  -- waiting: told, waiting
     (search needs) (search needs)  -- write: told, process
     (search needs) (search needs) (search needs)  -- scan: told, scan, process
     (search needs) (search needs) (search needs)  -- adopt: told, adopted, process
@@ -25,7 +25,7 @@ next-spec =
     (search needs) (search needs)  -- exhausted: told, process
     (search needs) (search needs)  -- crashed: told, process
     (search needs) (search needs)  -- decided: told, process
-    idle waiting-yes waiting-no write scan adopt compare
+    idle waiting write scan adopt compare
     flag check-mark check-value commit exhausted crashed decided)
   where
     -- ---- what each arm answers
@@ -46,44 +46,38 @@ next-spec =
     idle : tie.Need-returns
     idle c = answer (c .before .before .before) (c .before .enum-told .given .1) (c .process .ensures)
 
-    waiting-yes : tie.Need-returns-2
-    waiting-yes c =
-        let t = c .before .before in
-        answer (t .before .before) (t .enum-told2 .given .1)
-        (rw (c .before .if1 .taken) (c .lead .ensures (t .before .before .args .window)))
+    waiting : tie.Need-returns-2
+    waiting c = answer (c .before .before .before) (c .before .enum-told2 .given .1) (c .waiting .ensures (c .before .before .before .args .window))
 
-    waiting-no : tie.Need-returns-3
-    waiting-no c = answer (c .before .before .before .before) (c .before .before .enum-told2 .given .1) (rw (c .before .if1 .left) (c .process2 .ensures))
+    write : tie.Need-returns-3
+    write c = answer (c .before .before .before) (c .before .enum-told3 .given .1) (c .process2 .ensures)
 
-    write : tie.Need-returns-4
-    write c = answer (c .before .before .before) (c .before .enum-told3 .given .1) (c .process3 .ensures)
+    scan : tie.Need-returns-4
+    scan c = answer (c .before .before .before .before .before) (c .before .before .before .phase .given .1) (made (c .process3 .ensures) (c .before .scan .ensures) refl)
 
-    scan : tie.Need-returns-5
-    scan c = answer (c .before .before .before .before .before) (c .before .before .before .phase .given .1) (made (c .process4 .ensures) (c .before .scan .ensures) refl)
+    adopt : tie.Need-returns-5
+    adopt c = answer (c .before .before .before .before .before) (c .before .before .before .phase2 .given .1) (made (c .process4 .ensures) refl (c .before .adopted .ensures))
 
-    adopt : tie.Need-returns-6
-    adopt c = answer (c .before .before .before .before .before) (c .before .before .before .phase2 .given .1) (made (c .process5 .ensures) refl (c .before .adopted .ensures))
+    compare : tie.Need-returns-6
+    compare c = answer (c .before .before .before .before .before) (c .before .before .before .phase3 .given .1) (made (c .process5 .ensures) (c .before .compare .ensures) refl)
 
-    compare : tie.Need-returns-7
-    compare c = answer (c .before .before .before .before .before) (c .before .before .before .phase3 .given .1) (made (c .process6 .ensures) (c .before .compare .ensures) refl)
+    flag : tie.Need-returns-7
+    flag c = answer (c .before .before .before .before .before) (c .before .before .before .phase4 .given .1) (made (c .process6 .ensures) (c .before .go-on .ensures) refl)
 
-    flag : tie.Need-returns-8
-    flag c = answer (c .before .before .before .before .before) (c .before .before .before .phase4 .given .1) (made (c .process7 .ensures) (c .before .go-on .ensures) refl)
+    check-mark : tie.Need-returns-8
+    check-mark c = answer (c .before .before .before .before .before) (c .before .before .before .phase5 .given .1) (made (c .process7 .ensures) (c .before .check-mark .ensures) refl)
 
-    check-mark : tie.Need-returns-9
-    check-mark c = answer (c .before .before .before .before .before) (c .before .before .before .phase5 .given .1) (made (c .process8 .ensures) (c .before .check-mark .ensures) refl)
+    check-value : tie.Need-returns-9
+    check-value c = answer (c .before .before .before .before .before) (c .before .before .before .phase6 .given .1) (made (c .process8 .ensures) (c .before .check-value .ensures) refl)
 
-    check-value : tie.Need-returns-10
-    check-value c = answer (c .before .before .before .before .before) (c .before .before .before .phase6 .given .1) (made (c .process9 .ensures) (c .before .check-value .ensures) refl)
+    commit : tie.Need-returns-10
+    commit c = answer (c .before .before .before) (c .before .enum-told4 .given .1) (c .process9 .ensures)
 
-    commit : tie.Need-returns-11
-    commit c = answer (c .before .before .before) (c .before .enum-told4 .given .1) (c .process10 .ensures)
+    exhausted : tie.Need-returns-11
+    exhausted c = answer (c .before .before .before) (c .before .enum-told5 .given .1) (c .process10 .ensures)
 
-    exhausted : tie.Need-returns-12
-    exhausted c = answer (c .before .before .before) (c .before .enum-told5 .given .1) (c .process11 .ensures)
+    crashed : tie.Need-returns-12
+    crashed c = answer (c .before .before .before) (c .before .enum-told6 .given .1) (c .process11 .ensures)
 
-    crashed : tie.Need-returns-13
-    crashed c = answer (c .before .before .before) (c .before .enum-told6 .given .1) (c .process12 .ensures)
-
-    decided : tie.Need-returns-14
-    decided c = answer (c .before .before .before) (c .before .enum-told7 .given .1) (c .process13 .ensures)
+    decided : tie.Need-returns-13
+    decided c = answer (c .before .before .before) (c .before .enum-told7 .given .1) (c .process12 .ensures)
