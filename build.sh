@@ -2,6 +2,7 @@
 # Builds what is named, as far as something that it is made of has changed. One call waits for another.
 #
 # usage: ./build.sh PART..    archive       the library for C: target/staticlib/libjanus.a
+#                             window        the window's function by itself: target/staticlib/libuse_window.a
 #                             reference     the separately written program and what compares the two: target/reference/
 #                             use_report    a program of the crates: target/bin/use_report; likewise use_run, use_bench
 set -euo pipefail
@@ -31,6 +32,7 @@ proofs=(crates crates.txt "$(command -v rt)")
 for part; do
     case $part in
     archive) build archive rt staticlib janus -- "${proofs[@]}" ;;
+    window) build window rt staticlib use_window -- "${proofs[@]}" ;;
     reference)
         build archive rt staticlib janus -- "${proofs[@]}"
         build reference reference/build.sh target/staticlib/libjanus.a -- reference target/staticlib/libjanus.a

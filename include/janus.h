@@ -220,10 +220,13 @@ static inline const char *janus_result_text(uint32_t number)
  */
 static inline unsigned janus_window(unsigned seats)
 {
-    unsigned root = 1;
-    while (root < 8 && root * root < seats)
+    unsigned root = 1, square = 1, odd = 3; /* 1 + 3 + 5 + ..: the sum of the first m odd numbers is m times m */
+    while (root < 8 && square < seats) {
+        square += odd;
+        odd += 2;
         root++;
-    return 2 * root + 1;
+    }
+    return root + root + 1;
 }
 
 /* The work turns that a seat alone takes from an empty board to its commit. */

@@ -1,0 +1,66 @@
+#!/usr/bin/env bash
+# The window without a product (02, wish 4): the function's source; its compiled code, seen by itself, and that of the header's; every window
+# beside the separate program's. Each look is tried on what it must find: a window by a product, and two that add up the wrong numbers.
+set -euo pipefail
+cd "$(dirname "$0")/.."
+./build.sh archive window reference
+out=target/tests/window
+mkdir -p "$out"
+fail() {
+    echo "window: FAILED: $*" >&2
+    exit 1
+}
+
+# FILE: its lines with a product: a `*`, a shift to the left, a method that multiplies.
+products() {
+    grep -nE '\*|<<|mul|pow|shl' "$1" || [[ $? == 1 ]]
+}
+for file in crates/part_window/src/*.rt; do
+    found=$(products "$file")
+    [[ -z $found ]] || fail "$file: $found"
+done
+[[ $(products <(echo 'while m * m < end {')) == 1:* ]] || fail "the look at the source finds no product"
+
+# FILE: the code of its function window_alone, an instruction a line.
+code() {
+    objdump -d --no-show-raw-insn "$1" | awk '/^$/ { on = 0 } on { print } /<window_alone>:$/ { on = 1 }' | cut -f2-
+}
+# FILE: what in that code multiplies, or calls, as a machine without such an instruction would.
+multiplies() {
+    code "$1" | grep -E '^[a-z]*(mul|madd|msub)|^call' || true
+}
+# FILE: that code has its loop and its end, and multiplies nowhere.
+without_product() {
+    code "$1" | grep -qE '^add' && code "$1" | grep -qE '^j' && code "$1" | grep -qE '^ret' || fail "$1: no code was seen"
+    [[ -z $(multiplies "$1") ]] || fail "$1: $(multiplies "$1")"
+    echo "window: $1: $(code "$1" | wc -l) instructions, none multiplies"
+}
+# NAME, the body on standard input: target/tests/window/NAME.o, with window_alone in C.
+in_c() {
+    { printf '#include <stddef.h>\n#include "janus.h"\nsize_t window_alone(unsigned char n)\n{\n'; cat; printf '}\n'; } >"$out/$1.c"
+    gcc -O2 -Wall -Wextra -Werror -Iinclude -c "$out/$1.c" -o "$out/$1.o"
+}
+
+without_product target/staticlib/libuse_window.a
+in_c header <<<'return janus_window(n);'
+without_product "$out/header.o"
+in_c product <<<'size_t m = 0; while (m * m < n) m++; return 2 * m + 1;'
+[[ $(multiplies "$out/product.o") =~ imul ]] || fail "the look at the code finds no multiplication: $(code "$out/product.o")"
+
+# FILE: reference/windows.rs with the function of that file, as target/tests/window/windows.
+compare() {
+    rustc --edition 2021 -O -D warnings --crate-name windows --extern janus_reference=target/reference/libjanus_reference.rlib \
+        -L native=target/staticlib -l static=janus -C link-arg="$1" reference/windows.rs -o "$out/windows"
+    "$out/windows"
+}
+compare target/staticlib/libuse_window.a
+compare "$out/header.o"
+# FIRST N: odd numbers that start there give another window of n processes first.
+wrong() {
+    in_c wrong <<<"size_t root = 0, square = 0, odd = $1; while (square < n) { square += odd; odd += 2; root++; } return root + root + 1;"
+    said=$(! compare "$out/wrong.o") || fail "no difference with numbers from $1 on"
+    [[ $said == "difference: n $2: "* ]] || fail "numbers from $1 on: $said"
+    echo "window: numbers from $1 on for odd ones: $said"
+}
+wrong 0 1
+wrong 2 2
