@@ -25,10 +25,16 @@ const ENTRY: usize = 6;
 const ROUNDS: usize = 150;
 const ENTRIES_A_ROUND: usize = 400_000;
 
-/// A sheet of one run: every process proposes, then all take turns, told to lead but for one that would be spent.
-fn sheet(n: usize, limit: usize, entries: usize) -> Vec<u8> {
+/// The header of a sheet of one run.
+fn header(n: usize, limit: usize, entries: usize) -> Vec<u8> {
     let mut bytes = vec![n as u8, 1, limit as u8, (limit / 256) as u8, 8, 0];
     bytes.extend(((entries * 6) as u16).to_le_bytes());
+    bytes
+}
+
+/// A sheet of one run: every process proposes, then all take turns, told to lead but for one that would be spent.
+fn sheet(n: usize, limit: usize, entries: usize) -> Vec<u8> {
+    let mut bytes = header(n, limit, entries);
     let mut session = Session::open(n, limit).expect("the size is one that can be opened");
     let mut counts = Counts::default();
     for index in 0..entries {
@@ -44,6 +50,16 @@ fn sheet(n: usize, limit: usize, entries: usize) -> Vec<u8> {
         let operation = Operation::decode(&added).expect("the entry is well formed");
         session.apply_trusted(operation, &mut counts, |_| {}).expect("no turn is refused");
         bytes.extend(added);
+    }
+    bytes
+}
+
+/// A sheet of one run: every process proposes, then all wait: work turns with hint no and looks at the blank D, by turns.
+fn waiting(n: usize, limit: usize, entries: usize) -> Vec<u8> {
+    let mut bytes = header(n, limit, entries);
+    for index in 0..entries {
+        let (kind, process, value) = if index < n { (0, index, 1) } else { (1 + index % 2, index / 2 % n, 0) };
+        bytes.extend([kind as u8, process as u8, value, 0, 0, 0]);
     }
     bytes
 }
@@ -96,16 +112,24 @@ fn compare(name: &str, entries: usize, mut ours: impl FnMut(), mut theirs: impl 
     println!("| {name} | {ours:.2} | {theirs:.2} | {:.2} |", ours / theirs);
 }
 
+/// Both runners on a sheet.
+fn compare_runs(n: usize, limit: usize, entries: &str, sheet: &[u8]) {
+    let count = (sheet.len() - HEADER) / ENTRY;
+    compare(&format!("{n} | {limit} | {entries}"), count, running(library::run, sheet), running(entry, sheet));
+}
+
 fn table() {
     println!("| n | L | entries | proved, ns an entry | separate, ns an entry | ratio |");
     println!("|---|---|---|---|---|---|");
     for entries in [100, MOST] {
         for n in [1, 8, 64] {
             for limit in [window(n) as usize, 256] {
-                let (name, sheet) = (format!("{n} | {limit} | {entries}"), sheet(n, limit, entries));
-                compare(&name, entries, running(library::run, &sheet), running(entry, &sheet));
+                compare_runs(n, limit, &entries.to_string(), &sheet(n, limit, entries));
             }
         }
+    }
+    for n in [1, 8, 64] {
+        compare_runs(n, 256, &format!("{MOST}, waiting"), &waiting(n, 256, MOST));
     }
     println!("\n| operation, n 8, L 256 | proved, ns an entry | separate, ns an entry | ratio |");
     println!("|---|---|---|---|");
