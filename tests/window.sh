@@ -21,19 +21,27 @@ for file in crates/part_window/src/*.rt; do
 done
 [[ $(products <(echo 'while m * m < end {')) == 1:* ]] || fail "the look at the source finds no product"
 
-# FILE: the code of its function window_alone, an instruction a line.
+# FILE [FUNCTION]: the code of the function, window_alone where none is named, an instruction a line.
 code() {
-    objdump -d --no-show-raw-insn "$1" | awk '/^$/ { on = 0 } on { print } /<window_alone>:$/ { on = 1 }' | cut -f2-
+    objdump -d --no-show-raw-insn "$1" | awk -v name="<${2:-window_alone}>:" '/^$/ { on = 0 } on { print } $2 == name { on = 1 }' | cut -f2-
 }
-# FILE: what in that code multiplies, or calls, as a machine without such an instruction would.
+# FILE: what in the code of window_alone multiplies, or calls, as a machine without such an instruction would.
 multiplies() {
     code "$1" | grep -E '^[a-z]*(mul|madd|msub)|^call' || true
 }
+# FILE FUNCTION: the multiplications in it that are not by a constant in the instruction. (Divisions by one are made of such.)
+products_of_two() {
+    code "$1" "$2" | grep -E '^[a-z]*mul' | grep -vE '^imul +\$' || true
+}
 # FILE: that code has its loop and its end, and multiplies nowhere.
 without_product() {
-    code "$1" | grep -qE '^add' && code "$1" | grep -qE '^j' && code "$1" | grep -qE '^ret' || fail "$1: no code was seen"
+    local seen
+    seen=$(code "$1")
+    for instruction in add j ret; do
+        grep -q "^$instruction" <<<"$seen" || fail "$1: no code was seen: $seen"
+    done
     [[ -z $(multiplies "$1") ]] || fail "$1: $(multiplies "$1")"
-    echo "window: $1: $(code "$1" | wc -l) instructions, none multiplies"
+    echo "window: $1: $(wc -l <<<"$seen") instructions, none multiplies"
 }
 # NAME, the body on standard input: target/tests/window/NAME.o, with window_alone in C.
 in_c() {
@@ -46,6 +54,14 @@ in_c header <<<'return janus_window(n);'
 without_product "$out/header.o"
 in_c product <<<'size_t m = 0; while (m * m < n) m++; return 2 * m + 1;'
 [[ $(multiplies "$out/product.o") =~ imul ]] || fail "the look at the code finds no multiplication: $(code "$out/product.o")"
+[[ -n $(products_of_two "$out/product.o" window_alone) ]] || fail "the look at the archive finds no product: $(code "$out/product.o")"
+
+# In the archive the function is compiled into its callers, the runner among them.
+archive=target/staticlib/libjanus.a
+grep -q '^ret' <<<"$(code "$archive" janus::run)" || fail "$archive: the runner was not seen"
+found=$(products_of_two "$archive" janus::run)
+[[ -z $found ]] || fail "$archive: the runner has a product: $found"
+echo "window: $archive: the runner multiplies by constants alone"
 
 # FILE: reference/windows.rs with the function of that file, as target/tests/window/windows.
 compare() {
