@@ -14,7 +14,7 @@ fn minus(a: usize, b: usize) -> usize
 }
 
 // 01, "One turn at a time", gate: a process that is told to lead reads the register of the next round, if there is one.
-fn gate_access(limit: usize, round: usize, leader: bool) -> Access
+fn waiting_access(limit: usize, round: usize, leader: bool) -> Access
     ensures { λ r. ⌜ r ≡ accessAt limit round Phase.Waiting leader ⌝ }
 {
     if leader {
@@ -33,7 +33,7 @@ pub fn access(limit: usize, q: Process, leader: bool) -> Access
     let r = q.round;
     match phase {
         Phase::Idle => Access::Nothing,
-        Phase::Waiting => gate_access(limit, r, leader),
+        Phase::Waiting => waiting_access(limit, r, leader),
         Phase::Write => Access::WriteValue(r),
         Phase::Scan(k) => Access::ReadValue(k),
         Phase::Adopt(k) => Access::ReadValue(k),

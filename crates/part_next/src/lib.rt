@@ -29,7 +29,7 @@ fn upward(limit: usize, k: usize) -> Phase
     }
 }
 
-// 01, "One turn at a time", gate. The tests stand as in `part_access::gate_access`, and where no register is read the hint is asked again: the
+// 01, "One turn at a time", gate. The tests stand as in `part_access::waiting_access`, and where no register is read the hint is asked again: the
 // compiler then makes one branch of the tests of both functions, and behind it the phase goes by the hint alone. The window plays no part.
 fn waiting(limit: usize, round: usize, estimate: u32, leader: bool, x: u32) -> Process
     ensures { λ r. ⌜ ((W : ℕ) → r ≡ nextAt W limit round estimate Phase.Waiting leader x) ⌝ }

@@ -14,7 +14,7 @@ access-spec =
     tie.close
     (tie.spec
     (search needs)  -- idle
-    (search needs) (search needs)  -- waiting: told, gate_access
+    (search needs) (search needs)  -- waiting: told, waiting_access
     (search needs) (search needs) (search needs)  -- write, scan, adopt
     (search needs) (search needs) (search needs) (search needs) (search needs) (search needs) (search needs) (search needs)  -- compare, flag, check-mark, check-value: told, minus
     (search needs) (search needs) (search needs) (search needs)  -- commit, exhausted, crashed, decided
@@ -36,7 +36,7 @@ access-spec =
     idle c = answer (c .before .before) (c .enum-told .given .1) refl
 
     waiting : tie.Need-returns-2
-    waiting c = answer (c .before .before .before) (c .before .enum-told2 .given .1) (c .gate-access .ensures)
+    waiting c = answer (c .before .before .before) (c .before .enum-told2 .given .1) (c .waiting-access .ensures)
 
     write : tie.Need-returns-3
     write c = answer (c .before .before) (c .enum-told3 .given .1) refl
