@@ -3,7 +3,8 @@
 //! usage: bench                                              the tables of sheets that are run and of one that is written
 //!        bench operations PROGRAM                           the table of operations; PROGRAM is the proved one (operations.rs)
 //!        bench calls                                        the separate program's side of it
-//!        bench count proved|separate N L ENTRIES CALLS      that many calls on that sheet, for a tool that counts instructions
+//!        bench count proved|separate N L ENTRIES CALLS      that many calls on that sheet, for a tool that counts instructions;
+//!                                          [waiting]        or on the one that waits
 //!
 //! A table has nanoseconds for each of the two, and their ratio. Rounds of the two alternate, and the best of each counts, so that another
 //! load on the machine weighs on both alike.
@@ -145,10 +146,11 @@ fn main() {
         [] => table(),
         ["calls"] => operations::answer(),
         ["operations", program] => operations::table(program),
-        ["count", which, n, limit, entries, calls] => {
+        ["count", which, n, limit, entries, calls] | ["count", which, n, limit, entries, calls, "waiting"] => {
             let run = if which == "proved" { library::run } else { entry };
-            round(number(calls), &mut running(run, &sheet(number(n), number(limit), number(entries))));
+            let made = if words.len() == 7 { waiting } else { sheet };
+            round(number(calls), &mut running(run, &made(number(n), number(limit), number(entries))));
         }
-        _ => println!("usage: bench [calls | operations PROGRAM | count proved|separate N L ENTRIES CALLS]"),
+        _ => println!("usage: bench [calls | operations PROGRAM | count proved|separate N L ENTRIES CALLS [waiting]]"),
     }
 }

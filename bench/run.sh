@@ -17,11 +17,11 @@ instructions() { # the words of `bench count`
     valgrind --tool=callgrind --callgrind-out-file=/dev/null "$out/bench" count "$@" 2>&1 | sed -n 's/.*Collected : //p'
 }
 entries=10921
-for size in "8 256" "1 3"; do
+for size in "8 256" "1 3" "8 256 waiting"; do
     for which in proved separate; do
-        read -r n limit <<<"$size"
-        one=$(instructions "$which" "$n" "$limit" "$entries" 1)
-        eleven=$(instructions "$which" "$n" "$limit" "$entries" 11)
-        echo "instructions an entry, n $n, L $limit, $which: $(((eleven - one) / (10 * entries)))"
+        read -r n limit waiting <<<"$size"
+        one=$(instructions "$which" "$n" "$limit" "$entries" 1 $waiting)
+        eleven=$(instructions "$which" "$n" "$limit" "$entries" 11 $waiting)
+        echo "instructions an entry, n $n, L $limit${waiting:+, waiting}, $which: $(((eleven - one) / (10 * entries)))"
     done
 done

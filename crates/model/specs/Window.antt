@@ -12,6 +12,7 @@ rootFrom (suc fuel) m n = cond (leb n (m * m)) m (rootFrom fuel (suc m) n)
 unfoldable pub rootUp : ℕ → ℕ
 rootUp n = rootFrom n 0 n
 
--- "Window W = 2 times (the root of n, rounded up to a whole number) + 1."
+-- "Window W = 2 times (the root of n, rounded up to a whole number) + 1." Document 02, wish 4, has it worked out "by adding odd numbers, without a
+-- product; every window and answer is the same": the code and its proof (`part_window`) do, and the definition stays.
 unfoldable pub window : ℕ → ℕ
 window n = 2 * rootUp n + 1
