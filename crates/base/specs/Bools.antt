@@ -21,6 +21,12 @@ pub cond-cases : {A : Type 0} (P : A → Type 0) (t : Bool) {a b : A} → (t ≡
 cond-cases P true p q = p refl
 cond-cases P false p q = q refl
 
+-- The same of two choices by one test.
+pub cond-both : {A B : Type 0} (P : A → B → Type 0) (t : Bool) {a b : A} {x y : B} →
+    (t ≡ true → P a x) → (t ≡ false → P b y) → P (cond t a b) (cond t x y)
+cond-both P true p q = p refl
+cond-both P false p q = q refl
+
 -- A choice between two that are the same.
 pub cond-same : {A : Type 0} (t : Bool) (x : A) → cond t x x ≡ x
 cond-same true x = refl

@@ -16,14 +16,19 @@ use Rattle.model.specs.declared.Session.{Session}
 use Rattle.model.specs.declared.Counts.{Counts}
 use Rattle.model.specs.Board.{valueAt, markAt, processAt, withValues, withMarks, withDecision, withProcess}
 
+-- ---- a process that waits
+
+-- gate: "the rules are read in this order. Hint no: nothing happens. Round equal to L: spent. Otherwise the round r grows by one and T[r] is read; .." Of three
+-- answers, one for each rule, that of the rule which holds. (A round above L, which no sound session has, counts as L: here and in `nextAt`.)
+unfoldable pub waitingRule : {A : Type 0} → (limit r : ℕ) → (leader : Bool) → (exhausted stays leads : A) → A
+waitingRule L r leader exhausted stays leads = cond leader (cond (leb L r) exhausted leads) stays
+
 -- ---- which register
 
--- The access of a process in round r, at round limit L, with the leader hint. (A round above L, which no sound session has,
--- counts as L: here and in `nextAt`.)
+-- The access of a process in round r, at round limit L, with the leader hint.
 unfoldable pub accessAt : (limit r : ℕ) → Phase → (leader : Bool) → Access
 accessAt L r Idle leader = Nothing
-accessAt L r Waiting false = Nothing
-accessAt L r Waiting true = cond (ltb r L) (ReadValue (r + 1)) Nothing
+accessAt L r Waiting leader = waitingRule L r leader Nothing Nothing (ReadValue (r + 1))
 accessAt L r Write leader = WriteValue r
 accessAt L r (Scan k) leader = ReadValue k
 accessAt L r (Adopt k) leader = ReadValue k
@@ -68,13 +73,12 @@ goOn W r i = cond (ltb (i + 1) (min r W)) (Compare (i + 1)) (cond (leb W r) (Che
 -- each stance stand above its clause.
 unfoldable pub nextAt : (W L r e : ℕ) → Phase → (leader : Bool) → (x : ℕ) → Process
 nextAt W L r e Idle leader x = process Idle r e
--- gate: "the rules are read in this order. Hint no: nothing happens.
-nextAt W L r e Waiting false x = process Waiting r e
--- Round equal to L: spent. Otherwise the round r grows by one and T[r] is read; blank: put; filled: take L where r = L, else seek r + 1."
-nextAt W L r e Waiting true x =
-    cond (ltb r L)
-    (process (cond (eqb x 0) Write (cond (ltb (r + 1) L) (Scan (r + 2)) (Adopt L))) (r + 1) e)
+-- gate: spent; nothing happens; or "the round r grows by one and T[r] is read; blank: put; filled: take L where r = L, else seek r + 1."
+nextAt W L r e Waiting leader x =
+    waitingRule L r leader
     (process Exhausted r e)
+    (process Waiting r e)
+    (process (cond (eqb x 0) Write (cond (ltb (r + 1) L) (Scan (r + 2)) (Adopt L))) (r + 1) e)
 -- put: "write the own value to T[r]; compare 0."
 nextAt W L r e Write leader x = process (Compare 0) r e
 -- seek k: "read T[k]. Blank: take k - 1. Filled: take L if k = L, else seek k + 1."

@@ -8,7 +8,7 @@ use Rattle.model.specs.declared.Operation.{Operation}
 use Rattle.model.specs.declared.Operation.the-variants.{Propose, Step, Learn}
 use Rattle.model.specs.Window.{window, rootUp, rootFrom}
 use Rattle.model.specs.Board.{opened}
-use Rattle.model.specs.Step.{accessAt, access, found, goOn, nextAt, next, learnt, stored, turn, counted}
+use Rattle.model.specs.Step.{waitingRule, accessAt, access, found, goOn, nextAt, next, learnt, stored, turn, counted}
 use Rattle.model.specs.Refusal.{full}
 use Rattle.model.specs.Machine.{openWithin, opening, accessOf, becomes, after, countsAfter, answered, perform}
 use Rattle.model.specs.Sound.{every}
@@ -82,6 +82,6 @@ table =
 -- Every row holds of the machine.
 pub starred-cases : every holds table ≡ true
 unfolding
-    table holds window rootUp rootFrom opened accessAt access found goOn nextAt next learnt stored turn counted full openWithin opening
+    table holds window rootUp rootFrom opened waitingRule accessAt access found goOn nextAt next learnt stored turn counted full openWithin opening
     accessOf becomes after countsAfter answered perform
 starred-cases = refl

@@ -6,6 +6,7 @@ use Rattle.model.specs.Refusal.{status, isOutside}
 use Rattle.model.specs.Sound.{soundProcess}
 use Rattle.base.specs.Bools.{cond-cases}
 use Rattle.model_laws.specs.Phases.{PhaseSound, process-facts, facts-process, inside-some}
+use Rattle.model_laws.specs.WaitingRules.{waiting-cases}
 
 ruleset known = (arith, leb-true, ltb-true, ltb-false, eqb-false)
 
@@ -44,9 +45,10 @@ module _ (W L : ℕ) where
         soundProcess W L (nextAt W L r e φ leader x) ≡ true
     unfolding nextAt
     next-placed Idle leader x o some f = let z : _≡_ {A = ℕ} 0 1 = cc in absurd (omega arith)
-    next-placed Waiting false x o some f = placed-sound _ r e refl (omega known)
-    next-placed Waiting true x o some f =
-        cond-cases (λ q. soundProcess W L q ≡ true) (ltb r L)
+    next-placed Waiting leader x o some f =
+        waiting-cases (λ q. soundProcess W L q ≡ true) L r leader
+        (λ t. placed-sound _ r e refl (omega known))
+        (placed-sound _ r e refl (omega known))
         (λ t.
         cond-cases (λ φ. soundProcess W L (process φ (r + 1) e) ≡ true) (eqb x 0)
         (λ b. placed-sound _ (r + 1) e refl (omega known))
@@ -54,7 +56,6 @@ module _ (W L : ℕ) where
         cond-cases (λ φ. soundProcess W L (process φ (r + 1) e) ≡ true) (ltb (r + 1) L)
         (λ u. placed-sound _ (r + 1) e refl (omega known))
         (λ u. placed-sound _ (r + 1) e refl (omega known))))
-        (λ t. placed-sound _ r e refl (omega known))
     next-placed Write leader x o some f = placed-sound _ r e refl (omega known)
     next-placed (Scan k) leader x o some f =
         cond-cases Stays (eqb x 0)

@@ -4,6 +4,7 @@ pub mod Every
 pub mod Accepted
 pub mod Windows
 pub mod Phases
+pub mod WaitingRules
 pub mod Ranges
 pub mod Keeps
 pub mod Sounds

@@ -1,9 +1,9 @@
 -- A sound process accesses no register outside 1 to L.
-use Rattle.base.specs.Prelude.{ℕ, _≤_, arith, Bool, true, false, ltb, ltb-true}
+use Rattle.base.specs.Prelude.{ℕ, _≤_, arith, Bool}
 use Rattle.model_laws.specs.Types.{Phase, Idle, Waiting, Write, Scan, Adopt, Compare, Flag, CheckMark, CheckValue, Commit, Exhausted, Crashed, Decided, Access, Nothing, ReadValue, WriteValue, ReadMark, SetMark, ReadDecision, WriteDecision}
 use Rattle.model.specs.Step.{accessAt}
-use Rattle.base.specs.Bools.{cond-cases}
 use Rattle.model_laws.specs.Phases.{PhaseSound}
+use Rattle.model_laws.specs.WaitingRules.{waiting-cases}
 
 -- The register that is accessed, if any, is one of 1 to L.
 abbrev pub InRange : (L : ℕ) → Access → Type 0
@@ -19,8 +19,7 @@ InRange L WriteDecision = Unit {0}
 pub access-range : (W L M r : ℕ) (φ : Phase) (leader : Bool) → r ≤ L → L ≤ M → PhaseSound W L r φ → InRange M (accessAt L r φ leader)
 unfolding accessAt
 access-range W L M r Idle leader low few f = tt
-access-range W L M r Waiting false low few f = tt
-access-range W L M r Waiting true low few f = cond-cases (InRange M) (ltb r L) (λ t. omega (arith, ltb-true)) (λ t. tt)
+access-range W L M r Waiting leader low few f = waiting-cases (InRange M) L r leader (λ e. tt) tt (λ b. omega arith)
 access-range W L M r Write leader low few f = omega arith
 access-range W L M r (Scan k) leader low few f = omega arith
 access-range W L M r (Adopt k) leader low few f = omega arith

@@ -1,11 +1,11 @@
 -- The registers one by one: what an access reads and leaves in each, and the turn made of them.
-use Rattle.base.specs.Prelude.{ℕ, _+_, _-_, _%_, _≤_, arith, _≡_, refl, sym, ap, Bool, true, false, List, getD, set, ltb}
+use Rattle.base.specs.Prelude.{ℕ, _+_, _-_, _%_, _≤_, arith, _≡_, refl, sym, ap, Bool, true, false, List, getD, set}
 use Rattle.model_laws.specs.Types.{Phase, Idle, Waiting, Write, Scan, Adopt, Compare, Flag, CheckMark, CheckValue, Commit, Exhausted, Crashed, Decided, Access, Nothing, ReadValue, WriteValue, ReadMark, SetMark, ReadDecision, WriteDecision, Process, Session, Counts, Step}
 use Rattle.model.specs.Board.{processAt, with, maxRounds}
 use Rattle.model.specs.Step.{accessAt, access, next, bit, found, stored, turn, counted}
 use Rattle.model.specs.Machine.{accessOf, becomes, after, countsAfter}
-use Rattle.base.specs.Bools.{cond-cases}
 use Rattle.model_laws.specs.Ranges.{InRange}
+use Rattle.model_laws.specs.WaitingRules.{waiting-cases}
 
 -- The index of the register of round r, r - 1 for the rounds 1 to 256; for any other number, which no turn of a sound process has, some index.
 abbrev pub slot : ℕ → ℕ
@@ -104,8 +104,7 @@ turn-is s p WriteDecision becomes ok = refl
 step-no-look : (L r : ℕ) (φ : Phase) (leader : Bool) → NoLook (accessAt L r φ leader)
 unfolding accessAt
 step-no-look L r Idle leader = tt
-step-no-look L r Waiting false = tt
-step-no-look L r Waiting true = cond-cases NoLook (ltb r L) (λ t. tt) (λ t. tt)
+step-no-look L r Waiting leader = waiting-cases NoLook L r leader (λ e. tt) tt (λ b. tt)
 step-no-look L r Write leader = tt
 step-no-look L r (Scan k) leader = tt
 step-no-look L r (Adopt k) leader = tt

@@ -1,6 +1,5 @@
 -- Each accepted operation of the machine, at any window, keeps the invariant: the one lemma, applied.
-use Rattle.base.specs.Prelude.{ℕ, zero, suc, _-_, _≡_, refl, sym, _∙_, Bool, true, false, true≢false, List, [], _∷_, _++_, ltb, not, not-false, arith}
-use Rattle.base.specs.Bools.{cond-cases}
+use Rattle.base.specs.Prelude.{ℕ, zero, suc, _-_, _≡_, refl, sym, _∙_, Bool, true, false, true≢false, List, [], _∷_, _++_, not, not-false, arith}
 use Rattle.model_laws.specs.Types.{Phase, Idle, Waiting, Write, Scan, Adopt, Compare, Flag, CheckMark, CheckValue, Commit, Exhausted, Crashed, Decided, Session, Counts, Operation, Propose, Step, Learn, Crash, Malformed}
 use Rattle.model.specs.Board.{processAt}
 use Rattle.model.specs.Step.{accessAt, access, found, stored}
@@ -11,6 +10,7 @@ use Rattle.model_laws.specs.Phases.{PhaseSound, ProcessSound, process-facts, in
 use Rattle.model_laws.specs.Sounds.{sound-process}
 use Rattle.model_laws.specs.Accepted.{Accepted}
 use Rattle.model_laws.specs.Ranges.{InRange}
+use Rattle.model_laws.specs.WaitingRules.{waiting-cases}
 use Rattle.model_laws.specs.Operations.{operation-range}
 use Rattle.model_rule.specs.Event.{Event, proposal, stepEvents, lookEvents, eventsOf}
 use Rattle.theory_past.specs.Lawful.{also}
@@ -26,9 +26,8 @@ step-events : {s : Session} {h : List Event} (p r v : ℕ) (φ : Phase) (leader 
     let t = stored s (accessAt (s .limit) r φ leader) v in Long t × Matches t (stepEvents p r v φ ++ h)
 unfolding accessAt stored
 step-events p r v Idle leader l k ok = (l, k)
-step-events p r v Waiting false l k ok = (l, k)
-step-events {s} {h} p r v Waiting true l k ok =
-    cond-cases (λ a. Long (stored s a v) × Matches (stored s a v) h) (ltb r (s .limit)) (λ t. (l, k)) (λ t. (l, k))
+step-events {s} {h} p r v Waiting leader l k ok =
+    waiting-cases (λ a. Long (stored s a v) × Matches (stored s a v) h) (s .limit) r leader (λ e. (l, k)) (l, k) (λ b. (l, k))
 step-events p r v Write leader l k ok = write-matches l k p r v ok
 step-events p r v (Scan j) leader l k ok = (l, k)
 step-events p r v (Adopt j) leader l k ok = (l, k)

@@ -1,6 +1,6 @@
 -- The way up to the round that a process takes part in: from waiting, through the scan, to a write or an adoption.
 use Rattle.base.specs.Prelude.{ℕ, _+_, _-_, _≤_, _<_, _≡_, _∙_, sym, cond, List, ltb, eqb, ltb-false, eqb-true, eqb-false, by-cases, add-assoc, decLe, arith}
-use Rattle.model_laws.specs.Types.{Phase, Write, Scan, Adopt, Compare, Exhausted, Waiting, Process, Nothing, ReadValue}
+use Rattle.model_laws.specs.Types.{Phase, Write, Scan, Adopt, Compare, Waiting}
 use Rattle.model.specs.Step.{process}
 use Rattle.model_rule.specs.Event.{Event, Proposed, Written}
 use Rattle.theory_past.specs.Epoch.{top, last, Passed}
@@ -8,7 +8,7 @@ use Rattle.theory_past.specs.Lawful.{Lawful, lawful-at, blank-above}
 use Rattle.base.specs.Bools.{cond-cases}
 use Rattle.theory_past.specs.Past.{past-before, happened-past}
 use Rattle.theory_past.specs.Registers.{epoch-top, wrote-round, written-fresh, last-written}
-use Rattle.theory_walk.specs.Place.{Found, Walked, Placed, PlacedAt}
+use Rattle.theory_walk.specs.Place.{Walked, Placed, PlacedAt}
 
 -- A round that is over was passed if no higher round was written.
 walked-passed : {W r v : ℕ} {h : List Event} → Walked W r v h → top h ≡ r → Passed W r v h
@@ -32,20 +32,13 @@ scan-on W L p r v k x h e some =
     let low : k ≤ top h = wrote-round (last-written h k (omega arith) .1) in
     cond-cases (λ (φ : Phase). Placed W p r v φ h) (ltb k L) (λ t. omega arith) (λ t. omega (arith, ltb-false k L t))
 
--- A step from waiting, told to lead.
-pub waiting-placed : {W n : ℕ} (L p r v x : ℕ) {h : List Event} → Lawful W n h → Proposed v h → Placed W p r v Waiting h →
-    Found h (cond (ltb r L) (ReadValue (r + 1)) Nothing) x →
-    PlacedAt W p (cond (ltb r L) (process (cond (eqb x 0) Write (cond (ltb (r + 1) L) (Scan (r + 2)) (Adopt L))) (r + 1) v) (process Exhausted r v)) h
-waiting-placed {W} L p r v x {h} l b a f =
-    cond-cases (λ (q : Process). PlacedAt W p q h) (ltb r L)
-    (λ t.
-    let e : x ≡ last h (r + 1) = rw t at f in
-    let climb : Placed W p (r + 1) v (cond (eqb x 0) Write (cond (ltb (r + 1) L) (Scan (r + 2)) (Adopt L))) h =
+-- A step from waiting, by the register of the next round.
+pub leads-placed : {W n : ℕ} (L p r v x : ℕ) {h : List Event} → Lawful W n h → Placed W p r v Waiting h → x ≡ last h (r + 1) →
+    Placed W p (r + 1) v (cond (eqb x 0) Write (cond (ltb (r + 1) L) (Scan (r + 2)) (Adopt L))) h
+leads-placed {W} L p r v x {h} l a e =
     cond-cases (λ (φ : Phase). Placed W p (r + 1) v φ h) (eqb x 0)
     (λ t. write-placed p r v l a (sym e ∙ eqb-true x 0 t))
-    (λ t. rw (← (add-assoc r 1 1)) (scan-on W L p (r + 1) v (r + 1) x h e (eqb-false x 0 t))) in
-    (b, climb))
-    (λ t. (b, tt))
+    (λ t. rw (← (add-assoc r 1 1)) (scan-on W L p (r + 1) v (r + 1) x h e (eqb-false x 0 t)))
 
 -- A step of the scan.
 pub scan-placed : (W L p r v k x : ℕ) (h : List Event) → Placed W p r v (Scan k) h → x ≡ last h k →

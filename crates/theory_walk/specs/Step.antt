@@ -1,9 +1,10 @@
 -- A step of a process: what it adds to the past is lawful, and the process stands where its new phase tells.
-use Rattle.base.specs.Prelude.{ℕ, _-_, _<_, _≡_, Bool, true, false, List, [], _∷_, _++_, arith}
+use Rattle.base.specs.Prelude.{ℕ, _-_, _<_, _≡_, Bool, false, List, [], _∷_, _++_, arith}
 use Rattle.model_laws.specs.Types.{Phase, Idle, Waiting, Write, Scan, Adopt, Compare, Flag, CheckMark, CheckValue, Commit, Exhausted, Crashed, Decided, Process}
 use Rattle.model.specs.Step.{accessAt, access, nextAt, next, process}
 use Rattle.model.specs.Refusal.{status, isOutside}
 use Rattle.model_laws.specs.Phases.{PhaseSound}
+use Rattle.model_laws.specs.WaitingRules.{waiting-both}
 use Rattle.model_rule.specs.Event.{Event, proposal, write, flag, commit, decision, stepEvents, Happened, Proposed}
 use Rattle.model_rule.specs.Event.Past.{here, there}
 use Rattle.theory_past.specs.Past.{happened-past, happened-older}
@@ -11,7 +12,7 @@ use Rattle.theory_past.specs.Registers.{wrote-round}
 use Rattle.theory_past.specs.Lawful.{Lawful, also}
 use Rattle.theory_walk.specs.Place.{Found, Placed, PlacedAt, Stands}
 use Rattle.theory_walk.specs.Stays.{walked-past, SpareAll}
-use Rattle.theory_walk.specs.Climb.{waiting-placed, scan-placed, walked-none, adopt-placed}
+use Rattle.theory_walk.specs.Climb.{leads-placed, scan-placed, walked-none, adopt-placed}
 use Rattle.theory_walk.specs.Rounds.{compare-placed, flag-placed}
 use Rattle.theory_walk.specs.Checks.{check-mark-placed, check-value-placed}
 
@@ -21,8 +22,12 @@ step-placed : {W n : ℕ} (L p r v : ℕ) (φ : Phase) (leader : Bool) (x : ℕ)
     PlacedAt W p (nextAt W L r v φ leader x) (stepEvents p r v φ ++ h)
 unfolding accessAt nextAt
 step-placed L p r v Idle leader x s l b a f = (b, tt)
-step-placed L p r v Waiting false x s l b a f = (b, a)
-step-placed L p r v Waiting true x s l b a f = waiting-placed L p r v x l b a f
+step-placed {W} L p r v Waiting leader x {h} s l b a f =
+    waiting-both (λ c q. Found h c x → PlacedAt W p q h) L r leader
+    (λ e g. (b, tt))
+    (λ g. (b, a))
+    (λ e g. (b, leads-placed L p r v x l a g))
+    f
 step-placed L p r v Write leader x {h} s l b a f = (happened-past (there here) b, walked-none (p, record { before = h; past = here }))
 step-placed {W} L p r v (Scan k) leader x {h} s l b a f = (b, scan-placed W L p r v k x h a f)
 step-placed L p r v (Adopt k) leader x s l b a f = adopt-placed p r v k x (omega arith) l a f
