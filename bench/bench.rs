@@ -33,7 +33,8 @@ fn header(n: usize, limit: usize, entries: usize) -> Vec<u8> {
     bytes
 }
 
-/// A sheet of one run: every process proposes, then all take turns, told to lead but for one that would be spent.
+/// A sheet of one run: every process proposes, then all take turns, told to lead below round L - 1. There a process waits: in round L its
+/// next turn would spend it, whatever the hint.
 fn sheet(n: usize, limit: usize, entries: usize) -> Vec<u8> {
     let mut bytes = header(n, limit, entries);
     let mut session = Session::open(n, limit).expect("the size is one that can be opened");
@@ -43,7 +44,7 @@ fn sheet(n: usize, limit: usize, entries: usize) -> Vec<u8> {
         let record = session.processes[process];
         let (kind, value) = match record.phase {
             Phase::Idle => (0, 1 + process as u32),
-            Phase::Waiting => (1, u32::from((record.round as usize) < limit)),
+            Phase::Waiting => (1, u32::from((record.round as usize) + 1 < limit)),
             _ => (1, 1),
         };
         let mut added = vec![kind, process as u8];

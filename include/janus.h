@@ -43,8 +43,8 @@
 #include <stdint.h>
 
 #define JANUS_VERSION_MAJOR 1
-#define JANUS_VERSION_MINOR 1
-#define JANUS_VERSION "1.1"
+#define JANUS_VERSION_MINOR 2
+#define JANUS_VERSION "1.2"
 
 #define JANUS_SEATS_MAX 64
 #define JANUS_ROUNDS_MAX 256
@@ -211,12 +211,13 @@ static inline const char *janus_result_text(uint32_t number)
  *   (W + 2) (4W + 4) + h work turns, if L is h + W or more. So L = W is enough for a seat that is alone from the start, and every
  *   round that seats fill in each other's way needs one more. A larger L takes no more memory.
  *
- *   The hint is read between rounds only: with hint no a seat finishes its round, then waits. Seats that get hint yes by turns may
- *   hinder each other until their rounds are spent, so a run may end undecided: 0 is returned and the buffer holds no number. Run
- *   a sheet with a larger L, or one in which the hint stays longer with one seat.
+ *   The hint is read between rounds only, while rounds are left: with hint no a seat finishes its round, then waits. Seats that get
+ *   hint yes by turns may hinder each other until their rounds are spent, so a run may end undecided: 0 is returned and the buffer
+ *   holds no number. Run a sheet with a larger L, or one in which the hint stays longer with one seat.
  *
- *   Work turns after the commit do no harm while rounds are left. In round L the next one with hint yes makes the seat spent, and
- *   the one after that stops the sheet with 9. A spent seat may still look.
+ *   Work turns after the commit do no harm while rounds are left. Once a seat has finished round L, its next work turn makes it
+ *   spent, whatever the hint (up to version 1.1: with hint yes alone), and each one after that stops the sheet with 9. A spent seat
+ *   may still look.
  */
 static inline unsigned janus_window(unsigned seats)
 {

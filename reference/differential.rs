@@ -236,6 +236,15 @@ impl<'r> Composer<'r> {
         }
     }
 
+    /// One process alone to the end of round L, then spent by a turn of either
+    /// hint.
+    fn spend(&mut self, process: usize) {
+        let limit = self.session.limit;
+        self.alone(process, |p| p.phase == Phase::Waiting && p.round == limit);
+        let leader = self.random.once_in(2);
+        self.offer(Operation::Step { process, leader });
+    }
+
     /// One process takes turns alone until it stands as asked, or is stuck.
     fn alone(&mut self, process: usize, until: impl Fn(&Process) -> bool) {
         let leader = true;
@@ -272,12 +281,12 @@ impl<'r> Composer<'r> {
                 self.looks();
             }
             6 => {
-                self.alone(process, |p| p.phase == Phase::Exhausted);
+                self.spend(process);
                 let entry = raw(1, process, self.random.below(2) as u32);
                 self.entries.push(entry);
             }
             _ => {
-                self.alone(process, |p| p.phase == Phase::Exhausted);
+                self.spend(process);
                 self.looks();
             }
         }
@@ -556,9 +565,9 @@ fn budget(random: &mut Random, entries: u64) -> u64 {
 
 events! {
     Proposed: "proposal",
-    GateNo: "gate, hint no",
-    GateNoLast: "gate in round L, hint no",
-    GateSpent: "gate in round L, hint yes: spent",
+    GateNo: "gate below round L, hint no",
+    GateNoSpent: "gate in round L, hint no: spent" at least 1_000,
+    GateYesSpent: "gate in round L, hint yes: spent" at least 1_000,
     GatePut: "gate, blank: put",
     GateSeek: "gate, filled: seek r + 1",
     GateTake: "gate, round L filled: take L",
@@ -619,6 +628,9 @@ events! {
     DecidedCrash: "8: crash, decided",
     SpentYes: "9: hint yes",
     SpentNo: "9: hint no",
+    SpentYesLater: "9: hint yes, spent by hint no" at least 100,
+    SpentNoLater: "9: hint no, spent by hint no" at least 100,
+    SpentLook: "look, spent by hint no" at least 100,
     TooShort: "10: under 4 bytes",
     TooLong: "10: over 65,535 bytes",
     ManyPairs: "10: over 16 pairs",
@@ -739,6 +751,7 @@ impl Coverage {
             counts: Counts::default(),
             flags: Vec::new(),
             seen: [0; 64],
+            spent_by_no: [false; 64],
         };
         let least = observer.session.limit == window(observer.session.n);
         self.least[observer.session.n] += u64::from(least);
@@ -906,6 +919,8 @@ struct Observer {
     flags: Vec<(u32, usize)>,
     /// What each process last saw in a filled register at gate or in seek.
     seen: [u32; 64],
+    /// Whether each process was spent by a turn with hint no.
+    spent_by_no: [bool; 64],
 }
 
 impl Observer {
@@ -927,6 +942,7 @@ impl Observer {
             .apply_trusted(operation, &mut self.counts, |made| access = Some(made));
         if let Err(refusal) = answer {
             coverage.entry_refused(entry, &self.session, refusal);
+            self.later(operation, refusal, coverage);
             return false;
         }
         if let Some(Access::Marked(round)) = access {
@@ -937,15 +953,31 @@ impl Observer {
         match operation {
             Operation::Propose { .. } => coverage.note(Event::Proposed),
             Operation::Crash { .. } => at.crashes += 1,
-            Operation::Learn { .. } => look(before, after, coverage),
-            Operation::Step { .. } => {
+            Operation::Learn { .. } => {
+                look(before, after, coverage);
+                let spent = before.phase == Phase::Exhausted;
+                coverage.note_if(spent && self.spent_by_no[number], Event::SpentLook);
+            }
+            Operation::Step { leader, .. } => {
                 at.works += 1;
-                let event = self.step(number, before, after, access, overwritten);
+                let event = match self.step(number, before, after, access, overwritten) {
+                    Event::GateYesSpent if !leader => Event::GateNoSpent,
+                    event => event,
+                };
+                self.spent_by_no[number] |= matches!(event, Event::GateNoSpent);
                 coverage.note(event);
                 self.more(number, before, after, access, coverage);
             }
         }
         true
+    }
+
+    /// Notes a 9 after the process was spent by a turn with hint no.
+    fn later(&self, operation: Operation, refusal: Refusal, coverage: &mut Coverage) {
+        if let (Operation::Step { process, leader }, Refusal::Exhausted) = (operation, refusal) {
+            let event = [Event::SpentNoLater, Event::SpentYesLater][usize::from(leader)];
+            coverage.note_if(self.spent_by_no[process], event);
+        }
     }
 
     /// What a write of this process would go over: T[r], C[r - i] or D.
@@ -970,9 +1002,8 @@ impl Observer {
     ) -> Event {
         use Event::*;
         match (before.phase, after.phase) {
-            (Phase::Waiting, Phase::Waiting) if before.round == self.session.limit => GateNoLast,
             (Phase::Waiting, Phase::Waiting) => GateNo,
-            (Phase::Waiting, Phase::Exhausted) => GateSpent,
+            (Phase::Waiting, Phase::Exhausted) => GateYesSpent,
             (Phase::Waiting, Phase::Write) => GatePut,
             (Phase::Waiting, Phase::Scan(_)) => GateSeek,
             (Phase::Waiting, _) => GateTake,

@@ -12,14 +12,22 @@ static uint32_t run(void)
     return janus_run(sheet, sheet_length, JANUS_ENTRIES_MAX, buffer, sizeof buffer);
 }
 
-/* One seat proposes, works alone and looks. */
-static uint32_t alone(uint8_t n, uint16_t limit, unsigned turns)
+/* One seat proposes, works alone, goes on with hint no and looks. */
+static uint32_t unled(uint8_t n, uint16_t limit, unsigned turns, unsigned more)
 {
     begin(n, limit);
     add(JANUS_PROPOSE, 0, 7);
     work(0, turns);
+    for (unsigned i = 0; i < more; i++)
+        add(JANUS_WORK, 0, JANUS_HINT_NO);
     add(JANUS_LOOK, 0, 0);
     return run();
+}
+
+/* One seat proposes, works alone and looks. */
+static uint32_t alone(uint8_t n, uint16_t limit, unsigned turns)
+{
+    return unled(n, limit, turns, 0);
 }
 
 /* The window is the least L, and the commit comes with the turn that the header names, for any L. */
@@ -39,6 +47,9 @@ static void windows(void)
         turns_alone((uint8_t)n, JANUS_ROUNDS_MAX);
         check(alone((uint8_t)n, w, janus_turns_alone(n) + 1) == JANUS_FINISHED, "L = W, a turn after the commit", "spent");
         check(alone((uint8_t)n, w, janus_turns_alone(n) + 2) == JANUS_SEAT_SPENT, "a turn of a spent seat", "stops the sheet");
+        check(unled((uint8_t)n, w, janus_turns_alone(n), 1) == JANUS_FINISHED, "L = W, a turn with hint no", "spent");
+        check(unled((uint8_t)n, w, janus_turns_alone(n), 2) == JANUS_SEAT_SPENT, "hint no, a spent seat", "stops the sheet");
+        check(unled((uint8_t)n, w + 1, janus_turns_alone(n), 99) == JANUS_FINISHED, "L = W + 1, hint no", "waits");
     }
     check(janus_window(65) == janus_window(64) && janus_window(UINT32_MAX) == janus_window(64), "over 64 seats", "ends");
 }

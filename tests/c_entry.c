@@ -233,19 +233,28 @@ static void gone(const char *what)
     refused(what, JANUS_SEAT_GONE, JANUS_CRASH, 0, 0);
 }
 
+/* In round L the next turn makes the seat spent, whatever its hint, and each later one is refused. A look is not. */
+static void spent(uint32_t hint)
+{
+    start_solo();
+    add(JANUS_WORK, 0, hint);
+    written("a work turn in round L", JANUS_FINISHED, ALL);
+    refused("a work turn of a spent seat", JANUS_SEAT_SPENT, JANUS_WORK, 0, JANUS_HINT_YES);
+    refused("a work turn of a spent seat, hint no", JANUS_SEAT_SPENT, JANUS_WORK, 0, JANUS_HINT_NO);
+    add(JANUS_LOOK, 0, 0);
+    written("the look, one entry short", JANUS_BUDGET_ENDED, 21);
+    decided[0] = 7;
+    written("the look of a spent seat", JANUS_FINISHED, 22);
+}
+
 static void walks(void)
 {
     start_solo();
     written("19 turns and no look", JANUS_FINISHED, ALL);
     add(JANUS_CRASH, 0, 0);
     gone("a crashed seat");
-    start_solo();
-    work(0, 1);
-    refused("a work turn of a spent seat", JANUS_SEAT_SPENT, JANUS_WORK, 0, JANUS_HINT_YES);
-    add(JANUS_LOOK, 0, 0);
-    written("the look, one entry short", JANUS_BUDGET_ENDED, 21);
-    decided[0] = 7;
-    written("the look of a spent seat", JANUS_FINISHED, 22);
+    spent(JANUS_HINT_NO);
+    spent(JANUS_HINT_YES);
     gone("a decided seat");
     refused("an unknown kind after a decision", JANUS_BAD_ENTRY, 4, 0, 0);
     refused("a proposal after a decision", JANUS_SECOND_PROPOSAL, JANUS_PROPOSE, 0, 8);

@@ -99,6 +99,19 @@ static void standings(void)
                         "seat 0 spent 10\nseat 1 working 1 11\nseat 2 crashed\nseat 3 decided 10\nseat 4 out\n");
 }
 
+/* At the gate in round L a turn with hint no makes the seat spent: no register is touched, nothing is counted. */
+static void last_round(void)
+{
+    begin(1, 3);
+    add(JANUS_PROPOSE, 0, 7);
+    work(0, 19);
+    lines("the gate in round L", "outcome finished 20\ntally 15 4 0\nboard 3 7\nseat 0 working 3 7\n");
+    add(JANUS_WORK, 0, JANUS_HINT_NO);
+    lines("hint no in round L", "outcome finished 21\ntally 15 4 0\nboard 3 7\nseat 0 spent 7\n");
+    add(JANUS_WORK, 0, JANUS_HINT_NO);
+    lines("a turn after it", "outcome refused 9 21\ntally 15 4 0\nboard 3 7\nseat 0 spent 7\n");
+}
+
 /* A long report: 64 seats with the largest numbers. JANUS_REPORT_LENGTH has room for it. */
 static void long_report(void)
 {
@@ -130,6 +143,7 @@ int main(int argc, char **argv)
     refused_entries();
     marks();
     standings();
+    last_round();
     long_report();
     printf("c report: %u checks passed\n", passed);
     return 0;

@@ -4,7 +4,8 @@
     paper_lists.py [LISTS [SEED]]
 
 Every rule and every refusal must be met, and marks of rounds that are unmarked and of rounds that are marked. Each list must leave as
-many rounds marked as contested says. The windows must be the program's for every n.
+many rounds marked as contested says. Seats must become spent by turns with hint no, and take a further turn. The windows must be the
+program's for every n.
 """
 import random
 import subprocess
@@ -34,6 +35,7 @@ class Composer:
         self.burst, self.seat = chance.choice([1, 2, 5, 30]), 0
         self.odds = chance.choice([0, 0.02, 0.1]), chance.choice([0, 0, 0.01]), chance.choice([0, 0, 0.05, 0.4])
         self.asleep = chance.randrange(n) if chance.random() < 0.5 else None
+        self.spent, self.later = set(), 0
 
     def next_seat(self):
         """Now and then another seat. One that is asleep stays at put until another one checks, so that it writes late."""
@@ -67,20 +69,36 @@ class Composer:
 
     def add(self, words):
         """Plays one turn and keeps the line that the trace should have."""
-        register = self.play.turn(words)
+        register, number = self.play.turn(words), int(words.split()[1])
         line = f"{len(self.turns):5} | {words:24} | {register}"
         if not register.startswith("refused"):
-            seat, counts = self.play.seats[int(words.split()[1])], " ".join(map(str, self.play.counts))
+            seat, counts = self.play.seats[number], " ".join(map(str, self.play.counts))
             line = f"{len(self.turns):5} | {words:24} | {register:25} | {str(seat):40} | {counts}"
+            if seat.head == "spent" and words.endswith("no"):
+                self.spent.add(number)
+        self.later += register == "refused 9" and number in self.spent
         self.turns.append(words)
         self.lines.append(line)
 
+    def work_to_the_end(self):
+        """A seat works alone until it stands at gate in round L, or is stuck; then it takes a turn or two, with either hint."""
+        seat = self.chance.randrange(self.play.n)
+        led, record = f"work {seat} yes", self.play.seats[seat]
+        while self.play.legal(led) and (record.head, record.round) != ("gate", self.play.limit):
+            self.add(led)
+        for _ in range(self.chance.randint(1, 2)):
+            words = f"work {seat} {self.chance.choice(['no', 'yes'])}"
+            if not self.play.refusals:
+                self.add(words)
+
     def compose(self):
-        """The whole list: legal turns, then any turns, to the first refused one."""
+        """The whole list: legal turns, some to the end of the last round, then any turns, to the first refused one."""
         for _ in range(self.chance.randrange(MOST_TURNS)):
             words = self.words()
             if self.play.legal(words):
                 self.add(words)
+        if self.chance.random() < 0.2:
+            self.work_to_the_end()
         while not self.play.refusals and self.chance.random() < 0.8:
             self.add(self.any_words())
         return self
@@ -140,6 +158,14 @@ def check_marks(lists):
     return first, again
 
 
+def check_spent(lists):
+    """Fails if few seats become spent by a turn with hint no, or few of those take a further turn."""
+    spent, later = sum(len(one.spent) for one in lists), sum(one.later for one in lists)
+    if min(spent, 2 * later) * 20 < len(lists):
+        sys.exit(f"paper lists: {spent} seats spent by hint no, and {later} further turns of such a seat, are too few")
+    return spent, later
+
+
 def check_windows():
     """Fails unless W is the least L that the program opens, for every n."""
     sizes = [(n, window(n) + less) for n in range(1, MOST_SEATS + 1) for less in (0, -1)]
@@ -155,10 +181,11 @@ def main():
     compare(lists)
     rules, refusals, least = check_used(lists)
     first, again = check_marks(lists)
+    spent, later = check_spent(lists)
     check_windows()
     turns = sum(len(one.turns) for one in lists)
     print(f"paper lists: {count} lists from seed {seed}, {turns} turns as traced; {rules} rules, each {least} times or more; {refusals} refusals; "
-          f"{first} marks of unmarked rounds, {again} of marked ones")
+          f"{first} marks of unmarked rounds, {again} of marked ones; {spent} seats spent by hint no, {later} refused a turn after that")
 
 
 if __name__ == "__main__":

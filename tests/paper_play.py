@@ -76,7 +76,6 @@ ASKED = {
     "": lambda turn: True,
     "otherwise": lambda turn: True,
     "hint no": lambda turn: turn.rest == ["no"],
-    "hint yes": lambda turn: turn.rest == ["yes"],
     "blank": lambda turn: turn.found == 0,
     "filled": lambda turn: turn.found != 0,
     "marked": lambda turn: turn.found,

@@ -28,8 +28,8 @@ STANCES = [
 # the same turn.
 RULES = [
     ("out", "propose", "", "", [("", "gate; the number proposed becomes the own value")]),
+    ("gate", "work", "r is L", "", [("", "spent")]),
     ("gate", "work", "hint no", "", [("", "gate")]),
-    ("gate", "work", "hint yes, r is L", "", [("", "spent")]),
     (
         "gate",
         "work",

@@ -1,13 +1,14 @@
 #!/usr/bin/env python3
-"""Edits of the machine's definition of which the agreement rule, or that contested is the number of marked rounds, is false, and of a
-contract on which the rule rests.
+"""Edits of the machine's definition of which the agreement rule, or that contested is the number of marked rounds, or a paper case is
+false, and of a contract on which the rule rests.
 
 Each file of tests/theorem-edits names a file, a text of it and another text, the crate to check after the change, and the file
 and lemma at which the check must refuse it first. It also has a list of calls: the processes and rounds of the opening, the
 proposals of process 0, 1, .., and the steps, `p*k` for k steps of process p; and what they commit and write, or how many rounds are
 contested and marked after a sheet of them. From these a proof that the rule is false of the changed machine is made, and that must be
-accepted. An edit of a contract names a crate in place of the list, which must still be proved: the function meets the changed contract. All
-of it runs in a copy of the repository.
+accepted. An edit of which a paper case is false has the case's words in place of the list: the table of the cases is worked out by the
+definition itself, so that a row which is false needs no refutation. An edit of a contract names a crate in place of the list, which must
+still be proved: the function meets the changed contract. All of it runs in a copy of the repository.
 """
 import os
 import re
@@ -118,7 +119,7 @@ def fault_of(path):
         seen = first_error(run.stdout + run.stderr)
         if seen != edit["refused"]:
             return f"refused first at {seen}, not at {edit['refused']}"
-        if "proved" in edit:
+        if "proved" in edit or "case" in edit:
             return None
         write_refutation(copy, edit)
         run = check(copy, "refuted")

@@ -83,7 +83,8 @@ impl Process {
         }
     }
 
-    /// 01, gate: hint no, nothing; round L, spent; else the next round is read.
+    /// 01, gate, in the order of 02, wish 5, which reads the round limit first:
+    /// round L, spent; hint no, nothing; else the next round is read.
     #[inline]
     fn enter(
         &mut self,
@@ -91,11 +92,11 @@ impl Process {
         bounds: Bounds,
         board: &mut Board<impl FnMut(Access)>,
     ) -> Phase {
-        if !leader {
-            return Phase::Waiting;
-        }
         if self.round == bounds.limit {
             return Phase::Exhausted;
+        }
+        if !leader {
+            return Phase::Waiting;
         }
         self.round += 1;
         match board.read_value(self.round) {

@@ -18,10 +18,11 @@ use Rattle.model.specs.Board.{valueAt, markAt, processAt, withValues, wi
 
 -- ---- a process that waits
 
--- gate: "the rules are read in this order. Hint no: nothing happens. Round equal to L: spent. Otherwise the round r grows by one and T[r] is read; .." Of three
--- answers, one for each rule, that of the rule which holds. (A round above L, which no sound session has, counts as L: here and in `nextAt`.)
+-- gate, which of its rules holds: of three answers, one for each rule, that of the first rule that holds. In 01 "the rules are read in this order. Hint no:
+-- nothing happens. Round equal to L: spent. Otherwise the round r grows by one and T[r] is read; .."; in 02, wish 5: "The round limit is read first from
+-- now on. A work turn with hint no at that place now gives spent". (A round above L, which no sound session has, counts as L: here and in `nextAt`.)
 unfoldable pub waitingRule : {A : Type 0} → (limit r : ℕ) → (leader : Bool) → (exhausted stays leads : A) → A
-waitingRule L r leader exhausted stays leads = cond leader (cond (leb L r) exhausted leads) stays
+waitingRule L r leader exhausted stays leads = cond (ltb r L) (cond leader leads stays) exhausted
 
 -- ---- which register
 
@@ -95,7 +96,7 @@ nextAt W L r e (CheckMark i) leader x = process (cond (eqb x 0) (CheckValue i) W
 nextAt W L r e (CheckValue i) leader x = process (cond (eqb x e) (cond (ltb (i + 1) W) (CheckMark (i + 1)) Commit) Waiting) r e
 -- commit: "write the own value to D; gate."
 nextAt W L r e Commit leader x = process Waiting r e
--- spent, crashed and decided take no work turn (9, 8): nothing changes
+-- spent, crashed and decided take no work turn (9, 8; 02, wish 5: "each later one 9 while the seat stays spent"): nothing changes
 nextAt W L r e Exhausted leader x = process Exhausted r e
 nextAt W L r e Crashed leader x = process Crashed r e
 nextAt W L r e Decided leader x = process Decided r e

@@ -1,4 +1,4 @@
--- Document 01, "Paper cases": the starred rows, in their order, and that all of them hold of the machine.
+-- Document 01, "Paper cases": the starred rows, in their order and as document 02 has them now, and that all of them hold of the machine.
 use Prim.Native.Nat.{ℕ}
 use mathlib.Core.Path.{_≡_, refl}
 use mathlib.Core.Bool.{true, false}
@@ -18,6 +18,11 @@ use Rattle.model_cases.specs.Play.Shows.{answers, hasWindow, register, m
 -- n = 1, L = 3, proposal 7, hints yes.
 solo : ℕ → List Operation
 solo turns = Propose 0 7 ∷ repeat turns (Step 0 true)
+
+-- From its commit on, at gate in round L: hints no.
+unled : ℕ → List Operation
+unfolding solo
+unled turns = solo 19 ++ repeat turns (Step 0 false)
 
 -- n = 2, L = 5: seat 0 proposes 3, seat 1 proposes 8; hints yes; work 0, 1, 0, 1, 0, 0, 1.
 contended : List Operation
@@ -39,7 +44,7 @@ unfolding contended
 continued = contended ++ (Step 0 true ∷ Step 0 true ∷ Step 1 true ∷ Step 1 true ∷ Step 1 true ∷ [])
 
 pub table : List Case
-unfolding solo contended continued
+unfolding solo unled contended continued
 table =
     -- opening
     record { n = 0; limit = 17; operations = []; shows = answers 1 ∷ [] }
@@ -69,11 +74,13 @@ table =
       operations = continued;
       shows = register 2 3 ∷ stands 1 (Compare 0) 2 3 ∷ counts 8 4 1 ∷ [];
     }
-    -- at gate with round L: hint no; hint yes; a further work turn; a look
-    ∷ record { n = 1; limit = 3; operations = solo 19 ++ (Step 0 false ∷ []); shows = answers 0 ∷ stands 0 Waiting 3 7 ∷ [] }
-    ∷ record { n = 1; limit = 3; operations = solo 20; shows = answers 0 ∷ stands 0 Exhausted 3 7 ∷ [] }
-    ∷ record { n = 1; limit = 3; operations = solo 21; shows = answers 9 ∷ stands 0 Exhausted 3 7 ∷ [] }
-    ∷ record { n = 1; limit = 3; operations = solo 21 ++ (Learn 0 ∷ []); shows = answers 0 ∷ stands 0 Decided 3 7 ∷ [] }
+    -- at gate with round L, where 01 has "hint no, gate; hint yes, spent" and 02, wish 5, spent for both: hint no; hint yes; a further work turn after
+    -- either; a look
+    ∷ record { n = 1; limit = 3; operations = unled 1; shows = answers 0 ∷ stands 0 Exhausted 3 7 ∷ counts 15 4 0 ∷ [] }
+    ∷ record { n = 1; limit = 3; operations = solo 20; shows = answers 0 ∷ stands 0 Exhausted 3 7 ∷ counts 15 4 0 ∷ [] }
+    ∷ record { n = 1; limit = 3; operations = unled 2; shows = answers 9 ∷ stands 0 Exhausted 3 7 ∷ counts 15 4 0 ∷ [] }
+    ∷ record { n = 1; limit = 3; operations = solo 21; shows = answers 9 ∷ stands 0 Exhausted 3 7 ∷ counts 15 4 0 ∷ [] }
+    ∷ record { n = 1; limit = 3; operations = unled 2 ++ (Learn 0 ∷ []); shows = answers 0 ∷ stands 0 Decided 3 7 ∷ [] }
     -- a second proposal
     ∷ record { n = 1; limit = 3; operations = Propose 0 5 ∷ Propose 0 5 ∷ []; shows = answers 6 ∷ [] }
     ∷ record { n = 1; limit = 3; operations = Propose 0 5 ∷ Propose 0 0 ∷ []; shows = answers 5 ∷ [] }

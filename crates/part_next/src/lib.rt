@@ -29,24 +29,22 @@ fn upward(limit: usize, k: usize) -> Phase
     }
 }
 
-// 01, "One turn at a time", gate. The tests stand as in `part_access::waiting_access`, and where no register is read the hint is asked again: the
-// compiler then makes one branch of the tests of both functions, and behind it the phase goes by the hint alone. The window plays no part.
+// 01, "One turn at a time", gate, in the order of 02, wish 5: "The round limit is read first from now on." The tests stand as in
+// `part_access::waiting_access`: the compiler then makes one branch of the tests of both functions. The window plays no part.
 fn waiting(limit: usize, round: usize, estimate: u32, leader: bool, x: u32) -> Process
     ensures { λ r. ⌜ ((W : ℕ) → r ≡ nextAt W limit round estimate Phase.Waiting leader x) ⌝ }
 {
-    if leader {
-        if round < limit {
+    let left = round < limit;
+    if left {
+        if leader {
             if x == 0 {
                 return process(Phase::Write, round + 1, estimate);
             }
             return process(upward(limit, round + 1), round + 1, estimate);
         }
+        return process(Phase::Waiting, round, estimate);
     }
-    if leader {
-        process(Phase::Exhausted, round, estimate)
-    } else {
-        process(Phase::Waiting, round, estimate)
-    }
+    process(Phase::Exhausted, round, estimate)
 }
 
 // 01, "One turn at a time", seek k: `blank` says whether the register of round k is blank.

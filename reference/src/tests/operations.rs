@@ -107,6 +107,14 @@ fn a_full_tally() {
 }
 
 #[test]
+fn a_full_tally_at_the_gate_in_the_last_round() {
+    let mut case = Case::at_last_gate();
+    case.counts = FULL;
+    step_refused(&mut case, 0, 16);
+    assert_eq!(case.process(0).to_string(), "gate round 3 value 7");
+}
+
+#[test]
 fn a_tally_filled_by_its_last_turn() {
     let mut case = Case::open(1, 3);
     case.propose(0, 7);

@@ -1,5 +1,5 @@
-//! The paper cases of 01, starred and not, and the one of 02, wish 2: two seats
-//! mark one round.
+//! The paper cases of 01, starred and not, that at gate in round L as 02, wish 5,
+//! has it, and the one of 02, wish 2: two seats mark one round.
 
 use super::*;
 use crate::{entry, report, window, Phase};
@@ -101,17 +101,31 @@ fn two_seats_mark_one_round() {
 
 #[test]
 fn the_gate_in_the_last_round() {
-    let mut case = Case::at_last_gate();
-    assert_eq!(case.step(0, false), Ok(()));
-    assert_eq!(case.process(0).to_string(), "gate round 3 value 7");
+    for leader in [false, true] {
+        let mut case = Case::at_last_gate();
+        assert_eq!(case.step(0, leader), Ok(()));
+        assert_eq!(case.process(0).to_string(), "spent round 3 value 7");
+        assert_eq!(case.tally(), (15, 4, 0));
+        assert_eq!(case.step(0, leader), Err(Refusal::Exhausted));
+        assert_eq!(case.step(0, !leader), Err(Refusal::Exhausted));
+        assert_eq!(case.learn(0), Ok(()));
+        assert_eq!(case.process(0).to_string(), "decided round 3 value 7");
+        assert_eq!(case.tally(), (16, 4, 0));
+    }
+}
+
+#[test]
+fn the_gate_one_round_before_the_last() {
+    let mut case = Case::open(1, 3);
+    case.propose(0, 7);
+    case.work(&[0; 7]);
+    for _ in 0..19 {
+        assert_eq!(case.step(0, false), Ok(()));
+    }
+    assert_eq!(case.process(0).to_string(), "gate round 2 value 7");
+    assert_eq!(case.tally(), (5, 2, 0));
     assert_eq!(case.step(0, true), Ok(()));
-    assert_eq!(case.process(0).to_string(), "spent round 3 value 7");
-    assert_eq!(case.tally(), (15, 4, 0));
-    assert_eq!(case.step(0, true), Err(Refusal::Exhausted));
-    assert_eq!(case.step(0, false), Err(Refusal::Exhausted));
-    assert_eq!(case.learn(0), Ok(()));
-    assert_eq!(case.process(0).to_string(), "decided round 3 value 7");
-    assert_eq!(case.tally(), (16, 4, 0));
+    assert_eq!(case.process(0).to_string(), "put round 3 value 7");
 }
 
 #[test]

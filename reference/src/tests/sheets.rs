@@ -107,11 +107,21 @@ fn entries_refused_by_their_operation() {
         assert_eq!(of_entries(&[propose, raw(kind, 0, 0)]), 7);
         assert_eq!(of_entries(&[propose, raw(3, 1, 0), raw(kind, 1, 0)]), 8);
     }
-    let mut spent = vec![raw(0, 0, 7)];
-    spent.extend([raw(1, 0, YES); 20]);
-    assert_eq!(answer(&sheet(1, 3, &spent)), 0);
-    spent.push(raw(1, 0, 0));
-    assert_eq!(answer(&sheet(1, 3, &spent)), 9);
+}
+
+#[test]
+fn entries_of_a_spent_seat() {
+    let mut committed = vec![raw(0, 0, 7)];
+    committed.extend([raw(1, 0, YES); 19]);
+    for hint in [0, YES] {
+        let spent = [&committed[..], &[raw(1, 0, hint)]].concat();
+        assert_eq!(answer(&sheet(1, 3, &spent)), 0);
+        assert!(report(&sheet(1, 3, &spent)).ends_with("seat 0 spent 7\n"));
+        for later in [0, YES] {
+            let entries = [&spent[..], &[raw(1, 0, later)]].concat();
+            assert_eq!(answer(&sheet(1, 3, &entries)), 9);
+        }
+    }
 }
 
 #[test]
