@@ -1,11 +1,17 @@
 -- Arrays in structs, and stores of lists.
 use lib.Seq.{paste-suc}
-use Rattle.base.specs.Prelude.{ℕ, _+_, suc, _≤_, _<_, arith, add-zero, add-suc, suc-add, add-one, zero-add, le-of-lt, _≡_, refl, sym, _∙_}
+use Rattle.base.specs.Prelude.{ℕ, _+_, zero, suc, _≤_, _<_, arith, add-zero, add-suc, suc-add, add-one, zero-add, le-of-lt, _≡_, refl, sym, _∙_}
 use Rattle.base.specs.Prelude.{List, [], _∷_, _++_, map, length, length-map, length-set, getD, set, set-out, sets, take, take-suc, length-take-le, drop}
 
 -- The length of an array in a struct, as the struct's own rule has it: that of the list of its elements' values.
 pub length-mapped : (X Y : Type 0) (f : X → Y) (l : List X) (n : ℕ) → length (map f l) ≡ n → length l ≡ n
 length-mapped X Y f l n h = sym (length-map l f) ∙ h
+
+-- What holds of an element, and of what is stored in its place, holds of what then stands there.
+pub getD-set-keeps : {A : Type 0} (P : A → Type 0) (l : List A) (i : ℕ) (x d : A) → P x → P (getD l i d) → P (getD (set l i x) i d)
+getD-set-keeps P [] i x d new old = old
+getD-set-keeps P (y ∷ l) zero x d new old = new
+getD-set-keeps P (y ∷ l) (suc i) x d new old = getD-set-keeps P l i x d new old
 
 -- Two lists stored one behind the other: their concatenation stored.
 pub sets-append : (l : List ℕ) (i : ℕ) (vs ws : List ℕ) → sets l i (vs ++ ws) ≡ sets (sets l i vs) (i + length vs) ws

@@ -10,6 +10,7 @@ pub mod Keeps
 pub mod Sounds
 pub mod Operations
 pub mod Answers
+pub mod LastRound
 pub mod ByteLaws
 pub mod SheetLaws
 pub mod SheetFacts
