@@ -4,7 +4,7 @@
 // k is a round that it reads on the way up, i a distance below its own round.
 pub enum Phase {
     Idle, // out: has not proposed
-    Waiting, // gate: between two rounds, moves on when it is told to lead; after the last one its next step exhausts it
+    Waiting, // gate: between two rounds, moves on when it is told to lead
     Write, // put: about to write its estimate to the register of its round
     Scan(usize), // seek k: looks for the first blank register
     Adopt(usize), // take k: about to adopt the value of register k
