@@ -29,7 +29,7 @@ STANCES = [
 RULES = [
     ("out", "propose", "", "", [("", "gate; the number proposed becomes the own value")]),
     ("gate", "work", "r is L", "", [("", "spent")]),
-    ("gate", "work", "hint no", "", [("", "gate")]),
+    ("gate", "work", "r is below L, hint no", "", [("", "gate")]),
     (
         "gate",
         "work",
