@@ -16,16 +16,15 @@ and-right false b h = let z : true ≡ false = cc in cc
 pub and-both : {a b : Bool} → a ≡ true → b ≡ true → (a && b) ≡ true
 and-both p q = ap₂ _&&_ p q
 
--- What holds of both of two choices, where it is known which, holds of the choice.
-pub cond-cases : {A : Type 0} (P : A → Type 0) (t : Bool) {a b : A} → (t ≡ true → P a) → (t ≡ false → P b) → P (cond t a b)
-cond-cases P true p q = p refl
-cond-cases P false p q = q refl
-
--- The same of two choices by one test.
+-- Two choices by one test: what holds of the first two, and of the other two, where it is known which, holds of what is chosen.
 pub cond-both : {A B : Type 0} (P : A → B → Type 0) (t : Bool) {a b : A} {x y : B} →
     (t ≡ true → P a x) → (t ≡ false → P b y) → P (cond t a b) (cond t x y)
 cond-both P true p q = p refl
 cond-both P false p q = q refl
+
+-- One choice.
+pub cond-cases : {A : Type 0} (P : A → Type 0) (t : Bool) {a b : A} → (t ≡ true → P a) → (t ≡ false → P b) → P (cond t a b)
+cond-cases P t p q = cond-both (λ a x. P a) t {x = t} {y = t} p q
 
 -- A choice between two that are the same.
 pub cond-same : {A : Type 0} (t : Bool) (x : A) → cond t x x ≡ x
