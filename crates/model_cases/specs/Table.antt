@@ -80,7 +80,7 @@ table =
     ∷ record { n = 1; limit = 3; operations = solo 20; shows = answers 0 ∷ stands 0 Exhausted 3 7 ∷ counts 15 4 0 ∷ [] }
     ∷ record { n = 1; limit = 3; operations = unled 2; shows = answers 9 ∷ stands 0 Exhausted 3 7 ∷ counts 15 4 0 ∷ [] }
     ∷ record { n = 1; limit = 3; operations = solo 21; shows = answers 9 ∷ stands 0 Exhausted 3 7 ∷ counts 15 4 0 ∷ [] }
-    ∷ record { n = 1; limit = 3; operations = unled 2 ++ (Learn 0 ∷ []); shows = answers 0 ∷ stands 0 Decided 3 7 ∷ [] }
+    ∷ record { n = 1; limit = 3; operations = unled 2 ++ (Learn 0 ∷ []); shows = answers 0 ∷ stands 0 Decided 3 7 ∷ counts 16 4 0 ∷ [] }
     -- a second proposal
     ∷ record { n = 1; limit = 3; operations = Propose 0 5 ∷ Propose 0 5 ∷ []; shows = answers 6 ∷ [] }
     ∷ record { n = 1; limit = 3; operations = Propose 0 5 ∷ Propose 0 0 ∷ []; shows = answers 5 ∷ [] }
