@@ -1,5 +1,5 @@
 -- The last round (document 02, wish 5): what its sentences say of the machine, at any window, of any session and counts.
-use Rattle.base.specs.Prelude.{ℕ, zero, suc, _<_, _≤_, _≡_, refl, _⊎_, inr, ⊎-elim, Bool, false, true≢false, getD-set-other, ℕ-discrete, eqb, lt-leb, lt-ltb, le-ltb}
+use Rattle.base.specs.Prelude.{ℕ, zero, suc, _<_, _≤_, _≡_, refl, _⊎_, inl, inr, ⊎-elim, Bool, false, true≢false, getD-set-other, ℕ-discrete, eqb, eqb-false, lt-leb, lt-ltb, le-ltb}
 use lib.Seq.{set-getD}
 use Rattle.base.specs.Arrays.{getD-set-keeps}
 use Rattle.base.specs.Bools.{cond-cases}
@@ -37,6 +37,40 @@ module _ (W : ℕ) (s : Session) (c : Counts) (p : ℕ) (below : p < s .n) where
       rw (lt-leb (s .n) p below, waits, room, lt-ltb (q .round) (s .limit) more, same, set-getD (s .processes) p idle) refl
 
 -- ---- "while the seat stays spent"
+
+-- What ends that: its own look, where D is filled, and its own crash.
+abbrev pub Ends : Session → (p : ℕ) → Operation → Type 0
+Ends s p o = ((o ≡ Learn p) × (s .decision ≡ 0 → ⊥)) ⊎ (o ≡ Crash p)
+
+-- An accepted operation of a spent process ends it, or leaves its record.
+own-spent : (W : ℕ) (s : Session) (c : Counts) (o : Operation) → Accepted s c o → processAt s (processOf o) .phase ≡ Exhausted →
+    (processAt (after W s o) (processOf o) ≡ processAt s (processOf o)) ⊎ Ends s (processOf o) o
+unfolding after turn accessOf becomes learnt stored found
+own-spent W s c (Propose p v) a spent = absurd (true≢false (rw spent at (a .own .1 .0)))
+own-spent W s c (Step p leader) a spent = absurd (true≢false (rw spent at (a .own .1 .1 .0)))
+own-spent W s c (Learn p) a spent =
+    cond-cases (λ (q : Process). (processAt (withProcess s p q) p ≡ processAt s p) ⊎ Ends s p (Learn p)) (eqb (s .decision) 0)
+    (λ t. inl (rw (set-getD (s .processes) p idle) refl))
+    (λ t. inr (inl (refl, eqb-false (s .decision) 0 t)))
+own-spent W s c (Crash p) a spent = inr (inr refl)
+own-spent W s c Malformed a spent = absurd (true≢false (a .formed))
+
+-- Every other operation, accepted or refused, of whatever process, leaves the record of a spent process as it is.
+pub spent-stays : (W : ℕ) (s : Session) (c : Counts) (o : Operation) (p : ℕ) → processAt s p .phase ≡ Exhausted →
+    (processAt (perform W s c o .session) p ≡ processAt s p) ⊎ Ends s p o
+unfolding perform answered after turn
+spent-stays W s c o p spent = go (refusal (tests s c o)) refl
+  where
+    turned : Accepted s c o → (processAt (after W s o) p ≡ processAt s p) ⊎ Ends s p o
+    turned a =
+        elim (ℕ-discrete p (processOf o)) [
+          | yes e ↦ rw e (own-spent W s c o a (rw e at spent))
+          | no ne ↦ inl (rw (stored-same s _ _ .processes) (getD-set-other (s .processes) (processOf o) p _ idle ne))
+        ]
+
+    go : (k : ℕ) → refusal (tests s c o) ≡ k → (processAt (stepped k s (after W s o) c (countsAfter s c o) .session) p ≡ processAt s p) ⊎ Ends s p o
+    go zero e = turned (accepted s c o e)
+    go (suc k) e = inl refl
 
 -- A process that works no more: spent, or crashed or decided.
 abbrev pub Ended : Phase → Type 0
