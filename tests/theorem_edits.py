@@ -6,9 +6,9 @@ Each file of tests/theorem-edits names a file, a text of it and another text, th
 and lemma at which the check must refuse it first. It also has a list of calls: the processes and rounds of the opening, the
 proposals of process 0, 1, .., and the steps, `p*k` for k steps of process p; and what they commit and write, or how many rounds are
 contested and marked after a sheet of them. From these a proof that the rule is false of the changed machine is made, and that must be
-accepted. An edit of which a paper case is false has the case's words in place of the list: the table of the cases is worked out by the
-definition itself, so that a row which is false needs no refutation. An edit of a contract names a crate in place of the list, which must
-still be proved: the function meets the changed contract. All of it runs in a copy of the repository.
+accepted. An edit of which a paper case is false has the case's row in place of the list, as the table has it: the table that holds that row
+alone must be proved false of the changed machine. An edit of a contract names a crate in place of the list, which must still be proved:
+the function meets the changed contract. All of it runs in a copy of the repository.
 """
 import os
 import re
@@ -21,6 +21,7 @@ from pathlib import Path
 
 ROOT = Path(__file__).resolve().parent.parent
 EDITS = ROOT / "tests" / "theorem-edits"
+TABLE = Path("crates/model_cases/specs/Table.antt")
 
 
 def read_edit(path):
@@ -100,6 +101,20 @@ def write_refutation(copy, edit):
         crates.write("refuted: base model model_rule\n")
 
 
+def case_stands(copy, row):
+    """What keeps the table of that one row from being proved false; None where it is."""
+    table = copy / TABLE
+    text = table.read_text(encoding="utf-8")
+    rows = text[text.index("table =\n"):text.index("-- Every row holds")]
+    if rows.count(row) != 1:
+        return f"'{row}' stands {rows.count(row)} times in the table"
+    one = next(line.strip().removeprefix("∷ ") for line in rows.splitlines() if row in line)
+    text = text.replace(rows, f"table =\n    {one}\n    ∷ []\n\n").replace("every holds table ≡ true", "every holds table ≡ false")
+    table.write_text(text, encoding="utf-8")
+    run = check(copy, TABLE.parts[1])
+    return None if run.returncode == 0 else f"the row is not false of it: {first_error(run.stdout + run.stderr)}"
+
+
 def fault_of(path):
     """What is wrong with an edit; None where the check refuses it as said and the rule is refuted."""
     edit = read_edit(path)
@@ -119,8 +134,10 @@ def fault_of(path):
         seen = first_error(run.stdout + run.stderr)
         if seen != edit["refused"]:
             return f"refused first at {seen}, not at {edit['refused']}"
-        if "proved" in edit or "case" in edit:
+        if "proved" in edit:
             return None
+        if "row" in edit:
+            return case_stands(copy, edit["row"])
         write_refutation(copy, edit)
         run = check(copy, "refuted")
         return None if run.returncode == 0 else f"its list of calls refutes nothing: {first_error(run.stdout + run.stderr)}"
