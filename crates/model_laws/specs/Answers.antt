@@ -1,12 +1,12 @@
 -- The answer of an operation, by the number of its first refusal and by what is left where it is 0.
-use Rattle.base.specs.Prelude.{ℕ, suc, zero, _<_, _%_, arith, _≡_, refl, sym, _∙_, ap, Bool, true, false, cond, not, _∷_, leb, leb-false}
-use Rattle.model_laws.specs.Types.{Waiting, Crashed, Process, Session, Counts, Operation, Propose, Step, Learn, Crash, Malformed}
+use Rattle.base.specs.Prelude.{ℕ, suc, zero, _<_, _%_, arith, _≡_, refl, sym, _∙_, ap, Bool, true, false, cond, not, List, _∷_, leb, leb-false}
+use Rattle.model_laws.specs.Types.{Phase, Waiting, Crashed, Process, Session, Counts, Operation, Propose, Step, Learn, Crash, Malformed}
 use Rattle.model.specs.Board.{processAt, withProcess, noCounts}
 use Rattle.model.specs.Window.{window}
 use Rattle.model.specs.Step.{counted, turn, stored, found, learnt, process}
-use Rattle.model.specs.Refusal.{refusal, isMalformed, processOf, ownTests, tests, stepped, full}
+use Rattle.model.specs.Refusal.{Test, refusal, isMalformed, processOf, ownTests, tests, stepped, full}
 use Rattle.model.specs.Machine.{accessOf, becomes, after, countsAfter, answered, perform}
-use Rattle.model.specs.Public.{operate, withCounts, withoutCounts}
+use Rattle.model.specs.Public.{operate, propose, crash, withCounts, withoutCounts}
 use Rattle.model.specs.Sound.{sound}
 use Rattle.base.specs.Bools.{cond-same}
 use Rattle.model_laws.specs.Accepted.{NoneHolds, Accepted, accepted}
@@ -47,6 +47,15 @@ pub operate-sound : (s : Session) (c : Counts) (o : Operation) → sound s ≡ t
 unfolding operate perform answered
 operate-sound s c o ok = rw ok
 
+-- A proposal and a crash leave any counts.
+pub propose-counts : (s : Session) (c : Counts) (p v : ℕ) → withCounts (propose s p v) c ≡ operate s c (Propose p v)
+unfolding propose operate answered countsAfter accessOf counted
+propose-counts s c p v = stepped-counts (codeOf s c (Propose p v)) s (after (window (s .n)) s (Propose p v)) noCounts c
+
+pub crash-counts : (s : Session) (c : Counts) (p : ℕ) → withCounts (crash s p) c ≡ operate s c (Crash p)
+unfolding crash operate answered countsAfter accessOf counted
+crash-counts s c p = stepped-counts (codeOf s c (Crash p)) s (after (window (s .n)) s (Crash p)) noCounts c
+
 -- What an accepted operation knows.
 pub admitted : (s : Session) (c : Counts) (o : Operation) → codeOf s c o ≡ 0 → (sound s ≡ true) × Accepted s c o
 admitted s c o e = go (sound s) refl e
@@ -69,20 +78,27 @@ accepted-counts L q x c Malformed own = cond-same (full c) c
 pub index-is : (s : Session) (p : ℕ) → sound s ≡ true → p < s .n → p % 64 ≡ p
 index-is s p t below = omega (arith, sound-few s t)
 
+-- The number of a call on process p, by its own tests on the record that the code reads.
+pub first-is : (s : Session) (p : ℕ) (tests : Phase → List Test) {b : Bool} {own k : ℕ} → b ≡ sound s →
+    own ≡ refusal (tests (processAt s (p % 64) .phase)) →
+    k ≡ cond (not b) 3 (cond (leb (s .n) p) 4 own) →
+    k ≡ refusal ((not (sound s), 3) ∷ (leb (s .n) p, 4) ∷ tests (processAt s p .phase))
+first-is s p tests eb eo ek = ek ∙ rw (eb, eo) (go (sound s) (leb (s .n) p) refl refl)
+  where
+    go : (b t : Bool) → sound s ≡ b → leb (s .n) p ≡ t →
+        cond (not b) 3 (cond t 4 (refusal (tests (processAt s (p % 64) .phase))))
+        ≡ cond (not b) 3 (cond t 4 (refusal (tests (processAt s p .phase))))
+    go true true eb et = refl
+    go true false eb et = rw (index-is s p eb (leb-false (s .n) p et))
+    go false t eb et = refl
+
 module _ (s : Session) (c : Counts) (o : Operation) where
   -- The number, with the own tests made on the record that the code reads.
   pub code-is : {b : Bool} {own k : ℕ} → isMalformed o ≡ false → b ≡ sound s →
       own ≡ refusal (ownTests (processAt s (processOf o % 64) .phase) c o) →
       k ≡ cond (not b) 3 (cond (leb (s .n) (processOf o)) 4 own) →
       k ≡ codeOf s c o
-  code-is formed eb eo ek = ek ∙ rw (eb, eo, formed) (go (sound s) (leb (s .n) (processOf o)) refl refl)
-    where
-      go : (b t : Bool) → sound s ≡ b → leb (s .n) (processOf o) ≡ t →
-          cond (not b) 3 (cond t 4 (refusal (ownTests (processAt s (processOf o % 64) .phase) c o)))
-          ≡ cond (not b) 3 (cond t 4 (refusal (ownTests (processAt s (processOf o) .phase) c o)))
-      go true true eb et = refl
-      go true false eb et = rw (index-is s (processOf o) eb (leb-false (s .n) (processOf o) et))
-      go false t eb et = refl
+  code-is formed eb eo ek = first-is s (processOf o) (λ φ. ownTests φ c o) eb eo ek ∙ rw formed
 
   module _ {k : ℕ} (code : k ≡ codeOf s c o) where
     pub operate-refused : (k ≡ 0 → ⊥) → record { code = k; session = s; counts = c } ≡ operate s c o

@@ -1,5 +1,5 @@
 -- What soundness says of a process, phase by phase, as facts.
-use Rattle.base.specs.Prelude.{ℕ, min, _≤_, _<_, _≡_, refl, true, false, cond, ltb, eqb, leb-true, ltb-true, eqb-true, le-leb, lt-ltb, eq-eqb}
+use Rattle.base.specs.Prelude.{ℕ, min, _≤_, _<_, _≡_, refl, sym, true, false, true≢false, cond, ltb, eqb, leb-true, ltb-true, eqb-true, le-leb, lt-ltb, eq-eqb}
 use Rattle.model_laws.specs.Types.{Phase, Idle, Waiting, Write, Scan, Adopt, Compare, Flag, CheckMark, CheckValue, Commit, Exhausted, Crashed, Decided, Process}
 use Rattle.model.specs.Refusal.{status, isOutside}
 use Rattle.model.specs.Sound.{soundPhase, soundProcess}
@@ -59,3 +59,19 @@ facts-process W L q f = search (tests, phase-iff W L (q .round) (q .phase) .1)
 -- A process that has proposed has an estimate above 0.
 pub inside-some : {W L r e : ℕ} {φ : Phase} → ProcessSound W L r e φ → isOutside (status φ) ≡ false → 0 < e
 inside-some {e = e} f inside = ltb-true 0 e (rw inside at (f .estimate))
+
+-- Only an idle process has not proposed; it is in round 0.
+pub outside-start : (W L r : ℕ) (φ : Phase) → isOutside (status φ) ≡ true → PhaseSound W L r φ → r ≡ 0
+outside-start W L r Idle o ok = ok
+outside-start W L r Waiting o ok = absurd (true≢false (sym o))
+outside-start W L r Write o ok = absurd (true≢false (sym o))
+outside-start W L r (Scan k) o ok = absurd (true≢false (sym o))
+outside-start W L r (Adopt k) o ok = absurd (true≢false (sym o))
+outside-start W L r (Compare i) o ok = absurd (true≢false (sym o))
+outside-start W L r (Flag i) o ok = absurd (true≢false (sym o))
+outside-start W L r (CheckMark i) o ok = absurd (true≢false (sym o))
+outside-start W L r (CheckValue i) o ok = absurd (true≢false (sym o))
+outside-start W L r Commit o ok = absurd (true≢false (sym o))
+outside-start W L r Exhausted o ok = absurd (true≢false (sym o))
+outside-start W L r Crashed o ok = absurd (true≢false (sym o))
+outside-start W L r Decided o ok = absurd (true≢false (sym o))

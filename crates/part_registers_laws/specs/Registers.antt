@@ -117,36 +117,47 @@ step-no-look L r Exhausted leader = tt
 step-no-look L r Crashed leader = tt
 step-no-look L r Decided leader = tt
 
--- What the code counts in a work turn of a sound session, by what it found, are the machine's counts; i is the index of process p.
-pub counted-is : (s : Session) (p : ℕ) (leader : Bool) (c : Counts) {i v x : ℕ} {a : Access} →
-    InRange maxRounds (accessOf (s .limit) (processAt s p) (Step p leader)) →
-    i ≡ p →
-    a ≡ access (s .limit) (processAt s i) leader →
-    v ≡ valueIn (s .values) a →
-    x ≡ markIn v (s .marks) a →
-    counted a x c ≡ countsAfter s c (Step p leader)
-unfolding countsAfter accessOf access
-counted-is s p leader c ok ei ea er ex =
-    let r = processAt s p in
-    let a = access (s .limit) r leader in
-    rw (ex, er, ea, ei) (ap (λ x. counted a x c) (read-is s a (step-no-look (s .limit) (r .round) (r .phase) leader) ok))
+-- ---- a turn of process p, whose access in the machine is b; i is the index of the process in the code, and a the code's access
 
--- What the code leaves in each register, and the record that it makes by the value read, are what the machine leaves after a work turn of a
--- sound session; i is the index of process p.
-pub worked-is : (W : ℕ) (s : Session) (p : ℕ) (leader : Bool) {i v x y : ℕ} {a : Access} {values : List ℕ} {marks : List Bool} {q : Process} →
-    InRange maxRounds (accessOf (s .limit) (processAt s p) (Step p leader)) →
-    i ≡ p →
-    a ≡ access (s .limit) (processAt s i) leader →
-    v ≡ valueIn (s .values) a →
-    x ≡ markIn v (s .marks) a →
-    values ≡ valuesAfter (s .values) a (processAt s i .estimate) →
-    marks ≡ marksAfter (s .marks) a →
-    y ≡ decisionAfter (s .decision) a (processAt s i .estimate) →
-    q ≡ next W (s .limit) (processAt s i) leader x →
-    with s values marks y (set (s .processes) i q) ≡ after W s (Step p leader)
-unfolding after accessOf becomes access
-worked-is W s p leader ok ei ea er ex ev em ey eq =
-    let r = processAt s p in
-    let a = access (s .limit) r leader in
-    let read = read-is s a (step-no-look (s .limit) (r .round) (r .phase) leader) ok in
-    rw (eq, ev, em, ey, ex, er, ea, ei, read) (sym (turn-is s p a (next W (s .limit) r leader) ok))
+module _ (s : Session) (p : ℕ) {i v x : ℕ} {a : Access} (b : Process → Access) (look : NoLook (b (processAt s p)))
+    (ok : InRange maxRounds (b (processAt s p))) (ei : i ≡ p) (ea : a ≡ b (processAt s i)) (er : v ≡ valueIn (s .values) a)
+    (ex : x ≡ markIn v (s .marks) a) where
+  -- What the code counts, by what it found, is what the machine counts.
+  pub turn-counts : (c : Counts) → counted a x c ≡ counted (b (processAt s p)) (found s (b (processAt s p))) c
+  turn-counts c = rw (ex, er, ea, ei) (ap (λ x. counted (b (processAt s p)) x c) (read-is s (b (processAt s p)) look ok))
+
+  -- What the code leaves in each register, and the record that it makes by the value read, are what the machine leaves.
+  pub turn-leaves : {y : ℕ} {values : List ℕ} {marks : List Bool} {q : Process} (becomes : Process → ℕ → Process) →
+      values ≡ valuesAfter (s .values) a (processAt s i .estimate) →
+      marks ≡ marksAfter (s .marks) a →
+      y ≡ decisionAfter (s .decision) a (processAt s i .estimate) →
+      q ≡ becomes (processAt s i) x →
+      with s values marks y (set (s .processes) i q) ≡ turn s p (b (processAt s p)) (becomes (processAt s p))
+  turn-leaves becomes ev em ey eq =
+      let r = processAt s p in
+      rw (eq, ev, em, ey, ex, er, ea, ei, read-is s (b r) look ok) (sym (turn-is s p (b r) (becomes r) ok))
+
+-- ---- a work turn of a session
+
+-- What the code counts, and what it leaves, are what the machine counts and leaves after a work turn of a sound session.
+module _ (s : Session) (p : ℕ) (leader : Bool) {i v x : ℕ} {a : Access} (ok : InRange maxRounds (accessOf (s .limit) (processAt s p) (Step p leader)))
+    (ei : i ≡ p) (ea : a ≡ access (s .limit) (processAt s i) leader) (er : v ≡ valueIn (s .values) a) (ex : x ≡ markIn v (s .marks) a) where
+  abbrev accessed : Process → Access
+  accessed q = access (s .limit) q leader
+
+  no-look : NoLook (accessed (processAt s p))
+  unfolding access
+  no-look = let q = processAt s p in step-no-look (s .limit) (q .round) (q .phase) leader
+
+  pub counted-is : (c : Counts) → counted a x c ≡ countsAfter s c (Step p leader)
+  unfolding countsAfter accessOf
+  counted-is c = turn-counts s p accessed no-look ok ei ea er ex c
+
+  pub worked-is : (W : ℕ) {y : ℕ} {values : List ℕ} {marks : List Bool} {q : Process} →
+      values ≡ valuesAfter (s .values) a (processAt s i .estimate) →
+      marks ≡ marksAfter (s .marks) a →
+      y ≡ decisionAfter (s .decision) a (processAt s i .estimate) →
+      q ≡ next W (s .limit) (processAt s i) leader x →
+      with s values marks y (set (s .processes) i q) ≡ after W s (Step p leader)
+  unfolding after accessOf becomes
+  worked-is W ev em ey eq = turn-leaves s p accessed no-look ok ei ea er ex (λ q. next W (s .limit) q leader) ev em ey eq

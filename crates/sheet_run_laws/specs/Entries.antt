@@ -90,7 +90,7 @@ pub step-leaves : (W : ℕ) (s : Session) (p : ℕ) (leader : Bool) {o : Operati
     with s values marks y (set (s .processes) p q) ≡ after W s o
 step-leaves W s p leader {m = m} t told named ea er ex ev em ey eq =
     rw told
-    (worked-is W s m leader (access-in-arrays W s (Step m leader) t) (named ∙ ap processOf told) ea er ex ev em ey eq)
+    (worked-is s m leader (access-in-arrays W s (Step m leader) t) (named ∙ ap processOf told) ea er ex W ev em ey eq)
 
 -- And what it counts.
 pub step-counts : (W : ℕ) (s : Session) (p : ℕ) (leader : Bool) (c : Counts) {o : Operation} {m v x : ℕ} {a : Access} →
@@ -102,7 +102,7 @@ pub step-counts : (W : ℕ) (s : Session) (p : ℕ) (leader : Bool) (c : Counts)
     x ≡ markIn v (s .marks) a →
     counted a x c ≡ countsAfter s c o
 step-counts W s p leader c {m = m} t told named ea er ex =
-    rw told (counted-is s m leader c (access-in-arrays W s (Step m leader) t) (named ∙ ap processOf told) ea er ex)
+    rw told (counted-is s m leader (access-in-arrays W s (Step m leader) t) (named ∙ ap processOf told) ea er ex c)
 
 -- ---- what an entry that is no work turn leaves
 

@@ -6,6 +6,7 @@ use Rattle.model.specs.Refusal.{refusal, tests, processOf, stepped}
 use Rattle.model.specs.Machine.{after, countsAfter, answered, perform}
 use Rattle.model.specs.Sound.{soundAt}
 use Rattle.model_laws.specs.Accepted.{accepted}
+use Rattle.model_laws.specs.Sounds.{sound-process}
 use Rattle.model_laws.specs.Operations.{after-sound, after-same, opened-sound}
 use Rattle.model_rule.specs.Event.{Event, eventsOf}
 use Rattle.model_rule.specs.Calls.{Input, machine, ifAccepted, events, past}
@@ -45,7 +46,7 @@ module _ {W n L : ℕ} (wide : 1 ≤ W) where
             sound = after-sound W wide s c o (i .sound) a;
             size = same .0 ∙ i .size;
             rounds = same .1 ∙ i .rounds;
-            invariant = operation-invariant (i .invariant) (i .sound) c o a;
+            invariant = operation-invariant (i .invariant) c o (sound-process W s (processOf o) (i .sound)) a;
           }
       go (suc k) e = i
 

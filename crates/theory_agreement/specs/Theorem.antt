@@ -2,16 +2,15 @@
 use Rattle.base.specs.Prelude.{ℕ, suc, zero, _≤_, arith, _≡_, refl, sym, _∙_, ap, subst, List, []}
 use Rattle.model_laws.specs.Types.{Session, Counts, Operation, Propose, Step, Learn, Crash, Malformed, Changed, Stepped}
 use Rattle.model.specs.Window.{window}
-use Rattle.model.specs.Board.{opened, noCounts, serverLimits}
-use Rattle.model.specs.Step.{counted}
+use Rattle.model.specs.Board.{opened, serverLimits}
 use Rattle.model.specs.Refusal.{refusal, openTests, changed}
-use Rattle.model.specs.Machine.{accessOf, after, countsAfter, answered, perform, openWithin, opening}
-use Rattle.model.specs.Public.{operate, withCounts, propose, step, learn, crash}
+use Rattle.model.specs.Machine.{answered, perform, openWithin, opening}
+use Rattle.model.specs.Public.{operate, withCounts, step, learn}
 use Rattle.model.specs.Sound.{sound}
 use Rattle.model_laws.specs.Windows.{window-least, window-square}
 use Rattle.model_laws.specs.Accepted.{never-three}
 use Rattle.model_laws.specs.Operations.{open-accepted}
-use Rattle.model_laws.specs.Answers.{codeOf, stepped-code, stepped-counts, operate-sound}
+use Rattle.model_laws.specs.Answers.{stepped-code, operate-sound, propose-counts, crash-counts}
 use Rattle.model_rule.specs.Event.{Event}
 use Rattle.model_rule.specs.Calls.{Input, machine, Promised, Call, Run, none, call, inputs}
 use Rattle.model_rule.specs.Rule.{EachAsTheMachine, AgreementRule}
@@ -20,13 +19,11 @@ use Rattle.theory_agreement.specs.Machine.{Reached, machine-reached, ope
 -- What is promised of a call is what the operation answers: a proposal and a crash leave any counts.
 pub promised-operate : (s : Session) (c : Counts) (o : Operation) (a : Changed) (c′ : Counts) → Promised s c o a c′ →
     withCounts a c′ ≡ operate s c o
-unfolding propose step learn crash operate answered countsAfter accessOf counted
-promised-operate s c (Propose p v) a c′ e =
-    rw (e .0, e .1) (stepped-counts (codeOf s c (Propose p v)) s (after (window (s .n)) s (Propose p v)) noCounts c)
+unfolding step learn
+promised-operate s c (Propose p v) a c′ e = rw (e .0, e .1) (propose-counts s c p v)
 promised-operate s c (Step p leader) a c′ e = e
 promised-operate s c (Learn p) a c′ e = e
-promised-operate s c (Crash p) a c′ e =
-    rw (e .0, e .1) (stepped-counts (codeOf s c (Crash p)) s (after (window (s .n)) s (Crash p)) noCounts c)
+promised-operate s c (Crash p) a c′ e = rw (e .0, e .1) (crash-counts s c p)
 promised-operate s c Malformed a c′ e = absurd e
 
 -- A session that the machine reached, at its own window: every operation answers as the machine does, and not 3.

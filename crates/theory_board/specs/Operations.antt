@@ -5,9 +5,8 @@ use Rattle.model.specs.Board.{processAt}
 use Rattle.model.specs.Step.{accessAt, access, found, stored}
 use Rattle.model.specs.Refusal.{status, isOutside, isGone, processOf}
 use Rattle.model.specs.Machine.{accessOf, becomes, after}
-use Rattle.model.specs.Sound.{soundAt}
-use Rattle.model_laws.specs.Phases.{PhaseSound, ProcessSound, process-facts, inside-some}
-use Rattle.model_laws.specs.Sounds.{sound-process}
+use Rattle.model.specs.Sound.{soundProcess}
+use Rattle.model_laws.specs.Phases.{process-facts, inside-some, outside-start}
 use Rattle.model_laws.specs.Accepted.{Accepted}
 use Rattle.model_laws.specs.Ranges.{InRange}
 use Rattle.model_laws.specs.WaitingRules.{waiting-cases}
@@ -46,61 +45,43 @@ look-matches p (suc v) k = silent-matches (λ j. refl) (λ j e. let z : _≡_ {A
 
 -- ---- what an accepted operation knows of its process
 
--- Only an idle process has not proposed; it is in round 0.
-outside-start : (W L r : ℕ) (φ : Phase) → isOutside (status φ) ≡ true → PhaseSound W L r φ → r ≡ 0
-outside-start W L r Idle o ok = ok
-outside-start W L r Waiting o ok = absurd (true≢false (sym o))
-outside-start W L r Write o ok = absurd (true≢false (sym o))
-outside-start W L r (Scan k) o ok = absurd (true≢false (sym o))
-outside-start W L r (Adopt k) o ok = absurd (true≢false (sym o))
-outside-start W L r (Compare i) o ok = absurd (true≢false (sym o))
-outside-start W L r (Flag i) o ok = absurd (true≢false (sym o))
-outside-start W L r (CheckMark i) o ok = absurd (true≢false (sym o))
-outside-start W L r (CheckValue i) o ok = absurd (true≢false (sym o))
-outside-start W L r Commit o ok = absurd (true≢false (sym o))
-outside-start W L r Exhausted o ok = absurd (true≢false (sym o))
-outside-start W L r Crashed o ok = absurd (true≢false (sym o))
-outside-start W L r Decided o ok = absurd (true≢false (sym o))
-
 -- It is not decided: a test of a decided process does not hold of it.
 not-decided : {φ : Phase} (test : Phase → Bool) → test Decided ≡ true → test φ ≡ false → φ ≡ Decided → ⊥
 not-decided test holds fails e = true≢false (sym holds ∙ (rw e at fails))
 
 -- ---- an accepted operation
 
-module _ {W : ℕ} {s : Session} {h : List Event} (i : Invariant W s h) (sound : soundAt W s ≡ true) (c : Counts) where
-  -- What soundness says of a process.
-  facts : (p : ℕ) → ProcessSound W (s .limit) (processAt s p .round) (processAt s p .estimate) (processAt s p .phase)
-  facts p = process-facts W (s .limit) (processAt s p) (sound-process W s p sound)
-
-  pub operation-invariant : (o : Operation) → Accepted s c o →
+-- The process that it names is sound, as one of a session; of the others nothing is asked.
+module _ {W : ℕ} {s : Session} {h : List Event} (i : Invariant W s h) (c : Counts) where
+  pub operation-invariant : (o : Operation) → soundProcess W (s .limit) (processAt s (processOf o)) ≡ true → Accepted s c o →
       Invariant W (after W s o) (eventsOf (processAt s (processOf o)) (s .decision) o ++ h)
   unfolding after accessOf access becomes stored found
-  operation-invariant (Propose p v) a =
+  operation-invariant (Propose p v) one a =
       let q = processAt s p in
       turn-invariant i p _ _ (proposal v ∷ []) (a .below)
       (i .long, silent-matches (λ j. refl) (λ j e. let z : _≡_ {A = ℕ} 0 1 = cc in omega arith) (i .matches))
       (also (i .lawful) tt)
       (λ o ne. (tt, tt))
       (proposal-stands (not-decided (λ φ. not (isOutside (status φ))) refl (a .own .1 .0)) (i .stands p) v
-      (outside-start W (s .limit) (q .round) (q .phase) (not-false _ (a .own .1 .0)) (facts p .phase)))
-  operation-invariant (Step p leader) a =
+      (outside-start W (s .limit) (q .round) (q .phase) (not-false _ (a .own .1 .0)) (process-facts W (s .limit) q one .phase)))
+  operation-invariant (Step p leader) one a =
       let q = processAt s p in
       let inside = a .own .0 in
-      let range = operation-range W (s .limit) q (Step p leader) (sound-process W s p sound) in
+      let facts = process-facts W (s .limit) q one in
+      let range = operation-range W (s .limit) q (Step p leader) one in
       turn-invariant i p _ _ (stepEvents p (q .round) (q .estimate) (q .phase)) (a .below)
       (step-events p (q .round) (q .estimate) (q .phase) leader (i .long) (i .matches) range)
-      (step-lawful (s .limit) p (q .round) (q .estimate) (q .phase) (a .below) (inside-some (facts p) inside) (facts p .phase) (i .lawful)
+      (step-lawful (s .limit) p (q .round) (q .estimate) (q .phase) (a .below) (inside-some facts inside) (facts .phase) (i .lawful)
       (i .stands p .placed inside))
       (λ o ne. step-spares o p (q .round) (q .estimate) (q .phase) ne)
-      (step-stands (s .limit) p q leader _ (not-decided (λ φ. isGone (status φ)) refl (a .own .1 .0)) inside (facts p .phase) (i .lawful)
+      (step-stands (s .limit) p q leader _ (not-decided (λ φ. isGone (status φ)) refl (a .own .1 .0)) inside (facts .phase) (i .lawful)
       (i .stands p) (found-matches s (access (s .limit) q leader) h range (i .matches)))
-  operation-invariant (Learn p) a =
+  operation-invariant (Learn p) one a =
       let look =
       learnt-stands (not-decided (λ φ. isGone (status φ)) refl (a .own .1 .0)) (i .stands p) (i .lawful) (s .decision) (i .matches .decision) in
       turn-invariant i p _ _ (lookEvents p (s .decision)) (a .below) (i .long, look-matches p (s .decision) (i .matches)) (look .0) (look .1)
       (look .2)
-  operation-invariant (Crash p) a =
+  operation-invariant (Crash p) one a =
       turn-invariant i p _ _ [] (a .below) (i .long, i .matches) (i .lawful) (λ o ne. tt)
       (crash-stands (not-decided (λ φ. isGone (status φ)) refl (a .own .1 .0)) (i .stands p) (a .own .0))
-  operation-invariant Malformed a = absurd (true≢false (a .formed))
+  operation-invariant Malformed one a = absurd (true≢false (a .formed))

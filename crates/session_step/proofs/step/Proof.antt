@@ -54,17 +54,18 @@ returns c =
     c .counted .ensures in
     let ranged = access-in-arrays _ _ o (known _ _ o (code first) none .0) in
     operate-accepted _ _ o (code first) none
-    (worked-is (window (args .t1 .n)) _ _ _ ranged i
+    (worked-is _ _ _ ranged i
     (accessed .access .ensures)
     (valued .value .ensures .0)
     (marked .mark .ensures .0)
+    (window (args .t1 .n))
     (valued .value .ensures .1)
     (marked .mark .ensures .1)
     (written .decision .ensures)
     (rw (← c .before .before .window .ensures) (c .before .next .ensures)))
     (counts
     ∙ ap (cond (full (args .c)) (args .c))
-    (counted-is (args .t1) (args .p) (args .leader) (args .c) ranged i (accessed .access .ensures) (valued .value .ensures .0) (marked .mark .ensures .0)))
+    (counted-is (args .t1) (args .p) (args .leader) ranged i (accessed .access .ensures) (valued .value .ensures .0) (marked .mark .ensures .0) (args .c)))
 
 returns-2 : tie.Need-returns-2
 unfolding Public.step
