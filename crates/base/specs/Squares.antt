@@ -21,3 +21,9 @@ pub odd-sum-square : (m : ℕ) → oddSum m ≡ m * m
 unfolding oddSum
 odd-sum-square zero = refl
 odd-sum-square (suc m) = omega (arith, odd-sum-square m)
+
+-- The square of the smaller number is the smaller square.
+pub square-le : (m n : ℕ) → m ≤ n → m * m ≤ n * n
+square-le zero n low = omega arith
+square-le (suc m) zero low = absurd (omega arith)
+square-le (suc m) (suc n) low = omega (arith, square-le m n (omega arith))

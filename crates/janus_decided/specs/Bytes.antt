@@ -7,14 +7,14 @@ use types.Run.{OneOf, miss}
 use Rattle.model.proofs.Phase.{the-type}
 use Rattle.model.specs.declared.Phase.{Phase}
 use Rattle.model.specs.declared.Phase.the-variants.{Idle, Waiting, Write, Scan, Adopt, Compare, Flag, CheckMark}
-use Rattle.model.specs.declared.Phase.the-variants.{CheckValue, Commit, Exhausted, Crashed, Decided}
+use Rattle.model.specs.declared.Phase.the-variants.{CheckValue, Commit, Exhausted, Crashed, Decided, HasCommitted, HasAdopted}
 use Rattle.model.specs.declared.Process.{Process}
 use Rattle.model.specs.Bytes.{bytes32}
 use Rattle.model.specs.Export.{decidedValue, decidedBytes}
 
--- A process in a phase with any other tag than the last has decided nothing.
+-- A process in a phase with any other tag than that of Decided, 12, has decided nothing.
 abbrev others : List ℕ
-others = 0 ∷ 1 ∷ 2 ∷ 3 ∷ 4 ∷ 5 ∷ 6 ∷ 7 ∷ 8 ∷ 9 ∷ 10 ∷ 11 ∷ []
+others = 0 ∷ 1 ∷ 2 ∷ 3 ∷ 4 ∷ 5 ∷ 6 ∷ 7 ∷ 8 ∷ 9 ∷ 10 ∷ 11 ∷ 13 ∷ 14 ∷ []
 
 pub undecided : (f : Phase) (e : ℕ) → OneOf others (tagOf the-type f) → 0 ≡ decidedValue f e
 undecided Idle e h = refl
@@ -30,6 +30,8 @@ undecided Commit e h = refl
 undecided Exhausted e h = refl
 undecided Crashed e h = refl
 undecided Decided e h = absurd (miss others 12 tt h)
+undecided HasCommitted e h = refl
+undecided HasAdopted e h = refl
 
 -- The four bytes of one process.
 abbrev pub own : Process → List ℕ

@@ -6,7 +6,7 @@ use lib.ListN.{length}
 use lib.Dec.{eqb}
 use Rattle.model.specs.declared.Phase.{Phase}
 use Rattle.model.specs.declared.Phase.the-variants.{Idle, Waiting, Write, Scan, Adopt, Compare, Flag, CheckMark}
-use Rattle.model.specs.declared.Phase.the-variants.{CheckValue, Commit, Exhausted, Crashed, Decided}
+use Rattle.model.specs.declared.Phase.the-variants.{CheckValue, Commit, Exhausted, Crashed, Decided, HasCommitted, HasAdopted}
 use Rattle.model.specs.declared.Process.{Process}
 use Rattle.model.specs.declared.Ending.{Ending}
 use Rattle.model.specs.declared.Ending.the-variants.{Finished, Refused, BudgetEnded, Rejected}
@@ -28,6 +28,8 @@ decidedValue Commit e = 0
 decidedValue Exhausted e = 0
 decidedValue Crashed e = 0
 decidedValue Decided e = e
+decidedValue HasCommitted e = 0
+decidedValue HasAdopted e = 0
 
 -- "For s from 0 to 63, bytes 4s to 4s + 3 hold seat s's decided value."
 abbrev pub decidedBytes : List Process → List ℕ

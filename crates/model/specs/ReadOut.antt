@@ -12,7 +12,7 @@ use Rattle.model.specs.declared.DecisionAnswer.{DecisionAnswer}
 use Rattle.model.specs.declared.CountAnswer.{CountAnswer}
 use Rattle.model.specs.Board.{valueAt, markAt, processAt, idle}
 use Rattle.model.specs.Refusal.{refusal}
-use Rattle.model.specs.Sound.{sound}
+use Rattle.model.specs.Sound.{soundAs, sound}
 
 -- ---- T[r] and C[r]: 3, 14
 
@@ -31,8 +31,12 @@ abbrev pub processAnswer : ℕ → Process → ProcessAnswer
 processAnswer zero q = record { code = 0; process = q }
 processAnswer (suc k) q = record { code = suc k; process = idle }
 
-unfoldable pub processRecord : Session → (p : ℕ) → ProcessAnswer
-processRecord s p = processAnswer (refusal ((not (sound s), 3) ∷ (leb (s .n) p, 4) ∷ [])) (processAt s p)
+-- Of a session and, 02, wish 6, of a poll: "Seats are read out as in sessions".
+unfoldable pub processRecordAs : (poll : Bool) → Session → (p : ℕ) → ProcessAnswer
+processRecordAs poll s p = processAnswer (refusal ((not (soundAs poll s), 3) ∷ (leb (s .n) p, 4) ∷ [])) (processAt s p)
+
+abbrev pub processRecord : Session → (p : ℕ) → ProcessAnswer
+processRecord s p = processRecordAs false s p
 
 -- ---- D: 3
 

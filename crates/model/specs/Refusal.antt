@@ -5,7 +5,7 @@ use mathlib.Core.List.{List, [], _∷_}
 use lib.Dec.{leb, eqb}
 use Rattle.model.specs.declared.Phase.{Phase}
 use Rattle.model.specs.declared.Phase.the-variants.{Idle, Waiting, Write, Scan, Adopt, Compare, Flag, CheckMark}
-use Rattle.model.specs.declared.Phase.the-variants.{CheckValue, Commit, Exhausted, Crashed, Decided}
+use Rattle.model.specs.declared.Phase.the-variants.{CheckValue, Commit, Exhausted, Crashed, Decided, HasCommitted, HasAdopted}
 use Rattle.model.specs.declared.Status.{Status}
 use Rattle.model.specs.declared.Status.the-variants.{Outside, Active, Spent, Gone}
 use Rattle.model.specs.declared.Session.{Session}
@@ -29,7 +29,7 @@ refusal (t ∷ ts) = cond (t .0) (t .1) (refusal ts)
 
 -- ---- the situations of a process
 
--- "Seat out"; working, "gate to commit"; "seat spent"; "seat crashed or decided".
+-- "Seat out"; working, "gate to commit"; "seat spent"; "seat crashed or decided". 02, wish 6: "a turn or crash of an answered seat gives 8".
 abbrev pub status : Phase → Status
 status Idle = Outside
 status Waiting = Active
@@ -44,6 +44,8 @@ status Commit = Active
 status Exhausted = Spent
 status Crashed = Gone
 status Decided = Gone
+status HasCommitted = Gone
+status HasAdopted = Gone
 
 abbrev pub isOutside : Status → Bool
 isOutside Outside = true

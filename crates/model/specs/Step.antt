@@ -7,7 +7,7 @@ use lib.ListN.{set}
 use lib.Dec.{leb, ltb, eqb}
 use Rattle.model.specs.declared.Phase.{Phase}
 use Rattle.model.specs.declared.Phase.the-variants.{Idle, Waiting, Write, Scan, Adopt, Compare, Flag, CheckMark}
-use Rattle.model.specs.declared.Phase.the-variants.{CheckValue, Commit, Exhausted, Crashed, Decided}
+use Rattle.model.specs.declared.Phase.the-variants.{CheckValue, Commit, Exhausted, Crashed, Decided, HasCommitted, HasAdopted}
 use Rattle.model.specs.declared.Access.{Access}
 use Rattle.model.specs.declared.Access.the-variants.{Nothing, ReadValue, WriteValue, ReadMark, SetMark}
 use Rattle.model.specs.declared.Access.the-variants.{ReadDecision, WriteDecision}
@@ -41,6 +41,8 @@ accessAt L r Commit leader = WriteDecision
 accessAt L r Exhausted leader = Nothing
 accessAt L r Crashed leader = Nothing
 accessAt L r Decided leader = Nothing
+accessAt L r HasCommitted leader = Nothing
+accessAt L r HasAdopted leader = Nothing
 
 unfoldable pub access : (limit : ℕ) → Process → (leader : Bool) → Access
 access L q leader = accessAt L (q .round) (q .phase) leader
@@ -96,10 +98,12 @@ nextAt W L r e (CheckMark i) leader x = process (cond (eqb x 0) (CheckValue i) W
 nextAt W L r e (CheckValue i) leader x = process (cond (eqb x e) (cond (ltb (i + 1) W) (CheckMark (i + 1)) Commit) Waiting) r e
 -- commit: "write the own value to D; gate."
 nextAt W L r e Commit leader x = process Waiting r e
--- spent, crashed and decided take no work turn (9, 8; 02, wish 5: "each later one 9 while the seat stays spent"): nothing changes
+-- spent, crashed, decided and answered take no turn (9, 8; 02, wish 5: "each later one 9 while the seat stays spent"): nothing changes
 nextAt W L r e Exhausted leader x = process Exhausted r e
 nextAt W L r e Crashed leader x = process Crashed r e
 nextAt W L r e Decided leader x = process Decided r e
+nextAt W L r e HasCommitted leader x = process HasCommitted r e
+nextAt W L r e HasAdopted leader x = process HasAdopted r e
 
 unfoldable pub next : (W L : ℕ) → Process → (leader : Bool) → ℕ → Process
 next W L q leader x = nextAt W L (q .round) (q .estimate) (q .phase) leader x

@@ -16,9 +16,12 @@ pub enum Phase {
     Exhausted, // spent: no round is left
     Crashed, // crashed
     Decided, // decided: its estimate is the decision that it read
+    HasCommitted, // of a poll alone (02, wish 6): its one pass is over, and its answer was committed, with its estimate
+    HasAdopted, // of a poll alone: its answer was adopted, with its estimate
 }
 
-// What the refusals know of a phase: not yet proposed (01: out), working (01: gate to commit), spent, crashed or decided.
+// What the refusals know of a phase: not yet proposed (01: out), working (01: gate to commit), spent, or gone: crashed, decided or
+// (02, wish 6) answered.
 pub enum Status {
     Outside,
     Active,

@@ -5,7 +5,7 @@ use mathlib.Core.List.{List, [], _∷_}
 use lib.Dec.{eqb}
 use Rattle.model.specs.declared.Phase.{Phase}
 use Rattle.model.specs.declared.Phase.the-variants.{Idle, Waiting, Write, Scan, Adopt, Compare, Flag, CheckMark}
-use Rattle.model.specs.declared.Phase.the-variants.{CheckValue, Commit, Exhausted, Crashed, Decided}
+use Rattle.model.specs.declared.Phase.the-variants.{CheckValue, Commit, Exhausted, Crashed, Decided, HasCommitted, HasAdopted}
 use Rattle.model.specs.declared.Operation.{Operation}
 use Rattle.model.specs.declared.Stepped.{Stepped}
 use Rattle.model.specs.Window.{window}
@@ -18,21 +18,21 @@ use Rattle.model.specs.Public.{withCounts}
 played : (n : ℕ) → Stepped → Operation → Stepped
 played n t o = perform (window n) (t .session) (t .counts) o
 
--- After operations one after another.
-playedAll : (n : ℕ) → Stepped → List Operation → Stepped
-unfolding played
-playedAll n t [] = t
-playedAll n t (o ∷ os) = playedAll n (played n t o) os
+-- After operations one after another, by what each of them does. (Those of polls too: `model_poll_cases`.)
+abbrev pub playedAll : {S O : Type 0} → (S → O → S) → S → List O → S
+playedAll does t [] = t
+playedAll does t (o ∷ os) = playedAll does (does t o) os
 
 -- Opened with n processes and round limit L, and an empty tally.
 play : (n L : ℕ) → List Operation → Stepped
-unfolding playedAll
-play n L os = playedAll n (withCounts (opening n L) noCounts) os
+unfolding played
+play n L os = playedAll (played n) (withCounts (opening n L) noCounts) os
 
 -- What a case says of the state after it.
 pub data Shows : Type 0 where
   answers : (code : ℕ) → Shows
   hasWindow : (W : ℕ) → Shows
+  hasLimit : (L : ℕ) → Shows
   register : (r v : ℕ) → Shows
   marked : (r : ℕ) → Shows
   decision : (v : ℕ) → Shows
@@ -57,6 +57,8 @@ phaseEq φ ψ = eqb (kind φ) (kind ψ) && eqb (place φ) (place ψ)
     kind Exhausted = 10
     kind Crashed = 11
     kind Decided = 12
+    kind HasCommitted = 13
+    kind HasAdopted = 14
 
     place : Phase → ℕ
     place Idle = 0
@@ -72,11 +74,14 @@ phaseEq φ ψ = eqb (kind φ) (kind ψ) && eqb (place φ) (place ψ)
     place Exhausted = 0
     place Crashed = 0
     place Decided = 0
+    place HasCommitted = 0
+    place HasAdopted = 0
 
-shown : Stepped → Shows → Bool
+unfoldable pub shown : Stepped → Shows → Bool
 unfolding phaseEq
 shown t (answers k) = eqb (t .code) k
 shown t (hasWindow W) = eqb (window (t .session .n)) W
+shown t (hasLimit L) = eqb (t .session .limit) L
 shown t (register r v) = eqb (valueAt (t .session) r) v
 shown t (marked r) = markAt (t .session) r
 shown t (decision v) = eqb (t .session .decision) v
@@ -96,6 +101,6 @@ unfoldable pub holds : Case → Bool
 unfolding play shown
 holds c = let t = play (c .n) (c .limit) (c .operations) in every (shown t) (c .shows)
 
-abbrev pub repeat : ℕ → Operation → List Operation
+abbrev pub repeat : {O : Type 0} → ℕ → O → List O
 repeat zero o = []
 repeat (suc k) o = o ∷ repeat k o

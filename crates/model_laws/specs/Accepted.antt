@@ -16,7 +16,7 @@ Without k [] = Unit {0}
 Without k (t ∷ ts) = (t .1 ≡ k → ⊥) × Without k ts
 
 -- A number that no test has is 0, and no test holds.
-returned : (k : ℕ) (ts : List Test) → Without k ts → refusal ts ≡ k → (0 ≡ k) × NoneHolds ts
+pub returned : (k : ℕ) (ts : List Test) → Without k ts → refusal ts ≡ k → (0 ≡ k) × NoneHolds ts
 returned k [] other = λ e. (e, tt)
 returned k (t ∷ ts) other =
     cond-cases (λ n. n ≡ k → (0 ≡ k) × NoneHolds (t ∷ ts)) (t .0)

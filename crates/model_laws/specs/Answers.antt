@@ -6,15 +6,18 @@ use Rattle.model.specs.Window.{window}
 use Rattle.model.specs.Step.{counted, turn, stored, found, learnt, process}
 use Rattle.model.specs.Refusal.{Test, refusal, isMalformed, processOf, ownTests, tests, stepped, full}
 use Rattle.model.specs.Machine.{accessOf, becomes, after, countsAfter, answered, perform}
-use Rattle.model.specs.Public.{operate, propose, crash, withCounts, withoutCounts}
-use Rattle.model.specs.Sound.{sound}
+use Rattle.model.specs.Public.{operateAs, proposeAs, crashAs, withCounts, withoutCounts}
+use Rattle.model.specs.Sound.{soundAs}
 use Rattle.base.specs.Bools.{cond-same}
 use Rattle.model_laws.specs.Accepted.{NoneHolds, Accepted, accepted}
 use Rattle.model_laws.specs.Sounds.{sound-few}
 
--- The number of the first refusal of a public operation.
+-- The number of the first refusal of a public operation, on a session or (poll true) on a poll.
+abbrev pub codeAs : (poll : Bool) → Session → Counts → Operation → ℕ
+codeAs poll s c o = refusal ((not (soundAs poll s), 3) ∷ tests s c o)
+
 abbrev pub codeOf : Session → Counts → Operation → ℕ
-codeOf s c o = refusal ((not (sound s), 3) ∷ tests s c o)
+codeOf s c o = codeAs false s c o
 
 -- ---- refused and accepted
 
@@ -42,25 +45,25 @@ stepped-counts (suc m) s t c d = refl
 
 -- ---- the public operations
 
--- A sound session is answered as the machine answers.
-pub operate-sound : (s : Session) (c : Counts) (o : Operation) → sound s ≡ true → operate s c o ≡ perform (window (s .n)) s c o
-unfolding operate perform answered
-operate-sound s c o ok = rw ok
+-- A sound session, or poll, is answered as the machine answers.
+pub operate-sound : (poll : Bool) (s : Session) (c : Counts) (o : Operation) → soundAs poll s ≡ true → operateAs poll s c o ≡ perform (window (s .n)) s c o
+unfolding operateAs perform answered
+operate-sound poll s c o ok = rw ok
 
 -- A proposal and a crash leave any counts.
-pub propose-counts : (s : Session) (c : Counts) (p v : ℕ) → withCounts (propose s p v) c ≡ operate s c (Propose p v)
-unfolding propose operate answered countsAfter accessOf counted
-propose-counts s c p v = stepped-counts (codeOf s c (Propose p v)) s (after (window (s .n)) s (Propose p v)) noCounts c
+pub propose-counts : (poll : Bool) (s : Session) (c : Counts) (p v : ℕ) → withCounts (proposeAs poll s p v) c ≡ operateAs poll s c (Propose p v)
+unfolding proposeAs operateAs answered countsAfter accessOf counted
+propose-counts poll s c p v = stepped-counts (codeAs poll s c (Propose p v)) s (after (window (s .n)) s (Propose p v)) noCounts c
 
-pub crash-counts : (s : Session) (c : Counts) (p : ℕ) → withCounts (crash s p) c ≡ operate s c (Crash p)
-unfolding crash operate answered countsAfter accessOf counted
-crash-counts s c p = stepped-counts (codeOf s c (Crash p)) s (after (window (s .n)) s (Crash p)) noCounts c
+pub crash-counts : (poll : Bool) (s : Session) (c : Counts) (p : ℕ) → withCounts (crashAs poll s p) c ≡ operateAs poll s c (Crash p)
+unfolding crashAs operateAs answered countsAfter accessOf counted
+crash-counts poll s c p = stepped-counts (codeAs poll s c (Crash p)) s (after (window (s .n)) s (Crash p)) noCounts c
 
 -- What an accepted operation knows.
-pub admitted : (s : Session) (c : Counts) (o : Operation) → codeOf s c o ≡ 0 → (sound s ≡ true) × Accepted s c o
-admitted s c o e = go (sound s) refl e
+pub admitted : (poll : Bool) (s : Session) (c : Counts) (o : Operation) → codeAs poll s c o ≡ 0 → (soundAs poll s ≡ true) × Accepted s c o
+admitted poll s c o e = go (soundAs poll s) refl e
   where
-    go : (b : Bool) → sound s ≡ b → cond (not b) 3 (refusal (tests s c o)) ≡ 0 → (sound s ≡ true) × Accepted s c o
+    go : (b : Bool) → soundAs poll s ≡ b → cond (not b) 3 (refusal (tests s c o)) ≡ 0 → (soundAs poll s ≡ true) × Accepted s c o
     go true eb e′ = (eb, accepted s c o e′)
     go false eb e′ = absurd (omega arith)
 
@@ -75,59 +78,59 @@ accepted-counts L q x c (Crash p) own = cond-same (full c) c
 accepted-counts L q x c Malformed own = cond-same (full c) c
 
 -- A sound session has few processes, so that the index at which the code reads one is its number.
-pub index-is : (s : Session) (p : ℕ) → sound s ≡ true → p < s .n → p % 64 ≡ p
-index-is s p t below = omega (arith, sound-few s t)
+pub index-is : (poll : Bool) (s : Session) (p : ℕ) → soundAs poll s ≡ true → p < s .n → p % 64 ≡ p
+index-is poll s p t below = omega (arith, sound-few poll s t)
 
 -- The number of a call on process p, by its own tests on the record that the code reads.
-pub first-is : (s : Session) (p : ℕ) (tests : Phase → List Test) {b : Bool} {own k : ℕ} → b ≡ sound s →
+pub first-is : (poll : Bool) (s : Session) (p : ℕ) (tests : Phase → List Test) {b : Bool} {own k : ℕ} → b ≡ soundAs poll s →
     own ≡ refusal (tests (processAt s (p % 64) .phase)) →
     k ≡ cond (not b) 3 (cond (leb (s .n) p) 4 own) →
-    k ≡ refusal ((not (sound s), 3) ∷ (leb (s .n) p, 4) ∷ tests (processAt s p .phase))
-first-is s p tests eb eo ek = ek ∙ rw (eb, eo) (go (sound s) (leb (s .n) p) refl refl)
+    k ≡ refusal ((not (soundAs poll s), 3) ∷ (leb (s .n) p, 4) ∷ tests (processAt s p .phase))
+first-is poll s p tests eb eo ek = ek ∙ rw (eb, eo) (go (soundAs poll s) (leb (s .n) p) refl refl)
   where
-    go : (b t : Bool) → sound s ≡ b → leb (s .n) p ≡ t →
+    go : (b t : Bool) → soundAs poll s ≡ b → leb (s .n) p ≡ t →
         cond (not b) 3 (cond t 4 (refusal (tests (processAt s (p % 64) .phase))))
         ≡ cond (not b) 3 (cond t 4 (refusal (tests (processAt s p .phase))))
     go true true eb et = refl
-    go true false eb et = rw (index-is s p eb (leb-false (s .n) p et))
+    go true false eb et = rw (index-is poll s p eb (leb-false (s .n) p et))
     go false t eb et = refl
 
-module _ (s : Session) (c : Counts) (o : Operation) where
+module _ (poll : Bool) (s : Session) (c : Counts) (o : Operation) where
   -- The number, with the own tests made on the record that the code reads.
-  pub code-is : {b : Bool} {own k : ℕ} → isMalformed o ≡ false → b ≡ sound s →
+  pub code-is : {b : Bool} {own k : ℕ} → isMalformed o ≡ false → b ≡ soundAs poll s →
       own ≡ refusal (ownTests (processAt s (processOf o % 64) .phase) c o) →
       k ≡ cond (not b) 3 (cond (leb (s .n) (processOf o)) 4 own) →
-      k ≡ codeOf s c o
-  code-is formed eb eo ek = first-is s (processOf o) (λ φ. ownTests φ c o) eb eo ek ∙ rw formed
+      k ≡ codeAs poll s c o
+  code-is formed eb eo ek = first-is poll s (processOf o) (λ φ. ownTests φ c o) eb eo ek ∙ rw formed
 
-  module _ {k : ℕ} (code : k ≡ codeOf s c o) where
-    pub operate-refused : (k ≡ 0 → ⊥) → record { code = k; session = s; counts = c } ≡ operate s c o
-    unfolding operate answered
+  module _ {k : ℕ} (code : k ≡ codeAs poll s c o) where
+    pub operate-refused : (k ≡ 0 → ⊥) → record { code = k; session = s; counts = c } ≡ operateAs poll s c o
+    unfolding operateAs answered
     operate-refused some = stepped-refused _ _ code some
 
     module _ (none : k ≡ 0) where
       -- What the accepted operation knows.
-      pub known : (sound s ≡ true) × Accepted s c o
-      known = admitted s c o (sym code ∙ none)
+      pub known : (soundAs poll s ≡ true) × Accepted s c o
+      known = admitted poll s c o (sym code ∙ none)
 
       pub index-of : processOf o % 64 ≡ processOf o
-      index-of = index-is s (processOf o) (known .0) (known .1 .below)
+      index-of = index-is poll s (processOf o) (known .0) (known .1 .below)
 
       -- The session and the counts that the code leaves.
       pub operate-accepted : {t : Session} {d : Counts} → t ≡ after (window (s .n)) s o →
           d ≡ cond (full c) c (countsAfter s c o) →
-          record { code = k; session = t; counts = d } ≡ operate s c o
-      unfolding operate answered countsAfter
+          record { code = k; session = t; counts = d } ≡ operateAs poll s c o
+      unfolding operateAs answered countsAfter
       operate-accepted et ed = stepped-accepted s c code none et (ed ∙ accepted-counts (s .limit) _ _ c o (known .1 .own))
 
 -- The same of an operation that is lent no counts.
-module _ (s : Session) (o : Operation) {k : ℕ} (code : k ≡ codeOf s noCounts o) where
-  pub uncounted-refused : (k ≡ 0 → ⊥) → record { code = k; session = s } ≡ withoutCounts (operate s noCounts o)
-  uncounted-refused some = ap withoutCounts (operate-refused s noCounts o code some)
+module _ (poll : Bool) (s : Session) (o : Operation) {k : ℕ} (code : k ≡ codeAs poll s noCounts o) where
+  pub uncounted-refused : (k ≡ 0 → ⊥) → record { code = k; session = s } ≡ withoutCounts (operateAs poll s noCounts o)
+  uncounted-refused some = ap withoutCounts (operate-refused poll s noCounts o code some)
 
   pub uncounted-accepted : k ≡ 0 → {t : Session} → t ≡ after (window (s .n)) s o →
-      record { code = k; session = t } ≡ withoutCounts (operate s noCounts o)
-  uncounted-accepted none et = ap withoutCounts (operate-accepted s noCounts o code none et refl)
+      record { code = k; session = t } ≡ withoutCounts (operateAs poll s noCounts o)
+  uncounted-accepted none et = ap withoutCounts (operate-accepted poll s noCounts o code none et refl)
 
 -- ---- what an accepted operation that writes no register leaves
 

@@ -1,6 +1,6 @@
 -- A step of a sound process leaves a sound process.
 use Rattle.base.specs.Prelude.{ℕ, _+_, _-_, min, _≤_, _<_, arith, _≡_, refl, Bool, true, false, leb, ltb, eqb, leb-true, ltb-true, ltb-false, eqb-false, lt-ltb}
-use Rattle.model_laws.specs.Types.{Phase, Idle, Waiting, Write, Scan, Adopt, Compare, Flag, CheckMark, CheckValue, Commit, Exhausted, Crashed, Decided, Process}
+use Rattle.model_laws.specs.Types.{Phase, Idle, Waiting, Write, Scan, Adopt, Compare, Flag, CheckMark, CheckValue, Commit, Exhausted, Crashed, Decided, HasCommitted, HasAdopted, Process}
 use Rattle.model.specs.Step.{goOn, nextAt, next, learnt, process}
 use Rattle.model.specs.Refusal.{status, isOutside}
 use Rattle.model.specs.Sound.{soundProcess}
@@ -84,6 +84,8 @@ module _ (W L : ℕ) where
     next-placed Exhausted leader x o some f = placed-sound _ r e refl (omega known)
     next-placed Crashed leader x o some f = placed-sound _ r e refl (omega known)
     next-placed Decided leader x o some f = placed-sound _ r e refl (omega known)
+    next-placed HasCommitted leader x o some f = absurd f
+    next-placed HasAdopted leader x o some f = absurd f
 
   -- A work turn of a sound process that has proposed.
   pub next-sound : 1 ≤ W → (q : Process) (leader : Bool) (x : ℕ) → isOutside (status (q .phase)) ≡ false →

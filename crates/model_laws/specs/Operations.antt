@@ -1,19 +1,19 @@
 -- Each accepted operation of the machine leaves a sound session, and so does each operation, accepted or refused.
-use Rattle.base.specs.Prelude.{ℕ, suc, zero, _≤_, _<_, arith, _≡_, refl, true, _&&_, leb, not-false, leb-true, eqb-false}
+use Rattle.base.specs.Prelude.{ℕ, suc, zero, _≤_, _<_, arith, _≡_, refl, Bool, true, false, _&&_, leb, not-false, leb-true, eqb-false}
 use Rattle.model_laws.specs.Types.{Access, Nothing, ReadValue, WriteValue, ReadMark, SetMark, ReadDecision, WriteDecision, Process, Session, Counts, Limits, Waiting, Crashed, Operation, Propose, Step, Learn, Crash, Malformed}
 use Rattle.model.specs.Window.{window}
 use Rattle.model.specs.Board.{processAt, opened, maxProcesses, maxRounds}
 use Rattle.model.specs.Step.{access, stored, turn, found}
 use Rattle.model.specs.Refusal.{refusal, stepped, openTests, ownTests, processOf, tests}
 use Rattle.model.specs.Machine.{accessOf, becomes, after, countsAfter, answered, perform}
-use Rattle.model.specs.Sound.{soundAt, soundProcess}
+use Rattle.model.specs.Sound.{soundAt, soundProcess, pollRegisters, soundAtAs, soundProcessAs}
 use Rattle.base.specs.Bools.{and-left, and-right}
 use Rattle.model_laws.specs.Every.{every-replicate, every-drop}
 use Rattle.model_laws.specs.Accepted.{NoneHolds, none-holds, Accepted, accepted}
 use Rattle.model_laws.specs.Phases.{process-facts, inside-some}
 use Rattle.model_laws.specs.Ranges.{InRange, access-range}
 use Rattle.model_laws.specs.Keeps.{next-sound, learnt-sound, placed-sound}
-use Rattle.model_laws.specs.Sounds.{sound-facts, facts-sound, idle-sound, sound-process, set-sound, stored-sound}
+use Rattle.model_laws.specs.Sounds.{sound-facts, facts-sound, idle-sound, sound-process, set-sound, stored-sound, session-only}
 
 -- What a write leaves: n, the limit and the processes.
 pub record Same (s t : Session) : Type 0 where
@@ -32,18 +32,20 @@ stored-same s ReadDecision e = record { n = refl; limit = refl; processes = refl
 stored-same s WriteDecision e = record { n = refl; limit = refl; processes = refl }
 
 -- A turn that accesses a register 1 to L and makes a sound process of one of the n.
-pub turn-sound : (W : ℕ) (s : Session) (p : ℕ) (a : Access) (becomes : ℕ → Process) → soundAt W s ≡ true → p < s .n →
-    InRange (s .limit) a → soundProcess W (s .limit) (becomes (found s a)) ≡ true → soundAt W (turn s p a becomes) ≡ true
+-- A poll's D must stay blank.
+pub turn-sound : (poll : Bool) (W : ℕ) (s : Session) (p : ℕ) (a : Access) (becomes : ℕ → Process) → soundAtAs poll W s ≡ true → p < s .n →
+    InRange (s .limit) a → pollRegisters poll W (stored s a (processAt s p .estimate)) ≡ true →
+    soundProcessAs poll W (s .limit) (becomes (found s a)) ≡ true → soundAtAs poll W (turn s p a becomes) ≡ true
 unfolding turn
-turn-sound W s p a becomes t low ok one =
+turn-sound poll W s p a becomes t low ok only one =
     let e = processAt s p .estimate in
-    facts-sound W _
-    (set-sound W (stored s a e) p (becomes (found s a)) (stored-sound W s a e ok (sound-facts W s t))
+    facts-sound poll W _
+    (set-sound poll W (stored s a e) p (becomes (found s a)) (stored-sound poll W s a e ok only (sound-facts poll W s t))
     (rw (stored-same s a e .n) low)
     (rw (stored-same s a e .limit) one))
 
 -- The register operation of a sound process is on registers 1 to L, and so on registers 1 to M, where L is at most M.
-operation-reach : (W L M : ℕ) (q : Process) (o : Operation) → L ≤ M → soundProcess W L q ≡ true → InRange M (accessOf L q o)
+pub operation-reach : (W L M : ℕ) (q : Process) (o : Operation) → L ≤ M → soundProcess W L q ≡ true → InRange M (accessOf L q o)
 unfolding accessOf access
 operation-reach W L M q (Propose p v) low t = tt
 operation-reach W L M q (Step p leader) low t =
@@ -77,18 +79,18 @@ module _ (W : ℕ) (s : Session) (o : Operation) where
   module _ (t : soundAt W s ≡ true) where
     -- The register operation of any operation is on registers 1 to L, and so on the arrays' registers.
     pub access-in-range : InRange (s .limit) (accessOf (s .limit) (processAt s (processOf o)) o)
-    access-in-range = operation-range W (s .limit) _ o (sound-process W s (processOf o) t)
+    access-in-range = operation-range W (s .limit) _ o (sound-process false W s (processOf o) t)
 
     pub access-in-arrays : InRange maxRounds (accessOf (s .limit) (processAt s (processOf o)) o)
-    access-in-arrays = operation-reach W (s .limit) maxRounds _ o (sound-facts W s t .low) (sound-process W s (processOf o) t)
+    access-in-arrays = operation-reach W (s .limit) maxRounds _ o (sound-facts false W s t .low) (sound-process false W s (processOf o) t)
 
 module _ (W : ℕ) (wide : 1 ≤ W) (s : Session) (c : Counts) (o : Operation) (t : soundAt W s ≡ true) where
   -- An accepted operation leaves a sound session.
   pub after-sound : Accepted s c o → soundAt W (after W s o) ≡ true
   unfolding after
   after-sound a =
-      turn-sound W s (processOf o) _ _ t (a .below) (access-in-range W s o t)
-      (becomes-sound W (s .limit) _ c o _ wide (sound-process W s (processOf o) t) (a .own))
+      turn-sound false W s (processOf o) _ _ t (a .below) (access-in-range W s o t) (session-only W _)
+      (becomes-sound W (s .limit) _ c o _ wide (sound-process false W s (processOf o) t) (a .own))
 
   -- And so does each operation, accepted or refused.
   pub perform-sound : soundAt W (perform W s c o .session) ≡ true
@@ -102,7 +104,7 @@ module _ (W : ℕ) (wide : 1 ≤ W) (s : Session) (c : Counts) (o : Operation) (
 -- A session just opened, with n and L as an opening accepts them.
 pub opened-sound : (W n L : ℕ) → 1 ≤ n → n ≤ maxProcesses → W ≤ L → L ≤ maxRounds → soundAt W (opened n L) ≡ true
 unfolding opened
-opened-sound W n L some few wide low = facts-sound W _ (search (every-drop, every-replicate, idle-sound))
+opened-sound W n L some few wide low = facts-sound false W _ (search (every-drop, every-replicate, idle-sound, session-only))
 
 -- What an accepted opening within limits knows.
 pub open-accepted : (most : Limits) (n L : ℕ) → refusal (openTests most n L) ≡ 0 →

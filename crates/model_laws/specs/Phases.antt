@@ -1,8 +1,10 @@
 -- What soundness says of a process, phase by phase, as facts.
 use Rattle.base.specs.Prelude.{ℕ, min, _≤_, _<_, _≡_, refl, sym, true, false, true≢false, cond, ltb, eqb, leb-true, ltb-true, eqb-true, le-leb, lt-ltb, eq-eqb}
-use Rattle.model_laws.specs.Types.{Phase, Idle, Waiting, Write, Scan, Adopt, Compare, Flag, CheckMark, CheckValue, Commit, Exhausted, Crashed, Decided, Process}
-use Rattle.model.specs.Refusal.{status, isOutside}
-use Rattle.model.specs.Sound.{soundPhase, soundProcess}
+use Rattle.model_laws.specs.Types.{Phase, Idle, Waiting, Write, Scan, Adopt, Compare, Flag, CheckMark, CheckValue, Commit, Exhausted, Crashed, Decided, HasCommitted, HasAdopted, Process}
+use Rattle.model.specs.declared.Status.{Status}
+use Rattle.model.specs.declared.Status.the-variants.{Outside, Active, Spent, Gone}
+use Rattle.model.specs.Refusal.{status, isOutside, isGone}
+use Rattle.model.specs.Sound.{soundPhaseAs, soundPhase, soundProcessAs, soundProcess}
 use Rattle.base.specs.Bools.{and-left, and-right, and-both}
 
 abbrev pub PhaseSound : (W L r : ℕ) → Phase → Type 0
@@ -19,6 +21,8 @@ PhaseSound W L r Commit = W ≤ r
 PhaseSound W L r Exhausted = r ≡ L
 PhaseSound W L r Crashed = Unit {0}
 PhaseSound W L r Decided = Unit {0}
+PhaseSound W L r HasCommitted = ⊥
+PhaseSound W L r HasAdopted = ⊥
 
 -- From a test to the fact that it tests, and the other way round.
 ruleset facts = (and-left, and-right, leb-true, ltb-true, eqb-true)
@@ -27,7 +31,7 @@ ruleset tests = (and-both, le-leb, lt-ltb, eq-eqb)
 
 -- The tests say so, and the other way round.
 phase-iff : (W L r : ℕ) (φ : Phase) → (soundPhase W L r φ ≡ true → PhaseSound W L r φ) × (PhaseSound W L r φ → soundPhase W L r φ ≡ true)
-unfolding soundPhase
+unfolding soundPhaseAs
 phase-iff W L r Idle = (λ t. search facts, λ f. search tests)
 phase-iff W L r Waiting = (λ t. tt, λ f. refl)
 phase-iff W L r Write = (λ t. search facts, λ f. search tests)
@@ -41,6 +45,8 @@ phase-iff W L r Commit = (λ t. search facts, λ f. search tests)
 phase-iff W L r Exhausted = (λ t. search facts, λ f. search tests)
 phase-iff W L r Crashed = (λ t. tt, λ f. refl)
 phase-iff W L r Decided = (λ t. tt, λ f. refl)
+phase-iff W L r HasCommitted = (λ t. absurd (true≢false (sym t)), λ f. absurd f)
+phase-iff W L r HasAdopted = (λ t. absurd (true≢false (sym t)), λ f. absurd f)
 
 -- A sound process: its estimate's clause, its round and its phase.
 pub record ProcessSound (W L r e : ℕ) (φ : Phase) : Type 0 where
@@ -49,11 +55,11 @@ pub record ProcessSound (W L r e : ℕ) (φ : Phase) : Type 0 where
   pub phase : PhaseSound W L r φ
 
 pub process-facts : (W L : ℕ) (q : Process) → soundProcess W L q ≡ true → ProcessSound W L (q .round) (q .estimate) (q .phase)
-unfolding soundProcess
+unfolding soundProcessAs
 process-facts W L q t = search (facts, phase-iff W L (q .round) (q .phase) .0)
 
 pub facts-process : (W L : ℕ) (q : Process) → ProcessSound W L (q .round) (q .estimate) (q .phase) → soundProcess W L q ≡ true
-unfolding soundProcess
+unfolding soundProcessAs
 facts-process W L q f = search (tests, phase-iff W L (q .round) (q .phase) .1)
 
 -- A process that has proposed has an estimate above 0.
@@ -75,3 +81,12 @@ outside-start W L r Commit o ok = absurd (true≢false (sym o))
 outside-start W L r Exhausted o ok = absurd (true≢false (sym o))
 outside-start W L r Crashed o ok = absurd (true≢false (sym o))
 outside-start W L r Decided o ok = absurd (true≢false (sym o))
+outside-start W L r HasCommitted o ok = absurd (true≢false (sym o))
+outside-start W L r HasAdopted o ok = absurd (true≢false (sym o))
+
+-- It is not gone.
+pub outside-here : (σ : Status) → isOutside σ ≡ true → isGone σ ≡ false
+outside-here Outside o = refl
+outside-here Active o = absurd (true≢false (sym o))
+outside-here Spent o = absurd (true≢false (sym o))
+outside-here Gone o = absurd (true≢false (sym o))

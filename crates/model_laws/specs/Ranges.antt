@@ -1,6 +1,6 @@
 -- A sound process accesses no register outside 1 to L.
 use Rattle.base.specs.Prelude.{ℕ, _≤_, arith, Bool}
-use Rattle.model_laws.specs.Types.{Phase, Idle, Waiting, Write, Scan, Adopt, Compare, Flag, CheckMark, CheckValue, Commit, Exhausted, Crashed, Decided, Access, Nothing, ReadValue, WriteValue, ReadMark, SetMark, ReadDecision, WriteDecision}
+use Rattle.model_laws.specs.Types.{Phase, Idle, Waiting, Write, Scan, Adopt, Compare, Flag, CheckMark, CheckValue, Commit, Exhausted, Crashed, Decided, HasCommitted, HasAdopted, Access, Nothing, ReadValue, WriteValue, ReadMark, SetMark, ReadDecision, WriteDecision}
 use Rattle.model.specs.Step.{accessAt}
 use Rattle.model_laws.specs.Phases.{PhaseSound}
 use Rattle.model_laws.specs.WaitingRules.{waiting-cases}
@@ -31,3 +31,5 @@ access-range W L M r Commit leader low few f = tt
 access-range W L M r Exhausted leader low few f = tt
 access-range W L M r Crashed leader low few f = tt
 access-range W L M r Decided leader low few f = tt
+access-range W L M r HasCommitted leader low few f = tt
+access-range W L M r HasAdopted leader low few f = tt

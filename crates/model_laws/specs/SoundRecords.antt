@@ -2,7 +2,7 @@
 use Rattle.base.specs.Prelude.{ℕ, min, _≡_, refl, sym, ap, _∙_, Bool, true, false, _&&_, _||_, and-assoc, and-true, or-false, or-true, arith, ltb-true, ltb-false, lt-ltb, le-ltb, leb, ltb, eqb}
 use Rattle.model_laws.specs.Types.{Phase, Idle, Process}
 use Rattle.model.specs.Refusal.{status, isOutside}
-use Rattle.model.specs.Sound.{soundPhase, soundProcess}
+use Rattle.model.specs.Sound.{soundPhaseAs, soundProcessAs}
 
 -- The clause of compare and flag: below both of two numbers is below the smaller.
 pub near : (i r W : ℕ) → (leb 1 r && ltb i r && ltb i W) ≡ (leb 1 r && ltb i (min r W))
@@ -14,13 +14,13 @@ near i r W = rw and-assoc (ap (λ b. leb 1 r && b) (by (ltb i r) (ltb i W) refl 
     by false y p q = sym (le-ltb i (min r W) (omega (arith, ltb-false i r p)))
 
 -- The test of the record, by its phase and the clause that the phase has.
-module _ (W L : ℕ) (member : Bool) (q : Process) where
+module _ (poll : Bool) (W L : ℕ) (member : Bool) (q : Process) where
   abbrev pub Tested : Bool
-  Tested = (member || isOutside (status (q .phase))) && soundProcess W L q
+  Tested = (member || isOutside (status (q .phase))) && soundProcessAs poll W L q
 
   -- A process that has not proposed.
   pub out : {b : Bool} → q .phase ≡ Idle → b ≡ (eqb (q .estimate) 0 && leb (q .round) L && eqb (q .round) 0) → b ≡ Tested
-  unfolding soundProcess soundPhase
+  unfolding soundProcessAs soundPhaseAs
   out told p = rw (told, or-true member) p
 
   -- Any other, by the number of tests that the clause of its phase has.
@@ -29,10 +29,10 @@ module _ (W L : ℕ) (member : Bool) (q : Process) where
     held = member && ltb 0 (q .estimate) && leb (q .round) L
 
     abbrev pub clause : Bool
-    clause = soundPhase W L (q .round) φ
+    clause = soundPhaseAs poll W L (q .round) φ
 
     pub one : {a : Bool} → a ≡ clause → (held && a) ≡ Tested
-    unfolding soundProcess
+    unfolding soundProcessAs
     one p = rw (told, ins, p) (simp (or-false, and-assoc))
 
     pub free : true ≡ clause → held ≡ Tested

@@ -11,7 +11,7 @@ pub use Rattle.model.specs.declared.Limits.{Limits}
 pub use Rattle.model.specs.declared.Operation.{Operation}
 pub use Rattle.model.specs.declared.Operation.the-variants.{Crash, Learn, Malformed, Propose, Step}
 pub use Rattle.model.specs.declared.Phase.{Phase}
-pub use Rattle.model.specs.declared.Phase.the-variants.{Adopt, CheckMark, CheckValue, Commit, Compare, Crashed, Decided, Exhausted, Flag, Idle, Scan, Waiting, Write}
+pub use Rattle.model.specs.declared.Phase.the-variants.{Adopt, HasAdopted, CheckMark, CheckValue, Commit, HasCommitted, Compare, Crashed, Decided, Exhausted, Flag, Idle, Scan, Waiting, Write}
 pub use Rattle.model.specs.declared.Process.{Process}
 pub use Rattle.model.specs.declared.ProcessAnswer.{ProcessAnswer}
 pub use Rattle.model.specs.declared.Ran.{Ran}

@@ -29,3 +29,15 @@ window-least n some = go (rootUp n) (root-square n)
     go : (k : ℕ) → n ≤ k * k → 2 ≤ 2 * k + 1
     go zero h = absurd (omega arith)
     go (suc k) h = omega arith
+
+-- The number found is at most the last number tried.
+root-from-low : (fuel m n : ℕ) → rootFrom fuel m n ≤ m + fuel
+unfolding rootFrom
+root-from-low zero m n = omega arith
+root-from-low (suc fuel) m n =
+    cond-cases (λ k. k ≤ m + suc fuel) (leb n (m * m)) (λ t. omega arith) (λ t. omega (arith, root-from-low fuel (suc m) n))
+
+-- The window is at most twice the number of processes and one: no more than the rounds that a session holds.
+pub window-low : (n : ℕ) → window n ≤ 2 * n + 1
+unfolding window rootUp
+window-low n = omega (arith, root-from-low n 0 n)

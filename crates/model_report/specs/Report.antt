@@ -9,7 +9,7 @@ use lib.ListN.{take}
 use lib.Dec.{ltb}
 use Rattle.model.specs.declared.Phase.{Phase}
 use Rattle.model.specs.declared.Phase.the-variants.{Idle, Waiting, Write, Scan, Adopt, Compare, Flag, CheckMark}
-use Rattle.model.specs.declared.Phase.the-variants.{CheckValue, Commit, Exhausted, Crashed, Decided}
+use Rattle.model.specs.declared.Phase.the-variants.{CheckValue, Commit, Exhausted, Crashed, Decided, HasCommitted, HasAdopted}
 use Rattle.model.specs.declared.Process.{Process}
 use Rattle.model.specs.declared.Session.{Session}
 use Rattle.model.specs.declared.Counts.{Counts}
@@ -79,6 +79,9 @@ statusWords Commit r e = bytes " working" ++ field r ++ field e
 statusWords Exhausted r e = bytes " spent" ++ field e
 statusWords Crashed r e = bytes " crashed"
 statusWords Decided r e = bytes " decided" ++ field e
+-- answered: no session has such a seat (`Sound`), and a poll has no sheet, so no report has this line
+statusWords HasCommitted r e = bytes " working" ++ field r ++ field e
+statusWords HasAdopted r e = bytes " working" ++ field r ++ field e
 
 -- "Seats 0 to n - 1 follow, each as "seat", its number and one of" the words above.
 abbrev pub seatLine : (p : ℕ) → Process → List ℕ

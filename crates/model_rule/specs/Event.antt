@@ -4,7 +4,7 @@ use Prim.Native.Nat.{ℕ, suc, zero, _-_}
 use mathlib.Core.List.{List, [], _∷_}
 use Rattle.model.specs.declared.Phase.{Phase}
 use Rattle.model.specs.declared.Phase.the-variants.{Idle, Waiting, Write, Scan, Adopt, Compare, Flag, CheckMark}
-use Rattle.model.specs.declared.Phase.the-variants.{CheckValue, Commit, Exhausted, Crashed, Decided}
+use Rattle.model.specs.declared.Phase.the-variants.{CheckValue, Commit, Exhausted, Crashed, Decided, HasCommitted, HasAdopted}
 use Rattle.model.specs.declared.Process.{Process}
 use Rattle.model.specs.declared.Operation.{Operation}
 use Rattle.model.specs.declared.Operation.the-variants.{Propose, Step, Learn, Crash, Malformed}
@@ -34,6 +34,8 @@ stepEvents p r v Commit = commit r v ∷ []
 stepEvents p r v Exhausted = []
 stepEvents p r v Crashed = []
 stepEvents p r v Decided = []
+stepEvents p r v HasCommitted = []
+stepEvents p r v HasAdopted = []
 
 -- "Decided: a seat whose accepted look found D filled; it holds the number read."
 abbrev pub lookEvents : (p : ℕ) → (found : ℕ) → List Event

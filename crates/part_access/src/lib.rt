@@ -46,5 +46,7 @@ pub fn access(limit: usize, q: Process, leader: bool) -> Access
         Phase::Exhausted => Access::Nothing,
         Phase::Crashed => Access::Nothing,
         Phase::Decided => Access::Nothing,
+        Phase::HasCommitted => Access::Nothing,
+        Phase::HasAdopted => Access::Nothing,
     }
 }

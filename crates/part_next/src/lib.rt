@@ -154,5 +154,7 @@ pub fn next(window: usize, limit: usize, q: Process, leader: bool, x: u32) -> Pr
         Phase::Exhausted => process(Phase::Exhausted, r, e),
         Phase::Crashed => process(Phase::Crashed, r, e),
         Phase::Decided => process(Phase::Decided, r, e),
+        Phase::HasCommitted => process(Phase::HasCommitted, r, e),
+        Phase::HasAdopted => process(Phase::HasAdopted, r, e),
     }
 }

@@ -1,6 +1,6 @@
 -- The registers one by one: what an access reads and leaves in each, and the turn made of them.
 use Rattle.base.specs.Prelude.{ℕ, _+_, _-_, _%_, _≤_, arith, _≡_, refl, sym, ap, Bool, true, false, List, getD, set}
-use Rattle.model_laws.specs.Types.{Phase, Idle, Waiting, Write, Scan, Adopt, Compare, Flag, CheckMark, CheckValue, Commit, Exhausted, Crashed, Decided, Access, Nothing, ReadValue, WriteValue, ReadMark, SetMark, ReadDecision, WriteDecision, Process, Session, Counts, Step}
+use Rattle.model_laws.specs.Types.{Phase, Idle, Waiting, Write, Scan, Adopt, Compare, Flag, CheckMark, CheckValue, Commit, Exhausted, Crashed, Decided, HasCommitted, HasAdopted, Access, Nothing, ReadValue, WriteValue, ReadMark, SetMark, ReadDecision, WriteDecision, Process, Session, Counts, Step}
 use Rattle.model.specs.Board.{processAt, with, maxRounds}
 use Rattle.model.specs.Step.{accessAt, access, next, bit, found, stored, turn, counted}
 use Rattle.model.specs.Machine.{accessOf, becomes, after, countsAfter}
@@ -101,7 +101,7 @@ turn-is s p ReadDecision becomes ok = refl
 turn-is s p WriteDecision becomes ok = refl
 
 -- A work turn makes no look.
-step-no-look : (L r : ℕ) (φ : Phase) (leader : Bool) → NoLook (accessAt L r φ leader)
+pub step-no-look : (L r : ℕ) (φ : Phase) (leader : Bool) → NoLook (accessAt L r φ leader)
 unfolding accessAt
 step-no-look L r Idle leader = tt
 step-no-look L r Waiting leader = waiting-cases NoLook L r leader (λ e. tt) tt (λ b. tt)
@@ -116,6 +116,8 @@ step-no-look L r Commit leader = tt
 step-no-look L r Exhausted leader = tt
 step-no-look L r Crashed leader = tt
 step-no-look L r Decided leader = tt
+step-no-look L r HasCommitted leader = tt
+step-no-look L r HasAdopted leader = tt
 
 -- ---- a turn of process p, whose access in the machine is b; i is the index of the process in the code, and a the code's access
 

@@ -4,7 +4,7 @@ ghost use Rattle.model.specs.Refusal.{status as statusOf};
 use model::Phase;
 use model::Status;
 
-// 01, "Numbers returned": whether the process is out, works, is spent, or crashed or decided.
+// 01, "Numbers returned": whether the process is out, works, is spent, or crashed or decided; 02, wish 6: or answered.
 pub fn status(phase: Phase) -> Status
     ensures { λ r. ⌜ r ≡ statusOf phase ⌝ }
 {
@@ -22,5 +22,7 @@ pub fn status(phase: Phase) -> Status
         Phase::Exhausted => Status::Spent,
         Phase::Crashed => Status::Gone,
         Phase::Decided => Status::Gone,
+        Phase::HasCommitted => Status::Gone,
+        Phase::HasAdopted => Status::Gone,
     }
 }

@@ -1,18 +1,19 @@
 // Crashing. It makes its tests in their order, and changes the session where it stands if none of them refuses.
 ghost use mathlib.Core.Path.{_≡_};
-ghost use Rattle.model.specs.Public.{crash as crashOf};
+ghost use Rattle.model.specs.Public.{crashAs, crash as crashOf};
 use model::Changed;
 use model::Session;
 
-// 01, "One turn at a time", crash. i is p wherever the call is accepted: where it is not, the tests refuse.
-pub fn crash(s: Session, p: usize) -> Changed
-    ensures { λ r. ⌜ r ≡ crashOf s p ⌝ }
+// 01, "One turn at a time", crash, in a session or (02, wish 6) in a poll, where 3 is by a poll's soundness. i is p wherever the call is
+// accepted: where it is not, the tests refuse.
+pub fn crash_as(poll: bool, s: Session, p: usize) -> Changed
+    ensures { λ r. ⌜ r ≡ crashAs poll s p ⌝ }
 {
     let i = p % 64;
     let q = s.processes[i];
     let phase = q.phase;
     let code = session_refusal::first_refusal(
-        session_sound::sound(s),
+        session_sound::sound_as(poll, s),
         s.n,
         p,
         part_refusals::crash_refusal(phase),
@@ -25,4 +26,11 @@ pub fn crash(s: Session, p: usize) -> Changed
         code: code,
         session: after,
     }
+}
+
+// In a session.
+pub fn crash(s: Session, p: usize) -> Changed
+    ensures { λ r. ⌜ r ≡ crashOf s p ⌝ }
+{
+    crash_as(false, s, p)
 }

@@ -1,7 +1,7 @@
 // The read-out of a seat's record (document 01, "Standing values"), given any session at all. Refused, the answer holds blank data.
 ghost use mathlib.Core.Path.{_≡_};
 ghost use Rattle.model.specs.Board.{idle};
-ghost use Rattle.model.specs.ReadOut.{processRecord};
+ghost use Rattle.model.specs.ReadOut.{processRecordAs, processRecord};
 use model::Phase;
 use model::Process;
 use model::ProcessAnswer;
@@ -21,11 +21,12 @@ fn no_record(code: u32) -> ProcessAnswer
     }
 }
 
-// "Standing values": ".. a seat's record". 3, then 4 for a process n or above.
-pub fn process_record(s: Session, p: usize) -> ProcessAnswer
-    ensures { λ r. ⌜ r ≡ processRecord s p ⌝ }
+// "Standing values": ".. a seat's record". 3, then 4 for a process n or above. 02, wish 6: "Seats are read out as in sessions", of polls, where 3
+// is by a poll's soundness.
+pub fn process_record_as(poll: bool, s: Session, p: usize) -> ProcessAnswer
+    ensures { λ r. ⌜ r ≡ processRecordAs poll s p ⌝ }
 {
-    let sound = session_sound::sound(s);
+    let sound = session_sound::sound_as(poll, s);
     if !sound {
         return no_record(3);
     }
@@ -37,4 +38,11 @@ pub fn process_record(s: Session, p: usize) -> ProcessAnswer
         code: 0,
         process: q,
     }
+}
+
+// Of a session.
+pub fn process_record(s: Session, p: usize) -> ProcessAnswer
+    ensures { λ r. ⌜ r ≡ processRecord s p ⌝ }
+{
+    process_record_as(false, s, p)
 }

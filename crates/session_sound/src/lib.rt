@@ -3,7 +3,7 @@ ghost use mathlib.Core.Path.{_≡_};
 ghost use mathlib.Core.Bool.{not, _&&_};
 ghost use lib.ListN.{length, drop};
 ghost use lib.Dec.{eqb};
-ghost use Rattle.model.specs.Sound.{every, sound as soundOf};
+ghost use Rattle.model.specs.Sound.{every, soundAs, sound as soundOf};
 use model::Session;
 use part_sound::record_sound;
 
@@ -22,9 +22,10 @@ fn blank_from<'a>(values: &'a [u32; 256], marks: &'a [bool; 256], from: usize) -
     true
 }
 
-// "A session is sound if: n is 1 to 64, L is W to 256", the registers and marks past L, and its records, in one pass.
-pub fn sound(s: Session) -> bool
-    ensures { λ r. ⌜ r ≡ soundOf s ⌝ }
+// "A session is sound if: n is 1 to 64, L is W to 256", the registers and marks past L, and its records, in one pass. A poll, if its own rules
+// hold too: 02, wish 6, it "has L = W, a blank D".
+pub fn sound_as(poll: bool, s: Session) -> bool
+    ensures { λ r. ⌜ r ≡ soundAs poll s ⌝ }
 {
     let n = s.n;
     let limit = s.limit;
@@ -32,17 +33,25 @@ pub fn sound(s: Session) -> bool
         return false;
     }
     let window = part_window::window(n as u8);
-    let rounds = (window <= limit) & (limit <= 256);
+    let only = !poll | ((limit == window) & (s.decision == 0));
+    let rounds = (window <= limit) & (limit <= 256) & only;
     if !(rounds & blank_from(&s.values, &s.marks, limit)) {
         return false;
     }
     let mut i = 0;
     while i < 64 {
         let q = s.processes[i];
-        if !record_sound(window, limit, i < n, q) {
+        if !record_sound(poll, window, limit, i < n, q) {
             return false;
         }
         i += 1;
     }
     true
+}
+
+// Of a session.
+pub fn sound(s: Session) -> bool
+    ensures { λ r. ⌜ r ≡ soundOf s ⌝ }
+{
+    sound_as(false, s)
 }

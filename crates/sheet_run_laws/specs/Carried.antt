@@ -126,7 +126,7 @@ module _ {answer : Ran} {t : List ℕ} {budget W : ℕ} {s : Session} {c : Count
 
   -- A process of the session is one of the 64 rows.
   pub row-low : {p : ℕ} → p < s .n → p < 64
-  row-low below = omega (arith, sound-facts W s (h .opened .sound) .few)
+  row-low below = omega (arith, sound-facts false W s (h .opened .sound) .few)
 
   module _ {e : Operation} (next : handed t place ≡ Next e) where
     -- One entry fewer is left behind it.
@@ -155,7 +155,7 @@ module _ {answer : Ran} {t : List ℕ} {budget W : ℕ} {s : Session} {c : Count
       unknown high =
           here
           ∙ one-refused W _ k s c e _ 4
-          (number-refusal s c e (sound-facts W s (h .opened .sound) .some) high)
+          (number-refusal s c e (sound-facts false W s (h .opened .sound) .some) high)
           (λ z. omega arith)
 
       -- An accepted entry: what the code leaves is what the one form has, and one more is carried out.

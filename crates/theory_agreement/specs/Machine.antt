@@ -1,5 +1,5 @@
 -- The rule of the machine, at any window W with 2 ≤ W and 4 * n ≤ W * W.
-use Rattle.base.specs.Prelude.{ℕ, suc, zero, _*_, _≤_, arith, _≡_, refl, _∙_, true, List, [], _∷_, _++_}
+use Rattle.base.specs.Prelude.{ℕ, suc, zero, _*_, _≤_, arith, _≡_, refl, _∙_, true, false, List, [], _∷_, _++_}
 use Rattle.model_laws.specs.Types.{Session, Counts, Operation}
 use Rattle.model.specs.Board.{processAt, opened, maxProcesses, maxRounds}
 use Rattle.model.specs.Refusal.{refusal, tests, processOf, stepped}
@@ -46,7 +46,7 @@ module _ {W n L : ℕ} (wide : 1 ≤ W) where
             sound = after-sound W wide s c o (i .sound) a;
             size = same .0 ∙ i .size;
             rounds = same .1 ∙ i .rounds;
-            invariant = operation-invariant (i .invariant) c o (sound-process W s (processOf o) (i .sound)) a;
+            invariant = operation-invariant (i .invariant) c o (sound-process false W s (processOf o) (i .sound)) a;
           }
       go (suc k) e = i
 

@@ -1,12 +1,12 @@
 -- The agreement rule holds: the calls follow the machine, and the machine's rule holds at the session's window.
-use Rattle.base.specs.Prelude.{ℕ, suc, zero, _≤_, arith, _≡_, refl, sym, _∙_, ap, subst, List, []}
+use Rattle.base.specs.Prelude.{ℕ, suc, zero, _≤_, arith, _≡_, refl, sym, _∙_, ap, subst, false, List, []}
 use Rattle.model_laws.specs.Types.{Session, Counts, Operation, Propose, Step, Learn, Crash, Malformed, Changed, Stepped}
 use Rattle.model.specs.Window.{window}
 use Rattle.model.specs.Board.{opened, serverLimits}
 use Rattle.model.specs.Refusal.{refusal, openTests, changed}
 use Rattle.model.specs.Machine.{answered, perform, openWithin, opening}
 use Rattle.model.specs.Public.{operate, withCounts, step, learn}
-use Rattle.model.specs.Sound.{sound}
+use Rattle.model.specs.Sound.{soundAs}
 use Rattle.model_laws.specs.Windows.{window-least, window-square}
 use Rattle.model_laws.specs.Accepted.{never-three}
 use Rattle.model_laws.specs.Operations.{open-accepted}
@@ -20,19 +20,19 @@ use Rattle.theory_agreement.specs.Machine.{Reached, machine-reached, ope
 pub promised-operate : (s : Session) (c : Counts) (o : Operation) (a : Changed) (c′ : Counts) → Promised s c o a c′ →
     withCounts a c′ ≡ operate s c o
 unfolding step learn
-promised-operate s c (Propose p v) a c′ e = rw (e .0, e .1) (propose-counts s c p v)
+promised-operate s c (Propose p v) a c′ e = rw (e .0, e .1) (propose-counts false s c p v)
 promised-operate s c (Step p leader) a c′ e = e
 promised-operate s c (Learn p) a c′ e = e
-promised-operate s c (Crash p) a c′ e = rw (e .0, e .1) (crash-counts s c p)
+promised-operate s c (Crash p) a c′ e = rw (e .0, e .1) (crash-counts false s c p)
 promised-operate s c Malformed a c′ e = absurd e
 
 -- A session that the machine reached, at its own window: every operation answers as the machine does, and not 3.
 module _ {n L : ℕ} {m : Session} {h : List Event} (i : Reached (window n) n L m h) (f : Input) where
   pub operate-reached : operate m (f .counts) (f .operation) ≡ perform (window n) m (f .counts) (f .operation)
-  unfolding sound
+  unfolding soundAs
   operate-reached =
       let w : window (m .n) ≡ window n = ap window (i .size) in
-      operate-sound m (f .counts) (f .operation) (rw w (i .sound)) ∙ rw w
+      operate-sound false m (f .counts) (f .operation) (rw w (i .sound)) ∙ rw w
 
   pub never-unsound : perform (window n) m (f .counts) (f .operation) .code ≡ 3 → ⊥
   unfolding perform answered

@@ -1,6 +1,6 @@
 -- Each accepted operation of the machine, at any window, keeps the invariant: the one lemma, applied.
 use Rattle.base.specs.Prelude.{ℕ, zero, suc, _-_, _≡_, refl, sym, _∙_, Bool, true, false, true≢false, List, [], _∷_, _++_, not, not-false, arith}
-use Rattle.model_laws.specs.Types.{Phase, Idle, Waiting, Write, Scan, Adopt, Compare, Flag, CheckMark, CheckValue, Commit, Exhausted, Crashed, Decided, Session, Counts, Operation, Propose, Step, Learn, Crash, Malformed}
+use Rattle.model_laws.specs.Types.{Phase, Idle, Waiting, Write, Scan, Adopt, Compare, Flag, CheckMark, CheckValue, Commit, Exhausted, Crashed, Decided, HasCommitted, HasAdopted, Session, Counts, Operation, Propose, Step, Learn, Crash, Malformed}
 use Rattle.model.specs.Board.{processAt}
 use Rattle.model.specs.Step.{accessAt, access, found, stored}
 use Rattle.model.specs.Refusal.{status, isOutside, isGone, processOf}
@@ -20,7 +20,7 @@ use Rattle.theory_board.specs.Invariant.{Invariant, turn-invariant}
 
 -- ---- the registers that an operation leaves are those of the past with its event
 
-step-events : {s : Session} {h : List Event} (p r v : ℕ) (φ : Phase) (leader : Bool) → Long s → Matches s h →
+pub step-events : {s : Session} {h : List Event} (p r v : ℕ) (φ : Phase) (leader : Bool) → Long s → Matches s h →
     InRange (s .limit) (accessAt (s .limit) r φ leader) →
     let t = stored s (accessAt (s .limit) r φ leader) v in Long t × Matches t (stepEvents p r v φ ++ h)
 unfolding accessAt stored
@@ -38,6 +38,8 @@ step-events p r v Commit leader l k ok = commit-matches l k r v
 step-events p r v Exhausted leader l k ok = (l, k)
 step-events p r v Crashed leader l k ok = (l, k)
 step-events p r v Decided leader l k ok = (l, k)
+step-events p r v HasCommitted leader l k ok = (l, k)
+step-events p r v HasAdopted leader l k ok = (l, k)
 
 look-matches : {s : Session} {h : List Event} (p x : ℕ) → Matches s h → Matches s (lookEvents p x ++ h)
 look-matches p zero k = k

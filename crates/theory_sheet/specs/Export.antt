@@ -1,6 +1,6 @@
 -- What the C entry writes to its buffer, in the words of the agreement rule.
 use Rattle.base.specs.Prelude.{ℕ, _*_, _<_, arith, ℕ-discrete, _≡_, refl, List, [], ⊎-elim, length}
-use Rattle.model_laws.specs.Types.{Phase, Idle, Waiting, Write, Scan, Adopt, Compare, Flag, CheckMark, CheckValue, Commit, Exhausted, Crashed, Decided}
+use Rattle.model_laws.specs.Types.{Phase, Idle, Waiting, Write, Scan, Adopt, Compare, Flag, CheckMark, CheckValue, Commit, Exhausted, Crashed, Decided, HasCommitted, HasAdopted}
 use Rattle.model.specs.Board.{processAt, noCounts, maxProcesses, serverLimits}
 use Rattle.model.specs.Bytes.{word32}
 use Rattle.model.specs.Sheet.{entries, sheetRefusal}
@@ -53,6 +53,8 @@ decided-phase Commit e some = absurd (some refl)
 decided-phase Exhausted e some = absurd (some refl)
 decided-phase Crashed e some = absurd (some refl)
 decided-phase Decided e some = (refl, refl)
+decided-phase HasCommitted e some = absurd (some refl)
+decided-phase HasAdopted e some = absurd (some refl)
 
 module _ (t : List ℕ) (budget : ℕ) (ok : sheetRefusal serverLimits t ≡ 0) where
   -- The decided value of process p after the run.

@@ -6,7 +6,7 @@ use Rattle.model.specs.Window.{window}
 use Rattle.model.specs.Board.{opened, noCounts, serverLimits}
 use Rattle.model.specs.Machine.{perform}
 use Rattle.model.specs.Public.{operate}
-use Rattle.model.specs.Sound.{sound}
+use Rattle.model.specs.Sound.{soundAs, sound}
 use Rattle.model.specs.Refusal.{refusal, openTests}
 use Rattle.model.specs.Sheet.{processCount, roundLimit, entries, sheetRefusal}
 use Rattle.model.specs.Export.{decidedBytes, endingBuffer, exportBuffer}
@@ -27,7 +27,7 @@ module _ {n L : ℕ} (wide : 1 ≤ window n) where
   operate-runs : {s : Session} {h : List Event} (b k : ℕ) (c : Counts) (es : List Operation) → Reached (window n) n L s h →
       let r = runFrom (window n) b k s c es in
       (runBy operate b k s c es ≡ r) × ((j : ℕ) → r .ending ≡ Refused 3 j → ⊥)
-  unfolding runBy sound
+  unfolding runBy soundAs
   operate-runs b k c [] i = (refl, λ j e. let z : _≡_ {A = ℕ} 0 1 = cc in omega arith)
   operate-runs zero k c (e ∷ es) i = (refl, λ j t. let z : _≡_ {A = ℕ} 0 1 = cc in omega arith)
   operate-runs {s} (suc b) k c (e ∷ es) i =

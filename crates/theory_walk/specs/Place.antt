@@ -1,8 +1,8 @@
 -- What the phase, round and estimate of a process tell of the past.
 use Rattle.base.specs.Prelude.{ℕ, suc, _+_, _≤_, _<_, _≡_, false, List}
-use Rattle.model_laws.specs.Types.{Phase, Idle, Waiting, Write, Scan, Adopt, Compare, Flag, CheckMark, CheckValue, Commit, Exhausted, Crashed, Decided, Process, Access, Nothing, ReadValue, WriteValue, ReadMark, SetMark, ReadDecision, WriteDecision}
+use Rattle.model_laws.specs.Types.{Phase, Idle, Waiting, Write, Scan, Adopt, Compare, Flag, CheckMark, CheckValue, Commit, Exhausted, Crashed, Decided, HasCommitted, HasAdopted, Process, Access, Nothing, ReadValue, WriteValue, ReadMark, SetMark, ReadDecision, WriteDecision}
 use Rattle.model.specs.Refusal.{status, isOutside}
-use Rattle.model_rule.specs.Event.{Event, Proposed, Written, DecidedOn}
+use Rattle.model_rule.specs.Event.{Event, commit, Happened, Proposed, Written, DecidedOn}
 use Rattle.theory_past.specs.Epoch.{top, last, Wrote, Flagged, Compared, Passed}
 use Rattle.theory_past.specs.Lawful.{Unflagged, IsCommitted}
 
@@ -40,6 +40,8 @@ Placed W p r v Commit h = Walked W r v h × Unflagged W r h
 Placed W p r v Exhausted h = Unit {0}
 Placed W p r v Crashed h = Unit {0}
 Placed W p r v Decided h = DecidedOn p v h
+Placed W p r v HasCommitted h = Happened (commit r v) h
+Placed W p r v HasAdopted h = Written r v h
 
 -- What a process that has proposed tells by its phase, round and estimate: the estimate was proposed, too.
 abbrev pub PlacedAt : (W p : ℕ) → Process → List Event → Type 0

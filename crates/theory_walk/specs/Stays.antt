@@ -1,6 +1,6 @@
 -- What a place tells stays true while the past grows by events of other processes.
 use Rattle.base.specs.Prelude.{ℕ, suc, _≡_, refl, List, [], _∷_, _++_, ⊎-elim, arith}
-use Rattle.model_laws.specs.Types.{Phase, Idle, Waiting, Write, Scan, Adopt, Compare, Flag, CheckMark, CheckValue, Commit, Exhausted, Crashed, Decided, Process}
+use Rattle.model_laws.specs.Types.{Phase, Idle, Waiting, Write, Scan, Adopt, Compare, Flag, CheckMark, CheckValue, Commit, Exhausted, Crashed, Decided, HasCommitted, HasAdopted, Process}
 use Rattle.model_rule.specs.Event.{Event, proposal, write, flag, commit, decision, Past}
 use Rattle.model_rule.specs.Event.Past.{here, there}
 use Rattle.theory_past.specs.Lawful.{Unflagged}
@@ -56,6 +56,8 @@ placed-event W p r v Commit x h n a = checked-event W a
 placed-event W p r v Exhausted x h n a = tt
 placed-event W p r v Crashed x h n a = tt
 placed-event W p r v Decided x h n a = happened-past (there here) a
+placed-event W p r v HasCommitted x h n a = happened-past (there here) a
+placed-event W p r v HasAdopted x h n a = (a .0, happened-past (there here) (a .1))
 
 -- Events of others keep where a process stands.
 pub stands-events : {W o : ℕ} {q : Process} (es : List Event) {h : List Event} → SpareAll o es → Stands W o q h → Stands W o q (es ++ h)

@@ -1,6 +1,6 @@
 -- A step of a process: what it adds to the past is lawful, and the process stands where its new phase tells.
 use Rattle.base.specs.Prelude.{ℕ, _-_, _<_, _≡_, Bool, false, List, [], _∷_, _++_, arith}
-use Rattle.model_laws.specs.Types.{Phase, Idle, Waiting, Write, Scan, Adopt, Compare, Flag, CheckMark, CheckValue, Commit, Exhausted, Crashed, Decided, Process}
+use Rattle.model_laws.specs.Types.{Phase, Idle, Waiting, Write, Scan, Adopt, Compare, Flag, CheckMark, CheckValue, Commit, Exhausted, Crashed, Decided, HasCommitted, HasAdopted, Process}
 use Rattle.model.specs.Step.{accessAt, access, nextAt, next, process}
 use Rattle.model.specs.Refusal.{status, isOutside}
 use Rattle.model_laws.specs.Phases.{PhaseSound}
@@ -17,7 +17,7 @@ use Rattle.theory_walk.specs.Rounds.{compare-placed, flag-placed}
 use Rattle.theory_walk.specs.Checks.{check-mark-placed, check-value-placed}
 
 -- A process in round r with estimate v that finds x by its access is, after its step, where its new phase tells.
-step-placed : {W n : ℕ} (L p r v : ℕ) (φ : Phase) (leader : Bool) (x : ℕ) {h : List Event} →
+pub step-placed : {W n : ℕ} (L p r v : ℕ) (φ : Phase) (leader : Bool) (x : ℕ) {h : List Event} →
     PhaseSound W L r φ → Lawful W n h → Proposed v h → Placed W p r v φ h → Found h (accessAt L r φ leader) x →
     PlacedAt W p (nextAt W L r v φ leader x) (stepEvents p r v φ ++ h)
 unfolding accessAt nextAt
@@ -39,6 +39,8 @@ step-placed L p r v Commit leader x s l b a f = (happened-past (there here) b, �
 step-placed L p r v Exhausted leader x s l b a f = (b, tt)
 step-placed L p r v Crashed leader x s l b a f = (b, tt)
 step-placed L p r v Decided leader x s l b a f = (b, a)
+step-placed L p r v HasCommitted leader x s l b a f = (b, a)
+step-placed L p r v HasAdopted leader x s l b a f = (b, a)
 
 -- What holds of no event, and of the event of each phase that has one, holds of the events of a step.
 pub step-cases : (P : Phase → List Event → Type 0) (p r v : ℕ) → ((φ : Phase) → P φ []) → P Write (write p r v ∷ []) →
@@ -56,6 +58,8 @@ step-cases P p r v none w f c Commit = c
 step-cases P p r v none w f c Exhausted = none Exhausted
 step-cases P p r v none w f c Crashed = none Crashed
 step-cases P p r v none w f c Decided = none Decided
+step-cases P p r v none w f c HasCommitted = none HasCommitted
+step-cases P p r v none w f c HasAdopted = none HasAdopted
 
 -- The event of a step of one of the n processes is lawful.
 pub step-lawful : {W n : ℕ} (L p r v : ℕ) (φ : Phase) {h : List Event} →

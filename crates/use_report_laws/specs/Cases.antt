@@ -5,7 +5,7 @@ use denote.Enum.Declared.{tagOf}
 use types.Run.{OneOf, miss}
 use Rattle.model.specs.declared.Phase.{Phase}
 use Rattle.model.specs.declared.Phase.the-variants.{Idle, Waiting, Write, Scan, Adopt, Compare, Flag, CheckMark}
-use Rattle.model.specs.declared.Phase.the-variants.{CheckValue, Commit, Exhausted, Crashed, Decided}
+use Rattle.model.specs.declared.Phase.the-variants.{CheckValue, Commit, Exhausted, Crashed, Decided, HasCommitted, HasAdopted}
 use Rattle.model.proofs.Ending.{the-type as ending-type}
 use Rattle.model.proofs.Phase.{the-type as phase-type}
 use Rattle.model.specs.declared.Session.{Session}
@@ -29,7 +29,7 @@ more-lines BudgetEnded s c h = refl
 more-lines (Rejected k) s c h = absurd (miss (0 ∷ 1 ∷ 2 ∷ []) 3 tt h)
 
 abbrev working : List ℕ
-working = 1 ∷ 2 ∷ 3 ∷ 4 ∷ 5 ∷ 6 ∷ 7 ∷ 8 ∷ 9 ∷ []
+working = 1 ∷ 2 ∷ 3 ∷ 4 ∷ 5 ∷ 6 ∷ 7 ∷ 8 ∷ 9 ∷ 13 ∷ 14 ∷ []
 
 pub status-working : (f : Phase) (r e : ℕ) → OneOf working (tagOf phase-type f)
     → bytes " working" ++ field r ++ field e ++ newline ≡ statusWords f r e ++ newline
@@ -46,3 +46,5 @@ status-working Commit r e h = refl
 status-working Exhausted r e h = absurd (miss working 10 tt h)
 status-working Crashed r e h = absurd (miss working 11 tt h)
 status-working Decided r e h = absurd (miss working 12 tt h)
+status-working HasCommitted r e h = refl
+status-working HasAdopted r e h = refl

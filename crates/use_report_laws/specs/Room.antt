@@ -3,7 +3,7 @@ use Prim.Native.String.{String}
 use Rattle.base.specs.Prelude.{ℕ, suc, _+_, _*_, _≤_, arith, _≡_, List, [], _∷_, _++_, length, take, length-append, length-take}
 use Rattle.model.specs.declared.Phase.{Phase}
 use Rattle.model.specs.declared.Phase.the-variants.{Idle, Waiting, Write, Scan, Adopt, Compare, Flag, CheckMark}
-use Rattle.model.specs.declared.Phase.the-variants.{CheckValue, Commit, Exhausted, Crashed, Decided}
+use Rattle.model.specs.declared.Phase.the-variants.{CheckValue, Commit, Exhausted, Crashed, Decided, HasCommitted, HasAdopted}
 use Rattle.model.specs.declared.Process.{Process}
 use Rattle.model.specs.declared.Session.{Session}
 use Rattle.model.specs.declared.Counts.{Counts}
@@ -51,6 +51,8 @@ status-low Commit r e = fields-low (bytes " working") (r ∷ e ∷ [])
 status-low Exhausted r e = omega (arith, fields-low (bytes " spent") (e ∷ []))
 status-low Crashed r e = omega arith
 status-low Decided r e = omega (arith, fields-low (bytes " decided") (e ∷ []))
+status-low HasCommitted r e = fields-low (bytes " working") (r ∷ e ∷ [])
+status-low HasAdopted r e = fields-low (bytes " working") (r ∷ e ∷ [])
 
 seats-low : (p : ℕ) (l : List Process) → length (seatLines p l) ≤ length l * lineRoom "seat working" 3
 seats-low p [] = omega arith

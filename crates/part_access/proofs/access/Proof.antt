@@ -18,8 +18,9 @@ access-spec =
     (search needs) (search needs) (search needs)  -- write, scan, adopt
     (search needs) (search needs) (search needs) (search needs) (search needs) (search needs) (search needs) (search needs)  -- compare, flag, check-mark, check-value: told, minus
     (search needs) (search needs) (search needs) (search needs)  -- commit, exhausted, crashed, decided
+    (search needs) (search needs)  -- committed, adopted
     idle waiting write scan adopt compare flag
-    check-mark check-value commit exhausted crashed decided)
+    check-mark check-value commit exhausted crashed decided committed adopted)
   where
     -- ---- what each arm answers
 
@@ -70,3 +71,9 @@ access-spec =
 
     decided : tie.Need-returns-13
     decided c = answer (c .before .before) (c .enum-told7 .given .1) refl
+
+    committed : tie.Need-returns-14
+    committed c = answer (c .before .before) (c .enum-told8 .given .1) refl
+
+    adopted : tie.Need-returns-15
+    adopted c = answer (c .before .before) (c .enum-told9 .given .1) refl

@@ -25,8 +25,10 @@ next-spec =
     (search needs) (search needs)  -- exhausted: told, process
     (search needs) (search needs)  -- crashed: told, process
     (search needs) (search needs)  -- decided: told, process
+    (search needs) (search needs)  -- committed: told, process
+    (search needs) (search needs)  -- adopted: told, process
     idle waiting write scan adopt compare
-    flag check-mark check-value commit exhausted crashed decided)
+    flag check-mark check-value commit exhausted crashed decided committed has-adopted)
   where
     -- ---- what each arm answers
 
@@ -81,3 +83,9 @@ next-spec =
 
     decided : tie.Need-returns-13
     decided c = answer (c .before .before .before) (c .before .enum-told7 .given .1) (c .process12 .ensures)
+
+    committed : tie.Need-returns-14
+    committed c = answer (c .before .before .before) (c .before .enum-told8 .given .1) (c .process13 .ensures)
+
+    has-adopted : tie.Need-returns-15
+    has-adopted c = answer (c .before .before .before) (c .before .enum-told9 .given .1) (c .process14 .ensures)

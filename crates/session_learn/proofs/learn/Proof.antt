@@ -1,5 +1,5 @@
 -- `session_learn::learn` meets its contract: by the number of its first refusal, and by the record and the counts that it leaves. Assumes nothing.
-use Rattle.base.specs.Prelude.{_≡_, refl, needs}
+use Rattle.base.specs.Prelude.{_≡_, refl, false, needs}
 use Rattle.model_laws.specs.Types.{Operation, Learn}
 use Rattle.model.specs.Public
 use Rattle.model.specs.Machine.{accessOf, countsAfter}
@@ -15,7 +15,7 @@ operation c = Learn (c .args .p)
 code : (c : tie.After-first-refusal) →
     let start = c .before .before .before .before in c .first-refusal .result ≡ codeOf (start .args .t1) (start .args .c) (operation start)
 code c =
-    code-is _ _ (operation (c .before .before .before .before)) refl
+    code-is false _ _ (operation (c .before .before .before .before)) refl
     (c .before .sound .ensures) (c .before .before .learn-refusal .ensures) (c .first-refusal .ensures)
 
 -- Accepted, and refused.
@@ -25,11 +25,11 @@ returns c =
     let first = c .before .before .before in
     let none = c .before .before .if1 .taken in
     let o = operation (first .before .before .before .before) in
-    operate-accepted _ _ o (code first) none (learnt-is _ _ _ (index-of _ _ o (code first) none) (c .before .learnt .ensures)) (c .counted .ensures)
+    operate-accepted false _ _ o (code first) none (learnt-is _ _ _ (index-of false _ _ o (code first) none) (c .before .learnt .ensures)) (c .counted .ensures)
 
 returns-2 : tie.Need-returns-2
 unfolding Public.learn
-returns-2 c = operate-refused _ _ (operation (c .before .before .before .before .before)) (code (c .before)) (c .if1 .left)
+returns-2 c = operate-refused false _ _ (operation (c .before .before .before .before .before)) (code (c .before)) (c .if1 .left)
 
 -- The answers in the order of the code: the record's address and index, the tests, the new record, its address and index, the counts.
 pub learn-spec : {M : Type 1} → statement M

@@ -20,7 +20,7 @@ module _ (s : Session) (r : ℕ) {b : Bool} (told : b ≡ sound s) where
 
   -- Past both tests the round is 1 to L, which is at most 256.
   bounds : not b ≡ false → not round ≡ false → (1 ≤ r) × (r ≤ s .limit) × (s .limit ≤ 256)
-  bounds p q = let t = not-false round q in let u = sound-low s (sym told ∙ not-false b p) in search (and-left, and-right, leb-true)
+  bounds p q = let t = not-false round q in let u = sound-low false s (sym told ∙ not-false b p) in search (and-left, and-right, leb-true)
 
 told : tie.Need-returns-3
 told c =

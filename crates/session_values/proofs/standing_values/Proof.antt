@@ -1,6 +1,6 @@
 -- `session_values::standing_values` meets its contract. The tests that led to an answer say which it is. Assumes nothing.
 use lib.Seq.{take-at}
-use Rattle.base.specs.Prelude.{ℕ, _≤_, min, _≡_, sym, _∙_, ap, true, arith, needs, not-true, not-false, List, _++_, length, take, drop, replicate, length-append}
+use Rattle.base.specs.Prelude.{false, ℕ, _≤_, min, _≡_, sym, _∙_, ap, true, arith, needs, not-true, not-false, List, _++_, length, take, drop, replicate, length-append}
 use Rattle.model.specs.declared.Session.{Session}
 use Rattle.model.specs.Sound.{sound}
 use Rattle.model.specs.ReadOut.{standingValues}
@@ -25,7 +25,7 @@ module _ (c : tie.After-list) where
   Vs = standingValues (S (past-test c))
 
   rounds : min (S (past-test c) .limit) 256 ≡ S (past-test c) .limit
-  rounds = omega (arith, sound-low _ (is-sound (past-test c)))
+  rounds = omega (arith, sound-low false _ (is-sound (past-test c)))
 
   size : length Vs ≡ c .list .result .count
   size = sym (rw rounds at (c .list .ensures .0))
