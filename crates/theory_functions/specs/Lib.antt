@@ -1,2 +1,3 @@
--- The contracts of the functions that the agreement rule speaks of.
+-- The contracts of the functions that the agreement rule and the rule of polls speak of.
 pub mod Contracts
+pub mod PollContracts

@@ -2,22 +2,29 @@
 // low byte first. Standard output: a number that comes of the answers, so that no call can be left out.
 ghost use mathlib.Core.Path.{_≡_};
 ghost use Rattle.model.specs.Public.{step as stepOf, learn as learnOf};
+ghost use Rattle.model_poll.specs.Public.{pollTurn};
 use model::Counts;
 use model::Session;
 use session_crash::crash;
 use session_open::open;
 use session_propose::propose;
+use session_propose::propose_as;
 use session_read_decision::decision;
 use session_read_process::process_record;
 use session_read_register::register;
 use session_values::standing_values;
 use std::num::wrapping_add_u32;
 
-// A session of 8 processes and 256 rounds, in which all but process 7 have proposed.
-fn proposed() -> Session {
-    let mut s = open(8, 256).session;
+// A session of 8 processes and 256 rounds, or a poll of 8, in which all but process 7 have proposed.
+fn proposed(poll: bool) -> Session {
+    let opened = if poll {
+        poll_open::open(8)
+    } else {
+        open(8, 256)
+    };
+    let mut s = opened.session;
     for p in 0..7 {
-        s = propose(s, p, 1 + p as u32).session;
+        s = propose_as(poll, s, p, 1 + p as u32).session;
     }
     s
 }
@@ -36,6 +43,15 @@ fn learn(s: Session, p: usize, c: Counts) -> Session
 {
     let mut counts = c;
     let answer = session_step_lent::learn(s, p, &mut counts);
+    answer.session
+}
+
+// A turn of a poll, likewise.
+fn turn(s: Session, p: usize, c: Counts) -> Session
+    ensures { λ r. ⌜ r ≡ pollTurn s p c .session ⌝ }
+{
+    let mut counts = c;
+    let answer = poll_turn_lent::turn(s, p, &mut counts);
     answer.session
 }
 
@@ -87,16 +103,34 @@ fn told(operation: u8, count: u32, start: Session) -> u32 {
     wrapping_add_u32(sum, buffer[7])
 }
 
+// Operation 10, a turn of a poll, whose 7 rounds alone may be filled.
+fn turned(count: u32) -> u32 {
+    let mut s = proposed(true);
+    let mut after = s;
+    let c = Counts {
+        reads: 0,
+        writes: 0,
+        contested: 0,
+    };
+    for i in 0..count {
+        s.values[(i % 7) as usize] = 1 + i % 8;
+        after = turn(s, 0, c);
+    }
+    after.values[(count % 7) as usize]
+}
+
 fn main() {
     let mut asked = [0u8; 5];
     io::read_full(0, &mut asked);
     let operation = asked[0];
     let count = part_bytes::word32(&asked, 1);
-    let start = proposed();
+    let start = proposed(false);
     let number = if operation < 6 {
         changed(operation, count, start)
-    } else {
+    } else if operation < 10 {
         told(operation, count, start)
+    } else {
+        turned(count)
     };
     io::print_decimal(1, number as u64);
 }

@@ -4,13 +4,13 @@ use Rattle.use_bench.proofs.proposed.Statement.{statement}
 use Rattle.use_bench.proofs.proposed.Tie as tie
 
 abbrev Inv-loop : tie.InvT-loop
-Inv-loop s₀ p₀ s p = p ≤ 7
+Inv-loop poll s₀ p₀ s p = p ≤ 7
 
 abbrev μ-loop : tie.MeasureT-loop
-μ-loop s₀ p₀ s p = 7 - p
+μ-loop poll s₀ p₀ s p = 7 - p
 
 pub proposed-spec : {M : Type 1} → statement M
 proposed-spec =
     tie.close
-    (tie.spec Inv-loop μ-loop (λ c κs. search needs) (λ c. search needs) (λ c. search needs) (λ c. search needs) (λ c κs. search needs)
+    (tie.spec Inv-loop μ-loop (λ c κs. search needs) (λ c κs. search needs) (λ c. search needs) (λ c. search needs) (λ c. search needs) (λ c κs. search needs)
     (λ c. search needs) (λ c. search needs) (λ c. search needs) (λ c. search needs))

@@ -1,0 +1,6 @@
+pub mod Opening
+pub mod Sounds
+pub mod Answers
+pub mod Performs
+pub mod Pass
+pub mod Ends

@@ -1,0 +1,1 @@
+// Laws about the definitions of polls (`model_poll`): specs/. No code.

@@ -1,0 +1,67 @@
+-- The rule of polls (document 02, wish 6): "Show for any order of proposals, turns and crashes from an opening: each answer was proposed; if one answer is
+-- committed v, every answer carries v; if all proposals are v, every answer is committed v."
+use Prim.Native.Nat.{ℕ, _+_, _*_, _≤_, _<_}
+use mathlib.Core.Path.{_≡_}
+use mathlib.Core.List.{List, [], _∷_}
+use Rattle.model.specs.declared.Status.the-variants.{Active}
+use Rattle.model.specs.declared.Session.{Session}
+use Rattle.model.specs.Window.{window}
+use Rattle.model.specs.Board.{processAt}
+use Rattle.model.specs.Refusal.{status}
+use Rattle.model_rule.specs.Event.{Proposed}
+use Rattle.model_poll.specs.declared.Answer.{Answer}
+use Rattle.model_poll.specs.declared.Answer.the-variants.{Commits}
+use Rattle.model_poll.specs.Turn.{answerOf, Carries, passTurns}
+use Rattle.model_poll.specs.Machine.{turns, pollOpening, pollPerform}
+use Rattle.model_poll.specs.Public.{withLent}
+use Rattle.model_poll_rule.specs.Calls.{pollMachine, pollPast, PollCall, PollRun, pollInputs, turnsOf}
+
+-- After each call, refused or not, its answer, the counts and the poll equal the machine's, and 3 is never returned.
+abbrev pub EachAsThePollMachine : (W : ℕ) → Session → List PollCall → Type 0
+EachAsThePollMachine W start [] = Unit {0}
+EachAsThePollMachine W start (c ∷ cs) =
+    (withLent (c .answer) (c .after) ≡ pollPerform W (pollMachine W start (pollInputs cs)) (c .input .counts) (c .input .operation))
+    × (c .answer .code ≡ 3 → ⊥)
+    × EachAsThePollMachine W start cs
+
+-- The call c stands in a list, and the calls before it are `older`.
+pub data Stood (c : PollCall) (older : List PollCall) : List PollCall → Type 0 where
+  last : Stood c older (c ∷ older)
+  before : {d : PollCall} {cs : List PollCall} → Stood c older cs → Stood c older (d ∷ cs)
+
+-- The call c of the list is a turn of process p that gave the answer a.
+pub record Gave (p : ℕ) (a : Answer) (cs : List PollCall) : Type 0 where
+  pub turn : PollCall
+  pub older : List PollCall
+  pub stood : Stood turn older cs
+  pub own : turn .input .operation ≡ turns p
+  pub answer : turn .answer .answer ≡ a
+
+-- What holds of a list of calls cs that came from a poll just opened, `start`, to the poll s.
+pub record PollRule (W : ℕ) (start : Session) (cs : List PollCall) (s : Session) : Type 0 where
+  -- "each answer was proposed", by an accepted call before it
+  pub validity : {c : PollCall} {older : List PollCall} (v : ℕ) → Stood c older cs → Carries (c .answer .answer) v →
+      Proposed v (pollPast W start (pollInputs older))
+  -- "if one answer is committed v, every answer carries v", before or after
+  pub agreement : {c d : PollCall} {older older′ : List PollCall} (u v : ℕ) → Stood c older cs → Stood d older′ cs →
+      c .answer .answer ≡ Commits v → Carries (d .answer .answer) u → u ≡ v
+  -- "if all proposals are v, every answer is committed v"
+  pub unanimity : {c : PollCall} {older : List PollCall} (u v : ℕ) → ((w : ℕ) → Proposed w (pollPast W start (pollInputs cs)) → w ≡ v) →
+      Stood c older cs → Carries (c .answer .answer) u → c .answer .answer ≡ Commits v
+  -- the record of an answered process shows the answer that its turn gave, and no record shows another
+  pub kept : {p : ℕ} {a : Answer} (v : ℕ) → Gave p a cs → Carries a v → answerOf (processAt s p) ≡ a
+  pub shown : (p v : ℕ) → Carries (answerOf (processAt s p)) v → Gave p (answerOf (processAt s p)) cs
+  -- no process takes more turns than that; one that still works, and so has no answer, has taken fewer, and its next turn is refused by 16 alone
+  pub onePass : (p : ℕ) → turnsOf p cs ≤ passTurns W
+  pub working : (p : ℕ) → status (processAt s p .phase) ≡ Active → turnsOf p cs < passTurns W
+
+-- The claim: of every list of calls from every accepted opening.
+abbrev pub PollClaim : Type 0
+PollClaim =
+    (n : ℕ)
+    → pollOpening n .code ≡ 0
+    → (cs : List PollCall) (s : Session)
+    → PollRun (pollOpening n .session) cs s
+    → EachAsThePollMachine (window n) (pollOpening n .session) cs
+    × (s ≡ pollMachine (window n) (pollOpening n .session) (pollInputs cs))
+    × PollRule (window n) (pollOpening n .session) cs s

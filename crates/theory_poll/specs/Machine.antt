@@ -1,0 +1,111 @@
+-- What is known of a poll that the machine came to, at any window W, and of the answers that its records hold.
+use Rattle.base.specs.Prelude.{ℕ, suc, zero, _*_, _≤_, _<_, arith, _≡_, refl, sym, _∙_, subst, List, [], _∷_, _++_, ⊎-elim, Bool, true, false, eqb-true, not-false}
+use Rattle.base.specs.Bools.{and-right}
+use Rattle.model_laws.specs.Types.{Phase, HasCommitted, HasAdopted, Session, Counts, Process, Propose, Crash}
+use Rattle.model.specs.Board.{processAt, opened, maxProcesses, maxRounds}
+use Rattle.model.specs.Refusal.{status, isOutside, isGone}
+use Rattle.model.specs.Sound.{soundPhaseAs, soundAtAs}
+use Rattle.model_laws.specs.Sounds.{sound-process}
+use Rattle.model_rule.specs.Event.{Event, proposal, commit, Happened, Proposed, Written, Committed}
+use Rattle.model_rule.specs.Calls.{ifAccepted}
+use Rattle.model_poll.specs.declared.Answer.the-variants.{Commits, Adopts}
+use Rattle.model_poll.specs.Turn.{answerAt, answerOf, Carries}
+use Rattle.model_poll.specs.Machine.{PollOperation, proposes, turns, crashes, pollPerform}
+use Rattle.model_poll_rule.specs.Calls.{PollInput, pollMachine, pollOperationEvents, pollEvents, pollPast}
+use Rattle.model_poll_laws.specs.Opening.{opened-poll-sound}
+use Rattle.model_poll_laws.specs.Sounds.{phase-rule, poll-process, turn-after-sound, proposed-sound, crashed-sound}
+use Rattle.model_poll_laws.specs.Performs.{PollAccepted, pollAfter, perform-cases, poll-after-size, accepted-here, answer-cases}
+use Rattle.theory_past.specs.Lawful.{commit-lawful}
+use Rattle.theory_walk.specs.Place.{Placed, PlacedAt}
+use Rattle.theory_board.specs.Invariant.{Invariant}
+use Rattle.theory_board.specs.Operations.{operation-invariant}
+use Rattle.theory_board.specs.Opening.{opened-invariant}
+use Rattle.theory_count.specs.Agreed.{agreed}
+use Rattle.theory_poll.specs.Turn.{turn-kept}
+
+-- It is sound, has its n still, and keeps the board's invariant.
+pub record PollReached (W n : ℕ) (s : Session) (h : List Event) : Type 0 where
+  pub sound : soundAtAs true W s ≡ true
+  pub size : s .n ≡ n
+  pub invariant : Invariant W s h
+
+-- An accepted operation.
+accepted-reached : {W n : ℕ} {s : Session} {h : List Event} → 1 ≤ W → (c : Counts) (o : PollOperation) → PollReached W n s h → PollAccepted s c o →
+    PollReached W n (pollAfter W s o) (pollOperationEvents s o ++ h)
+accepted-reached {W} {n} {s} wide c (proposes p v) i a =
+    record {
+      sound = proposed-sound W s (i .sound) wide c p v a;
+      size = poll-after-size W s (proposes p v) ∙ i .size;
+      invariant = operation-invariant (i .invariant) c (Propose p v) (poll-process W s (i .sound) p (accepted-here s c (proposes p v) a)) a;
+    }
+accepted-reached {W} {n} {s} wide c (turns p) i a =
+    record {
+      sound = turn-after-sound W s (i .sound) wide p (a .below) (a .inside) (a .here);
+      size = poll-after-size W s (turns p) ∙ i .size;
+      invariant = turn-kept (i .invariant) wide (i .sound) c p a;
+    }
+accepted-reached {W} {n} {s} wide c (crashes p) i a =
+    record {
+      sound = crashed-sound W s (i .sound) c p a;
+      size = poll-after-size W s (crashes p) ∙ i .size;
+      invariant = operation-invariant (i .invariant) c (Crash p) (poll-process W s (i .sound) p (accepted-here s c (crashes p) a)) a;
+    }
+
+-- A list of operations, accepted or refused.
+pub poll-reached : {W n : ℕ} {start : Session} → 1 ≤ W → PollReached W n start [] → (fs : List PollInput) →
+    PollReached W n (pollMachine W start fs) (pollPast W start fs)
+poll-reached wide i [] = i
+poll-reached {W} {n} {start} wide i (f ∷ fs) =
+    let m = pollMachine W start fs in
+    let h = pollPast W start fs in
+    let r = poll-reached wide i fs in
+    perform-cases (λ k t. PollReached W n t (ifAccepted k (pollOperationEvents m (f .operation)) ++ h)) W m (f .counts) (f .operation)
+    (accepted-reached wide (f .counts) (f .operation) r)
+    (λ k. r)
+
+-- A poll just opened.
+pub opened-poll-reached : (W n : ℕ) → 1 ≤ n → n ≤ maxProcesses → W ≤ maxRounds → PollReached W n (opened n W) []
+unfolding opened
+opened-poll-reached W n some few low =
+    record { sound = opened-poll-sound W n some few low; size = refl; invariant = opened-invariant W n W few low }
+
+-- ---- the answers that the records hold
+
+module _ {W n : ℕ} {s : Session} {h : List Event} (i : PollReached W n s h) (p v : ℕ) (has : Carries (answerOf (processAt s p)) v) where
+  abbrev q : Process
+  q = processAt s p
+
+  -- The phase is one of the two, the round is W, and the estimate is v.
+  phase-is : (φ : Phase) → q .phase ≡ φ → isOutside (status φ) ≡ false → (soundPhaseAs true W (s .limit) (q .round) φ ≡ true → q .round ≡ W) → q .estimate ≡ v →
+      Proposed v h × Placed W p W v φ h
+  phase-is φ e o rule same =
+      let inside : isOutside (status (q .phase)) ≡ false = rw e o in
+      let placed = i .invariant .stands p .placed inside in
+      let round = rule (rw e at (phase-rule W (s .limit) q (sound-process true W s p (i .sound)))) in
+      (rw same at (placed .0), rw (e, round, same) at (placed .1))
+
+  -- An answer's value was proposed, and written to the register of round W.
+  pub answer-known : Proposed v h × Written W v h
+  unfolding answerOf soundPhaseAs
+  answer-known =
+      let a = answer-cases (q .phase) (q .estimate) v has in
+      ⊎-elim
+      (λ e. let k = phase-is HasCommitted e refl (λ t. eqb-true (q .round) W t) (a .1) in (k .0, commit-lawful (i .invariant .lawful) (k .1) .written))
+      (λ e. phase-is HasAdopted e refl (λ t. eqb-true (q .round) W t) (a .1))
+      (a .0)
+
+  -- A committed one was committed in round W.
+  pub answer-committed : answerOf q ≡ Commits v → Committed W v h
+  unfolding answerOf soundPhaseAs
+  answer-committed e =
+      let a = answer-cases (q .phase) (q .estimate) v has in
+      ⊎-elim
+      (λ c. phase-is HasCommitted c refl (λ t. eqb-true (q .round) W t) (a .1) .1)
+      (λ c. let other : Adopts (q .estimate) ≡ Commits v = rw c at e in let z : _≡_ {A = ℕ} 0 1 = cc in absurd (omega arith))
+      (a .0)
+
+-- "If one answer is committed v, every answer carries v", where the window is wide enough.
+pub answers-agree : {W n : ℕ} {s : Session} {h : List Event} → PollReached W n s h → 2 ≤ W → 4 * n ≤ W * W → (p q u v : ℕ) →
+    answerOf (processAt s p) ≡ Commits v → Carries (answerOf (processAt s q)) u → u ≡ v
+answers-agree {W} {n} {s} {h} i wide square p q u v e has =
+    agreed W (s .n) h wide (rw (i .size) square) (i .invariant .lawful) (answer-committed i p v (rw e refl) e) (answer-known i q u has .1) (omega arith)

@@ -1,0 +1,83 @@
+-- The rule of polls holds.
+use Rattle.base.specs.Prelude.{ℕ, _+_, _*_, _≤_, arith, _≡_, refl, sym, _∙_, ap, subst, List, [], ⊎-elim}
+use Rattle.model_laws.specs.Types.{Session, HasCommitted, HasAdopted}
+use Rattle.model.specs.Window.{window}
+use Rattle.model.specs.Board.{processAt, idle, opened, maxProcesses, maxRounds}
+use Rattle.model_laws.specs.Windows.{window-least, window-square, window-low}
+use Rattle.model_rule.specs.Event.{Proposed}
+use Rattle.model_poll.specs.declared.Answer.{Answer}
+use Rattle.model_poll.specs.declared.Answer.the-variants.{Commits}
+use Rattle.model_poll.specs.Turn.{answerOf, Carries}
+use Rattle.model_poll.specs.Machine.{turns, pollOpening}
+use Rattle.model_poll_rule.specs.Calls.{pollMachine, pollPast, PollCall, pollInputs}
+use Rattle.model_poll_rule.specs.Rule.{EachAsThePollMachine, Stood, Gave, PollRule, PollClaim}
+use Rattle.model_poll_laws.specs.Opening.{poll-opened}
+use Rattle.model_poll_laws.specs.Performs.{answer-cases}
+use Rattle.theory_board.specs.Opening.{same-everywhere}
+use Rattle.theory_poll.specs.Machine.{PollReached, poll-reached, opened-poll-reached, answer-known, answers-agree}
+use Rattle.theory_poll.specs.Unanimous.{AllCalm, machine-calm, opened-calm, Only, calm-answer}
+use Rattle.theory_poll.specs.Calls.{Fresh, followed, held, answers-proposed, shown-given}
+use Rattle.theory_poll.specs.Passes.{taken-pass, calls-taken}
+
+turn-same : {p q : ℕ} → turns p ≡ turns q → p ≡ q
+turn-same e = cc
+
+-- ---- of the machine, at any window W with 2 ≤ W and 4 * n ≤ W * W
+
+module _ {W n : ℕ} {start : Session} (wide : 2 ≤ W) (square : 4 * n ≤ W * W) (i : PollReached W n start []) (fresh : Fresh start) (calm : AllCalm start []) (cs : List PollCall)
+    (each : EachAsThePollMachine W start cs) where
+  abbrev m : Session
+  m = pollMachine W start (pollInputs cs)
+
+  some : 1 ≤ W
+  some = omega arith
+
+  here : PollReached W n m (pollPast W start (pollInputs cs))
+  here = poll-reached some i (pollInputs cs)
+
+  -- The process of a call that gave an answer, with that answer.
+  still : {c : PollCall} {older : List PollCall} (v : ℕ) → Stood c older cs → Carries (c .answer .answer) v →
+      (p : ℕ) × (c .input .operation ≡ turns p) × (answerOf (processAt m p) ≡ c .answer .answer)
+  still v stood has = held W start v each stood has
+
+  kept-answer : {p : ℕ} {a : Answer} (v : ℕ) → Gave p a cs → Carries a v → answerOf (processAt m p) ≡ a
+  kept-answer {p} {a} v gave has =
+      let k = still v (gave .stood) (subst (λ (x : Answer). Carries x v) (sym (gave .answer)) has) in
+      subst (λ (o : ℕ). answerOf (processAt m o) ≡ a) (turn-same (sym (k .1) ∙ gave .own)) (k .2 ∙ gave .answer)
+
+  pub calls-rule : PollRule W start cs m
+  calls-rule =
+      record {
+        validity = λ v stood has. answers-proposed some i v each stood has;
+        agreement =
+            λ u v one other committed has.
+            let a = still v one (rw committed refl) in
+            let b = still u other has in
+            answers-agree here wide square (a .0) (b .0) u v (a .2 ∙ committed) (subst (λ (x : Answer). Carries x u) (sym (b .2)) has);
+        unanimity =
+            λ u v only stood has.
+            let a = still u stood has in
+            sym (a .2) ∙ calm-answer here v only (machine-calm some i calm v (pollInputs cs) only) (a .0) u (subst (λ (x : Answer). Carries x u) (sym (a .2)) has);
+        kept = λ v gave has. kept-answer v gave has;
+        shown = λ p v has. shown-given some i fresh cs each p v has;
+        onePass = λ p. taken-pass here p _ (calls-taken some i fresh cs each p) .0;
+        working = λ p active. taken-pass here p _ (calls-taken some i fresh cs each p) .1 active;
+      }
+
+-- ---- of the calls
+
+-- A poll just opened is fresh.
+opened-fresh : (W n : ℕ) → Fresh (opened n W)
+unfolding opened
+opened-fresh W n p = same-everywhere maxProcesses p idle
+
+pub poll-rule : PollClaim
+poll-rule n ok cs s run =
+    let o = poll-opened n ok in
+    let least = window-least n (o .0) in
+    let wide : 1 ≤ window n = omega arith in
+    let low : window n ≤ maxRounds = omega (arith, window-low n, o .1) in
+    let reached = opened-poll-reached (window n) n (o .0) (o .1) low in
+    let f = followed wide reached (rw (o .2) at run) in
+    rw (o .2)
+    (f .0, f .1, rw (f .1) (calls-rule least (window-square n) reached (opened-fresh (window n) n) (opened-calm (window n) n) cs (f .0)))
