@@ -4,7 +4,7 @@
 # usage: ./build.sh PART..    archive       the library for C: target/staticlib/libjanus.a
 #                             window        the window's function by itself: target/staticlib/libuse_window.a
 #                             reference     the separately written program and what compares the two: target/reference/
-#                             use_report    a program of the crates: target/bin/use_report; likewise use_run, use_bench
+#                             use_report    a program of the crates: target/bin/use_report; likewise use_run, use_poll, use_bench
 set -euo pipefail
 cd "$(dirname "$0")"
 mkdir -p target/built

@@ -9,14 +9,14 @@ use std::path::Path;
 use std::process::{Command, Stdio};
 use std::time::{Duration, Instant};
 
-use janus_reference::{Counts, Session};
+use janus_reference::{Counts, Poll, Session};
 
 const CALLS: u32 = 200_000;
 const ROUNDS: usize = 11;
 const ACCEPTED: &str = "no call is refused";
 
 /// The operations by number.
-const OPERATIONS: [&str; 10] = [
+const OPERATIONS: [&str; 11] = [
     "open",
     "propose",
     "step, hint no",
@@ -27,6 +27,7 @@ const OPERATIONS: [&str; 10] = [
     "process_record",
     "decision",
     "standing_values",
+    "turn of a poll, L 7",
 ];
 
 /// A session in which all processes but the last have proposed.
@@ -77,12 +78,31 @@ fn called(operation: u8, count: u32) -> u32 {
     }
 }
 
+/// Operation 10, likewise: a turn of a poll in which all processes but the last have proposed.
+fn turned(count: u32) -> u32 {
+    let mut poll = Poll::open(8).expect(ACCEPTED);
+    for process in 0..7 {
+        poll.propose(process, 1 + process as u32).expect(ACCEPTED);
+    }
+    let record = poll.voters[0];
+    for i in 0..count {
+        poll.registers.values[(i % 7) as usize] = 1 + i % 8;
+        let mut counts = Counts::default();
+        black_box(black_box(&mut poll).step(0, &mut counts).expect(ACCEPTED));
+        black_box(counts);
+        poll.voters[0] = record;
+    }
+    poll.registers.values[(count % 7) as usize]
+}
+
 /// The separate program's side: standard input to standard output.
 pub fn answer() {
     let mut asked = [0; 5];
     std::io::stdin().read_exact(&mut asked).expect("five bytes are told");
     let [operation, count @ ..] = asked;
-    print!("{}", called(operation, u32::from_le_bytes(count)));
+    let count = u32::from_le_bytes(count);
+    let number = if operation < 10 { called(operation, count) } else { turned(count) };
+    print!("{number}");
 }
 
 /// How long a process takes for that many calls, and what it answers.

@@ -36,6 +36,9 @@ SHAPES = {
     "crash": ("seat",),
     "entry": ("kind", "seat", "value"),
 }
+# The first words of the other lines.
+SIZES = ("n", "L")
+RUN = "run"
 
 
 class Wrong(Exception):
@@ -62,35 +65,62 @@ def part(what, word):
     return HINTS[word]
 
 
-def entry(words):
-    """The six bytes of one entry, from the words of its line."""
+def entry(words, kinds=KINDS, shapes=SHAPES, others=(*SIZES, RUN)):
+    """The six bytes of one entry, from the words of its line; the other lines begin with `others`."""
     name, *rest = words
-    shape = SHAPES.get(name)
+    shape = shapes.get(name)
     if shape is None:
-        raise Wrong(f"{name} is none of n, L, run, {', '.join(SHAPES)}")
+        raise Wrong(f"{name} is none of {', '.join([*others, *shapes])}")
     if len(rest) != len(shape):
         raise Wrong(f"{name} takes {' '.join(shape).upper()}, not {' '.join(rest) or 'nothing'}")
     parts = {what: part(what, word) for what, word in zip(shape, rest)}
-    kind = parts.get("kind", KINDS.get(name))
+    kind = parts.get("kind", kinds.get(name))
     return struct.pack("<BBI", kind, parts["seat"], parts.get("value", parts.get("hint", 0)))
 
 
-class List:
-    """What the lines say so far: the two sizes and the bytes of each run."""
+class Lines:
+    """What the lines of a text say so far: its sizes. What to do with the other lines, `add` says."""
 
-    def __init__(self):
-        self.sizes, self.runs = {}, []
+    def __init__(self, sizes):
+        self.sizes = dict.fromkeys(sizes)
 
     def take(self, words):
         """Takes in the words of one line."""
         name, *rest = words
-        if name in ("n", "L"):
-            if name in self.sizes:
-                raise Wrong(f"{name} is given twice")
-            if len(rest) != 1:
-                raise Wrong(f"{name} takes one number, not {' '.join(rest) or 'nothing'}")
-            self.sizes[name] = number(name, rest[0])
-        elif words == ["run"]:
+        if name not in self.sizes:
+            self.add(words)
+            return
+        if self.sizes[name] is not None:
+            raise Wrong(f"{name} is given twice")
+        if len(rest) != 1:
+            raise Wrong(f"{name} takes one number, not {' '.join(rest) or 'nothing'}")
+        self.sizes[name] = number(name, rest[0])
+
+    def read(self, text):
+        """Takes in a whole text: the sizes."""
+        for place, line in enumerate(re.split("\r\n|\n|\r", text), 1):
+            words = line.split("#")[0].split()
+            try:
+                if words:
+                    self.take(words)
+            except Wrong as wrong:
+                raise Wrong(f"line {place}: {wrong}") from None
+        for name, size in self.sizes.items():
+            if size is None:
+                raise Wrong(f"there is no line {name}; {' and '.join(self.sizes)} must be given")
+        return self.sizes.values()
+
+
+class List(Lines):
+    """A list's lines: the sizes and the bytes of each run."""
+
+    def __init__(self):
+        super().__init__(SIZES)
+        self.runs = []
+
+    def add(self, words):
+        """Takes in an entry, or a line that begins a run."""
+        if words == [RUN]:
             self.runs.append(b"")
         else:
             added = entry(words)
@@ -114,17 +144,7 @@ def sheet(n, limit, runs):
 def listed(text):
     """What a list's text gives: n, L and the bytes of each run."""
     lines = List()
-    for place, line in enumerate(re.split("\r\n|\n|\r", text), 1):
-        words = line.split("#")[0].split()
-        try:
-            if words:
-                lines.take(words)
-        except Wrong as wrong:
-            raise Wrong(f"line {place}: {wrong}") from None
-    for name in ("n", "L"):
-        if name not in lines.sizes:
-            raise Wrong(f"there is no line {name}; n and L are both needed")
-    return lines.sizes["n"], lines.sizes["L"], lines.runs
+    return *lines.read(text), lines.runs
 
 
 def read(name):
@@ -143,48 +163,52 @@ def write(name, data):
         raise Wrong(f"{shown(name, 'standard output')}: {error.strerror}") from None
 
 
-def convert(source, target):
-    """Makes the sheet of one list; what goes wrong is raised in words."""
-    try:
-        if "-" not in (source, target) and os.path.exists(target) and os.path.samefile(source, target):
-            raise Wrong("it cannot be the list and the sheet at once")
-        data = sheet(*listed(read(source)))
-    except UnicodeDecodeError:
-        raise Wrong(f"{shown(source)}: this is no text in UTF-8, so no list of lines") from None
-    except OSError as error:
-        raise Wrong(f"{shown(source)}: {error.strerror}") from None
-    except Wrong as wrong:
-        raise Wrong(f"{shown(source)}: {wrong}") from None
-    write(target, data)
-
-
 def shown(name, standard="standard input"):
     """A file's name as it is told."""
     return standard if name == "-" else name
 
 
-def main(arguments):
-    """The exit code: 0, 1 for a list, file or disk that will not do, 2 for wrong arguments."""
-    if len(arguments) == 1 and arguments[0] in ("--help", "-h"):
-        return told(lambda: write("-", f"{__doc__.strip()}\n".encode()))
-    if len(arguments) > 2 or any(word.startswith("-") and word != "-" for word in arguments):
-        print(f"sheet.py: {' '.join(arguments)}: a list and a sheet are named at most; try --help", file=sys.stderr)
-        return 2
-    source, target = (arguments + ["-", "-"])[:2]
-    return told(lambda: convert(source, target))
+class Program:
+    """A program that makes something of a text: its name and help, its words for the two, and what makes the one of the other."""
 
+    def __init__(self, name, usage, text, made, make):
+        self.name, self.usage, self.text, self.made, self.make = name, usage, text, made, make
 
-def told(act):
-    """Does it, and tells what goes wrong in a line: the exit code."""
-    try:
-        act()
-    except Wrong as wrong:
-        print(f"sheet.py: {wrong}", file=sys.stderr)
-        return 1
-    except KeyboardInterrupt:
-        return 130
-    return 0
+    def convert(self, source, target):
+        """Makes of one text what is to be made; what goes wrong is raised in words."""
+        try:
+            if "-" not in (source, target) and os.path.exists(target) and os.path.samefile(source, target):
+                raise Wrong(f"it cannot be the {self.text} and the {self.made} at once")
+            data = self.make(read(source))
+        except UnicodeDecodeError:
+            raise Wrong(f"{shown(source)}: this is no text in UTF-8, so no list of lines") from None
+        except OSError as error:
+            raise Wrong(f"{shown(source)}: {error.strerror}") from None
+        except Wrong as wrong:
+            raise Wrong(f"{shown(source)}: {wrong}") from None
+        write(target, data)
+
+    def told(self, act):
+        """Does it, and tells what goes wrong in a line: the exit code."""
+        try:
+            act()
+        except Wrong as wrong:
+            print(f"{self.name}: {wrong}", file=sys.stderr)
+            return 1
+        except KeyboardInterrupt:
+            return 130
+        return 0
+
+    def main(self, arguments):
+        """The exit code: 0, 1 for a text, file or disk that will not do, 2 for wrong arguments."""
+        if len(arguments) == 1 and arguments[0] in ("--help", "-h"):
+            return self.told(lambda: write("-", f"{self.usage.strip()}\n".encode()))
+        if len(arguments) > 2 or any(word.startswith("-") and word != "-" for word in arguments):
+            print(f"{self.name}: {' '.join(arguments)}: a {self.text} and its {self.made} are named at most; try --help", file=sys.stderr)
+            return 2
+        source, target = (arguments + ["-", "-"])[:2]
+        return self.told(lambda: self.convert(source, target))
 
 
 if __name__ == "__main__":
-    sys.exit(main(sys.argv[1:]))
+    sys.exit(Program("sheet.py", __doc__, "list", "sheet", lambda text: sheet(*listed(text))).main(sys.argv[1:]))

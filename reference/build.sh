@@ -1,7 +1,8 @@
 #!/bin/sh
-# Builds the reference program and its unit tests into target/reference/ and
-# runs the tests. With the path of a libjanus.a it also builds the programs that
-# compare that library with the reference: differential and writes.
+# Builds the reference program, its unit tests and polls, which compares it with
+# the program use_poll, into target/reference/ and runs the tests. With the path
+# of a libjanus.a it also builds the programs that compare that library with the
+# reference: differential and writes.
 #
 # usage: reference/build.sh [LIBRARY]
 set -eu
@@ -22,6 +23,7 @@ uses="--extern janus_reference=$out/libjanus_reference.rlib"
 build --crate-type rlib --crate-name janus_reference \
     reference/src/lib.rs -o "$out/libjanus_reference.rlib"
 build --crate-name reference $uses reference/src/main.rs -o "$out/reference"
+build --crate-name polls $uses reference/polls.rs -o "$out/polls"
 build --test --crate-name tests reference/src/lib.rs -o "$out/tests"
 if [ -n "$library" ]; then
     for program in differential writes; do

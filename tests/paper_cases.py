@@ -1,30 +1,31 @@
 #!/usr/bin/env python3
-"""Holds docs/PAPER-CASES.md and its picture to the rules and to the trace of the separately written program.
+"""Holds docs/PAPER-CASES.md, its picture and the sample polls to the rules and to the separately written program.
 
-    paper_cases.py check     fails if a table differs, or an arrow of the picture
-    paper_cases.py write     writes the tables anew
+    paper_cases.py check     fails if a table differs, an arrow of the picture, or the text of a poll
+    paper_cases.py write     writes the tables and the texts anew
 
-A table stands between `<!-- NAME -->` and `<!-- end -->`. `rules`, `turns`, `refusals`, `counts` and `windows` are
-made of paper_rules.py; `case NAME` has the turns of examples/NAME.sheet, played by those rules, and each of its lines must be the
-trace's; `form` is the same table with nothing in it. In docs/walk.svg a box is an element with data-stance, an arrow one with
-data-from and data-to; boxes, arrows and their words must be those of the rules.
+A table stands between `<!-- NAME -->` and `<!-- end -->`. `rules`, `turns`, `refusals`, `counts`, `windows`, `poll-rules` and
+`poll-refusals` are made of paper_rules.py; `case NAME` has the turns of examples/NAME.sheet, played by those rules, and each of its
+lines must be the trace's; `form` is the same table with nothing in it; `poll NAME` has the turns of examples/NAME.poll, played by
+the rules of a poll. The text of each examples/NAME.poll as it is played, answers, counts, registers and seats, stands in
+examples/NAME.out and must be the separately written program's. In docs/walk.svg a box is an element with data-stance, an arrow one
+with data-from and data-to; boxes, arrows and their words must be those of the rules.
 """
 import re
-import subprocess
 import sys
 import xml.etree.ElementTree
-from pathlib import Path
+from itertools import zip_longest
 
 sys.dont_write_bytecode = True
-from paper_lists import LISTS
-from paper_play import HEADS, ROWS, Play, Turn, numbered, shown
-from paper_rules import COUNTS, MOST_SEATS, REFUSALS, RULES, STANCES, WINDOW, window
+from paper_lists import LISTS, POLLS, ROOT, poll, poll_texts, printed
+from paper_play import POLL, SESSION, Play, Poll, Turn, shown
+from paper_rules import COUNTS, MOST_SEATS, NEVER_IN_POLLS, RULES, STANCES, WINDOW, window
 
-ROOT = Path(__file__).resolve().parent.parent
+EXAMPLES = ROOT / "examples"
 PAGE = ROOT / "docs" / "PAPER-CASES.md"
 PICTURE = ROOT / "docs" / "walk.svg"
-PROGRAM = ROOT / "target" / "reference" / "reference"
-MARKED = re.compile(r"(<!-- (rules|turns|refusals|counts|windows|form|case \w+) -->\n)(.*?)(<!-- end -->)", re.S)
+MARKED = re.compile(r"(<!-- ([\w-]+(?: \w+)?) -->\n)(.*?)(<!-- end -->)", re.S)
+RULE_HEAD = ["Rule", "Stands at", "Turn", "Do", "If", "Then stands at"]
 CASE_HEAD = ["Turn", "Seat and turn", "Rule", "Read or written", "T", "C", "D", "Stands at", "r", "Own"]
 CASE_HEAD += [count.capitalize() for count, _, _ in COUNTS]
 NOTHING = "·"
@@ -44,16 +45,30 @@ def bold(then):
     return {"go on": "*go on*", "as before": "as before"}.get(stance, f"**{stance}**") + rest
 
 
-def rules_table():
-    """What a turn does: a line for each thing that may be found."""
-    rows = []
-    for first, (at, turn, when, does, outcomes) in numbered():
-        turn = "the same turn" if at == "go on" else ", ".join(filter(None, [turn, when]))
-        cells = ["*go on*" if at == "go on" else at, turn, does or "nothing"]
+def rule_lines(rules):
+    """A line for each thing that may be found."""
+    for first, (at, turn, when, does, outcomes) in rules.numbered():
+        turn = "the same turn" if at == "go on" else ", ".join(filter(None, [rules.words(turn), when]))
         for number, (found, then) in enumerate(outcomes, first):
-            rows.append([number, *cells, found, bold(then)])
-            cells = ["", "", ""]
-    return table(["Rule", "Stands at", "Turn", "Do", "If", "Then stands at"], rows)
+            yield [number, "*go on*" if at == "go on" else at, turn, does or "nothing", found, bold(then)]
+
+
+def rules_table():
+    """What a turn does. Where the seat, the turn and what is done are those of the line above, their cells are empty."""
+    rows, above = [], None
+    for number, *cells, found, then in rule_lines(SESSION):
+        rows.append([number, *(cells if cells != above else [""] * len(cells)), found, then])
+        above = cells
+    return table(RULE_HEAD, rows)
+
+
+def poll_rules_table():
+    """What a turn of a poll does, where that differs from what a session's does."""
+    in_sessions = {number: rest for number, _, _, *rest in rule_lines(SESSION)}
+    changed = [line for line in rule_lines(POLL) if line[3:] != in_sessions[line[0]]]
+    *first, last = NEVER_IN_POLLS
+    never = f"Rules {', '.join(map(str, first))} and {last} are never taken"
+    return f"{never}, and these take the place of those with the same numbers:\n\n" + table(RULE_HEAD, changed)
 
 
 def answer(head, turn):
@@ -63,19 +78,19 @@ def answer(head, turn):
     refused = play.refused(Turn(play, f"{turn} 0 1"))
     if refused:
         return f"refused with {refused[1]}"
-    numbers = [outcome[0] for row in ROWS[head, turn] for outcome in row.outcomes]
+    numbers = [outcome[0] for row in SESSION.rows[head, turn] for outcome in row.outcomes]
     return {1: "rule {}", 2: "rules {} and {}"}.get(len(numbers), f"rules {{}} to {numbers[-1]}").format(*numbers)
 
 
 def turns_table():
     """Which rules there are for each stance and turn; what is refused."""
-    kinds = list(dict.fromkeys(turn for _, turn, _, _, _ in RULES))
-    return table(["Stands at", *kinds], [[stance, *[answer(head, kind) for kind in kinds]] for stance, head in zip(STANCES, HEADS)])
+    kinds = SESSION.kinds
+    return table(["Stands at", *kinds], [[stance, *[answer(head, kind) for kind in kinds]] for stance, head in zip(STANCES, SESSION.heads)])
 
 
-def refusals_table():
+def refusals_table(rules=SESSION):
     """What a refused turn gets."""
-    return table(["Refused with", "Turn", "If"], REFUSALS)
+    return table(["Refused with", "Turn", "If"], [[number, rules.words(turns), met] for number, turns, met in rules.refusals])
 
 
 def counts_table():
@@ -98,8 +113,7 @@ def windows_table():
 
 def trace(sheet):
     """The columns of each line that the separately written program traces."""
-    run = subprocess.run([PROGRAM, "trace"], input=sheet, capture_output=True, check=True)
-    return [[part.strip() for part in line.split("|")] for line in run.stdout.decode().splitlines()]
+    return [[part.strip() for part in line.split("|")] for line in printed("trace", sheet)]
 
 
 def columns(board):
@@ -123,7 +137,7 @@ def played(play, words):
 
 def case_table(name):
     """A case, played by the rules; each line must be the trace's."""
-    sheet = (ROOT / "examples" / f"{name}.sheet").read_bytes()
+    sheet = (EXAMPLES / f"{name}.sheet").read_bytes()
     play, rows = Play(sheet[0], int.from_bytes(sheet[2:4], "little")), []
     for index, words, *expected in trace(sheet):
         line, told = played(play, words)
@@ -131,6 +145,28 @@ def case_table(name):
             sys.exit(f"paper cases: {name}, turn {index}, {words}: the rules give {told}, the trace {expected}")
         rows.append([index, *line])
     return table(CASE_HEAD, rows)
+
+
+def played_poll(name):
+    """A sample poll, played by the rules: the page's lines, and its text, which must be the separately written program's."""
+    n, operations = poll.listed((EXAMPLES / f"{name}.poll").read_text(encoding="utf-8"))
+    play = Poll(n)
+    rows = [[index, *played(play, " ".join(words))[0]] for index, words in enumerate(operations)]
+    [expected] = poll_texts([poll.poll(n, operations)])
+    for ours, theirs in zip_longest(play.text(), expected):
+        if ours != theirs:
+            sys.exit(f"paper cases: {name}: the rules give {ours}, the separately written program {theirs}")
+    return rows, "".join(f"{line}\n" for line in play.text())
+
+
+def poll_table(name):
+    """A poll, played by the rules."""
+    return table(CASE_HEAD, played_poll(name)[0])
+
+
+def poll_outs():
+    """The text of each sample poll, and the file that it stands in."""
+    return {path.with_suffix(".out"): played_poll(path.stem)[1] for path in sorted(EXAMPLES.glob("*.poll"))}
 
 
 def form_table():
@@ -152,6 +188,9 @@ TABLES = {
     "windows": windows_table,
     "form": form_table,
     "case": case_table,
+    "poll-rules": poll_rules_table,
+    "poll-refusals": lambda: refusals_table(POLL),
+    "poll": poll_table,
 }
 
 
@@ -204,17 +243,23 @@ def main():
     page = PAGE.read_text(encoding="utf-8")
     names = [name for _, name, _, _ in MARKED.findall(page)]
     new = MARKED.sub(lambda m: m[1] + "\n" + made(m[2]) + "\n" + m[4], page)
+    texts = {PAGE: new, **poll_outs()}
     if sys.argv[1:] == ["write"]:
-        PAGE.write_text(new, encoding="utf-8")
-    elif new != page:
-        sys.exit("paper cases: docs/PAPER-CASES.md differs from the rules or the trace; `tests/paper_cases.py write` writes it anew")
-    cases = [name for name in names if name.startswith("case")]
-    missing = set(TABLES) - {name.split()[0] for name in names}
+        for path, text in texts.items():
+            path.write_text(text, encoding="utf-8")
+    for path, text in texts.items():
+        if not path.exists() or path.read_text(encoding="utf-8") != text:
+            sys.exit(f"paper cases: {path.relative_to(ROOT)} differs from the rules or the trace; `tests/paper_cases.py write` writes it anew")
+    kinds = [name.split()[0] for name in names]
+    missing = set(TABLES) - set(kinds)
     if missing:
         sys.exit(f"paper cases: the page lacks {', '.join(missing)}")
-    if f"{LISTS:,} random lists" not in page:
-        sys.exit(f"paper cases: the page does not speak of {LISTS:,} random lists")
-    print(f"paper cases: {len(cases)} cases are the trace's, {len(names) - len(cases)} tables and {check_picture()} arrows the rules'")
+    for random in f"{LISTS:,} random lists", f"{POLLS:,} random polls":
+        if random not in page:
+            sys.exit(f"paper cases: the page does not speak of {random}")
+    cases, polls = kinds.count("case"), kinds.count("poll")
+    print(f"paper cases: {cases} cases are the trace's, {polls} of a poll and {len(texts) - 1} polls' texts the program's, "
+          f"{len(kinds) - cases - polls} tables and {check_picture()} arrows the rules'")
 
 
 if __name__ == "__main__":

@@ -1,10 +1,13 @@
 #!/usr/bin/env python3
-"""Plays random lists by the rules of docs/PAPER-CASES.md and compares each line with the separately written program's trace.
+"""Plays random lists and random polls by the rules of docs/PAPER-CASES.md and compares each line with what the separately written
+program has: the trace of a list, the text of a poll.
 
-    paper_lists.py [LISTS [SEED]]
+    paper_lists.py [LISTS [SEED]]      and a third as many polls
 
-Every rule and every refusal must be met, and marks of rounds that are unmarked and of rounds that are marked. Each list must leave as
-many rounds marked as contested says. Seats must become spent by turns with hint no, and take a further turn. The windows must be the
+Every rule and every refusal must be met, and marks of rounds that are unmarked and of rounds that are marked. Each list and each poll
+must leave as many rounds marked as contested says. Seats must become spent by turns with hint no, and take a further turn. In polls too
+every rule and every refusal must be met, but for the rules that the page says are never taken; every answer must be a number that
+was proposed, the same for all seats where one has committed, and committed where all propose the same. The windows must be the
 program's for every n.
 """
 import random
@@ -17,33 +20,41 @@ ROOT = Path(__file__).resolve().parent.parent
 PROGRAM = ROOT / "target" / "reference" / "reference"
 sys.dont_write_bytecode = True
 sys.path.append(str(ROOT / "examples"))
+import poll
 import sheet
-from paper_play import Play
-from paper_rules import COUNTS, MOST_SEATS, REFUSALS, RULES, window
+from paper_play import POLL, SESSION, Play, Poll
+from paper_rules import ANSWERS, COUNTS, MOST_SEATS, NEVER_IN_POLLS, window
 
 LISTS, SEED = 3000, 1
+POLLS = LISTS // 3
 MOST_TURNS = 130
 
 
 class Composer:
     """Makes up a list of turns while it is played, most of them legal."""
 
+    waking = "check-value"
+
     def __init__(self, chance):
         self.chance, n = chance, chance.randint(1, 6)
-        self.play = Play(n, window(n) + chance.choice([0, 0, 1, 2]))
+        self.play = self.opened(n)
         self.turns, self.lines = [], []
         self.burst, self.seat = chance.choice([1, 2, 5, 30]), 0
         self.odds = chance.choice([0, 0.02, 0.1]), chance.choice([0, 0, 0.01]), chance.choice([0, 0, 0.05, 0.4])
         self.asleep = chance.randrange(n) if chance.random() < 0.5 else None
         self.spent, self.later = set(), 0
 
+    def opened(self, n):
+        """The board that the turns are played on."""
+        return Play(n, window(n) + self.chance.choice([0, 0, 1, 2]))
+
     def next_seat(self):
-        """Now and then another seat. One that is asleep stays at put until another one checks, so that it writes late."""
+        """Now and then another seat. One that is asleep stays at put until another one stands where it wakes, so that it writes late."""
         if self.chance.random() * self.burst < 1:
             self.seat = self.chance.randrange(self.play.n)
         if self.asleep is not None and self.play.seats[self.asleep].head == "put":
-            checked = self.play.seats[self.seat].head == "check-value" and self.chance.random() < 0.2
-            if checked:
+            woken = self.play.seats[self.seat].head == self.waking and self.chance.random() < 0.2
+            if woken:
                 self.seat, self.asleep = self.asleep, None
             elif self.seat == self.asleep:
                 self.seat = (self.seat + 1) % self.play.n
@@ -51,9 +62,13 @@ class Composer:
     def words(self):
         """Some turn of the seat whose turn it is."""
         self.next_seat()
-        look, crash, no = self.odds
         if self.play.seats[self.seat].head == "out":
             return f"propose {self.seat} {self.chance.randint(1, 3)}"
+        return self.words_after_proposal()
+
+    def words_after_proposal(self):
+        """Some turn of a seat that has proposed."""
+        look, crash, no = self.odds
         dice = self.chance.random()
         if dice < look:
             return f"look {self.seat}"
@@ -63,7 +78,7 @@ class Composer:
 
     def any_words(self):
         """Any turn at all, of a seat that may not be there."""
-        seat, kind = self.chance.randint(0, self.play.n), self.chance.choice(["propose", "work", "look", "crash"])
+        seat, kind = self.chance.randint(0, self.play.n), self.chance.choice(list(self.play.rules.kinds))
         rest = {"propose": [self.chance.randint(0, 1)], "work": [self.chance.choice(["yes", "no"])]}.get(kind, [])
         return " ".join(map(str, [kind, seat, *rest]))
 
@@ -109,12 +124,48 @@ class Composer:
         return sheet.sheet(self.play.n, self.play.limit, [entries])
 
 
+class PollComposer(Composer):
+    """Makes up a poll, in which a refused turn ends nothing. One that is asleep may sleep until another one has committed."""
+
+    def opened(self, n):
+        self.waking = self.chance.choice(["check-value", "committed"])
+        return Poll(n)
+
+    def words_after_proposal(self):
+        _, crash, _ = self.odds
+        return f"{'crash' if self.chance.random() < crash else 'turn'} {self.seat}"
+
+    def compose(self):
+        """The whole poll: turns that are not refused, to the answers of most seats, and some that may be."""
+        for _ in range(self.chance.randrange(3 * MOST_TURNS * self.play.n)):
+            words = self.words()
+            if self.play.legal(words):
+                self.add(words)
+            elif self.chance.random() < 0.02:
+                self.add(self.any_words())
+        self.lines = self.play.text()
+        return self
+
+    def add(self, words):
+        """Plays one turn."""
+        self.turns.append(words)
+        self.play.turn(words)
+
+    def poll(self):
+        """The poll's bytes."""
+        return poll.poll(self.play.n, [words.split() for words in self.turns])
+
+
+def printed(what, data):
+    """The lines that the program prints of the data."""
+    return subprocess.run([PROGRAM, what], input=data, capture_output=True, check=True).stdout.decode().splitlines()
+
+
 def traces(sheets):
     """The program's trace of each sheet."""
     data = b"".join(len(one).to_bytes(2, "little") + one for one in sheets)
-    run = subprocess.run([PROGRAM, "traces"], input=data, capture_output=True, check=True)
     found = [[]]
-    for line in run.stdout.decode().splitlines():
+    for line in printed("traces", data):
         if line:
             found[-1].append(line)
         else:
@@ -122,26 +173,36 @@ def traces(sheets):
     return found[:-1]
 
 
-def compare(lists):
-    """Fails at the first line that differs."""
-    for number, (one, expected) in enumerate(zip(lists, traces([one.sheet() for one in lists]), strict=True)):
+def poll_texts(polls):
+    """The program's text of each poll."""
+    found = []
+    for line in printed("polls", b"".join(polls)):
+        if line.startswith("poll "):
+            found.append([])
+        found[-1].append(line)
+    return found
+
+
+def compare(what, lists, found):
+    """Fails at the first line that differs from what the program has."""
+    for number, (one, expected) in enumerate(zip(lists, found, strict=True)):
         for ours, theirs in zip(one.lines + ["the end"], expected + ["the end"]):
             if ours != theirs:
                 turns = "\n".join([f"n {one.play.n}", f"L {one.play.limit}", *one.turns])
-                sys.exit(f"paper lists: list {number}\n{turns}\nby the rules {ours}\nby the trace {theirs}")
+                sys.exit(f"paper lists: {what} {number}\n{turns}\nby the rules {ours}\nby the program {theirs}")
 
 
-def check_used(lists):
-    """Fails if a rule or a refusal was never met."""
-    rules = Counter(rule for one in lists for rule in one.play.used)
+def check_used(lists, rules, never=()):
+    """Fails if a rule or a refusal was never met, or a rule that is never to be met was."""
+    used = Counter(rule for one in lists for rule in one.play.used)
     refusals = Counter(refusal for one in lists for refusal in one.play.refusals)
-    for rule in range(1, sum(len(row[4]) for row in RULES) + 1):
-        if not rules[rule]:
-            sys.exit(f"paper lists: rule {rule} was never used")
-    for place, row in enumerate(REFUSALS):
+    for rule in range(1, sum(len(row[4]) for row in rules.rules) + 1):
+        if (rule in never) != (used[rule] == 0):
+            sys.exit(f"paper lists: rule {rule} was used {used[rule]} times")
+    for place, row in enumerate(rules.refusals):
         if not refusals[place]:
             sys.exit(f"paper lists: this refusal was never met: {row}")
-    return len(rules), len(refusals), min(rules.values())
+    return len(used), len(refusals), min(used.values())
 
 
 def check_marks(lists):
@@ -166,6 +227,22 @@ def check_spent(lists):
     return spent, later
 
 
+def check_answers(polls):
+    """Fails if an answer was not proposed, answers differ where a seat has committed, one is adopted where all propose the same number,
+    or few polls have both answers."""
+    both = 0
+    for number, one in enumerate(polls):
+        answers = [seat for seat in one.play.seats if seat.head in ANSWERS]
+        values, heads = {seat.own for seat in answers}, {seat.head for seat in answers}
+        proposed = {int(line.split()[2]) for line in one.lines if line.startswith("propose") and line.endswith(" 0")}
+        if not values <= proposed or "committed" in heads and len(values) > 1 or len(proposed) == 1 and "adopted" in heads:
+            sys.exit(f"paper lists: poll {number}: proposed {proposed}, answers {[str(seat) for seat in answers]}")
+        both += len(heads) == len(ANSWERS)
+    if both * 50 < len(polls):
+        sys.exit(f"paper lists: {both} polls with both answers are too few")
+    return both
+
+
 def check_windows():
     """Fails unless W is the least L that the program opens, for every n."""
     sizes = [(n, window(n) + less) for n in range(1, MOST_SEATS + 1) for less in (0, -1)]
@@ -174,18 +251,27 @@ def check_windows():
             sys.exit(f"paper lists: n {n}, L {limit}, W {window(n)}: {lines}")
 
 
+def checked(what, lists, found, rules, never=()):
+    """Checks what holds for lists and polls alike, and tells what was met."""
+    compare(what, lists, found)
+    met, refusals, least = check_used(lists, rules, never)
+    first, again = check_marks(lists)
+    turns = sum(len(one.turns) for one in lists)
+    return (f"{len(lists)} {what}s, {turns} turns as the program has them; {met} rules, each {least} times or more; {refusals} refusals; "
+            f"{first} marks of unmarked rounds, {again} of marked ones")
+
+
 def main():
     count, seed = [*map(int, sys.argv[1:]), *[LISTS, SEED][len(sys.argv) - 1:]]
     chance = random.Random(seed)
     lists = [Composer(chance).compose() for _ in range(count)]
-    compare(lists)
-    rules, refusals, least = check_used(lists)
-    first, again = check_marks(lists)
+    told = checked("list", lists, traces([one.sheet() for one in lists]), SESSION)
     spent, later = check_spent(lists)
     check_windows()
-    turns = sum(len(one.turns) for one in lists)
-    print(f"paper lists: {count} lists from seed {seed}, {turns} turns as traced; {rules} rules, each {least} times or more; {refusals} refusals; "
-          f"{first} marks of unmarked rounds, {again} of marked ones; {spent} seats spent by hint no, {later} refused a turn after that")
+    print(f"paper lists: seed {seed}, {told}; {spent} seats spent by hint no, {later} refused a turn after that")
+    polls = [PollComposer(chance).compose() for _ in range(count * POLLS // LISTS)]
+    told = checked("poll", polls, poll_texts([one.poll() for one in polls]), POLL, NEVER_IN_POLLS)
+    print(f"paper lists: {told}; {check_answers(polls)} polls with both answers")
 
 
 if __name__ == "__main__":

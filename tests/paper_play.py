@@ -1,13 +1,13 @@
-"""Plays a list of turns by the rows of paper_rules.py.
+"""Plays a list of turns, or a poll, by the rows of paper_rules.py.
 
 Nothing of the board's rules stands here: only what each word of a row does. A row with other words is an error when this is
-loaded. Lines come out as the separately written program traces them (reference/src/trace.rs).
+loaded. Lines come out as the separately written program traces them (reference/src/trace.rs); a poll's are the text that the
+program use_poll writes.
 """
 import re
 
-from paper_rules import COUNTS, REFUSALS, RULES, STANCES, window
+from paper_rules import ANSWERS, COUNTS, POLL_REFUSALS, POLL_RULES, POLL_STANCES, POLL_TURNS, REFUSALS, RULES, STANCES, window
 
-HEADS = [stance.split()[0] for stance in STANCES]
 BLANK = {"T": 0, "C": False, "D": 0}
 
 
@@ -15,7 +15,7 @@ class Seat:
     """A seat's record: the stance's word, the number with it, the round, the own value."""
 
     def __init__(self):
-        self.head, self.place, self.round, self.own = HEADS[0], None, 0, 0
+        self.head, self.place, self.round, self.own = "out", None, 0, 0
 
     def stance(self):
         """The stance with its number."""
@@ -29,8 +29,8 @@ class Turn:
     """One turn while it is played: the numbers that a row's words name, and the register operation made."""
 
     def __init__(self, play, words):
-        self.kind, seat, *self.rest = words.split()
-        self.play, seat = play, int(seat)
+        word, seat, *self.rest = words.split()
+        self.kind, self.play, seat = play.rules.kinds[word], play, int(seat)
         self.seat = play.seats[seat] if seat < play.n else None
         self.number = int(self.rest[0]) if self.kind == "propose" else None
         self.found, self.register, self.made = None, "none", []
@@ -178,14 +178,14 @@ def actions(words):
     return [matched(part, DONE) for part in words.split("; ") if part]
 
 
-def stands(words):
+def stands(words, rules):
     """What moves a seat to the stance that the words name; `go on` is followed, `as before` moves nothing."""
     if words == "as before":
         return lambda turn: None
     if words == "go on":
-        return lambda turn: ROWS["go on", turn.kind][0].follow(turn)
+        return lambda turn: rules.rows["go on", turn.kind][0].follow(turn)
     head, *number = words.split(" ", 1)
-    assert head in HEADS, words
+    assert head in rules.heads, words
     place = value(number[0]) if number else lambda turn: None
 
     def act(turn):
@@ -210,14 +210,14 @@ def counted(words):
 # ---------------------------------------------------------------- rows
 
 class Row:
-    """One row of RULES, ready to play; its outcomes are numbered on through the table."""
+    """One row of the rules, ready to play; its outcomes are numbered on through the table."""
 
-    def __init__(self, first, row):
+    def __init__(self, first, row, rules):
         _, _, when, does, outcomes = row
         self.fits, self.does, self.outcomes = condition(when), actions(does), []
         for number, (found, then) in enumerate(outcomes, first):
             stance, _, rest = then.partition("; ")
-            self.outcomes.append((number, condition(found), stands(stance), actions(rest)))
+            self.outcomes.append((number, condition(found), stands(stance, rules), actions(rest)))
 
     def follow(self, turn):
         """Does what the row says, then what its first fitting outcome says."""
@@ -230,45 +230,54 @@ class Row:
         move(turn)
 
 
-def heads(at):
-    """The stances that a row is for, `A to B` being all from A to B."""
-    for part in at.split(", "):
-        first, *last = part.split(" to ")
-        if first == "go on":
-            yield first
-            continue
-        head = HEADS.index(first.split()[0])
-        yield from HEADS[head:HEADS.index(last[0]) + 1 if last else head + 1]
+class Rules:
+    """The rules of a session or of a poll, ready to play."""
+
+    def __init__(self, stances, rules, refusals, kinds=None):
+        self.rules, self.refusals = rules, refusals
+        self.heads = [stance.split()[0] for stance in stances]
+        self.kinds = kinds or {turn: turn for _, turn, _, _, _ in rules}
+        self.rows = {}
+        for first, row in self.numbered():
+            made = Row(first, row, self)
+            for head in self.heads_of(row[0]):
+                self.rows.setdefault((head, row[1]), []).append(made)
+        self.refused = {
+            kind: [(place, row[0], condition(row[2])) for place, row in enumerate(refusals) if kind in row[1].split(", ")]
+            for kind in self.kinds.values()
+        }
+
+    def numbered(self):
+        """Each row with the number of its first outcome."""
+        first = 1
+        for row in self.rules:
+            yield first, row
+            first += len(row[4])
+
+    def heads_of(self, at):
+        """The stances that a row is for, `A to B` being all from A to B."""
+        for part in at.split(", "):
+            first, *last = part.split(" to ")
+            if first == "go on":
+                yield first
+                continue
+            head = self.heads.index(first.split()[0])
+            yield from self.heads[head:self.heads.index(last[0]) + 1 if last else head + 1]
+
+    def words(self, kinds):
+        """The words of a list for those turns."""
+        return ", ".join(word for word, kind in self.kinds.items() if kind in kinds.split(", "))
 
 
-def numbered():
-    """Each row of RULES with the number of its first outcome."""
-    first = 1
-    for row in RULES:
-        yield first, row
-        first += len(row[4])
-
-
-def rows():
-    """The rows by stance and turn."""
-    found = {}
-    for first, row in numbered():
-        made = Row(first, row)
-        for head in heads(row[0]):
-            found.setdefault((head, row[1]), []).append(made)
-    return found
-
-
-ROWS = rows()
-REFUSED = {
-    kind: [(place, row[0], condition(row[2])) for place, row in enumerate(REFUSALS) if kind in row[1].split(", ")]
-    for _, kind in ROWS
-}
+SESSION = Rules(STANCES, RULES, REFUSALS)
+POLL = Rules(POLL_STANCES, POLL_RULES, POLL_REFUSALS, POLL_TURNS)
 COUNTED = [counted(made) for _, made, _ in COUNTS]
 
 
 class Play:
     """A board with its seats, and the turns played on it."""
+
+    rules = SESSION
 
     def __init__(self, n, limit):
         self.n, self.limit, self.window = n, limit, window(n)
@@ -278,8 +287,8 @@ class Play:
         self.used, self.refusals, self.made = [], [], []
 
     def refused(self, turn):
-        """The row of REFUSALS that a turn meets, or None."""
-        return next((row for row in REFUSED[turn.kind] if row[2](turn)), None)
+        """The row of the refusals that a turn meets, or None."""
+        return next((row for row in self.rules.refused[turn.kind] if row[2](turn)), None)
 
     def legal(self, words):
         """Whether a turn would not be refused."""
@@ -292,8 +301,52 @@ class Play:
         if refused:
             self.refusals.append(refused[0])
             return f"refused {refused[1]}"
-        next(row for row in ROWS[turn.seat.head, turn.kind] if row.fits(turn)).follow(turn)
+        next(row for row in self.rules.rows[turn.seat.head, turn.kind] if row.fits(turn)).follow(turn)
         self.made += turn.made
         for made in turn.made:
             self.counts = [count + (made in counted) for count, counted in zip(self.counts, COUNTED)]
         return turn.register
+
+
+class Poll(Play):
+    """A poll, and the text that the program use_poll writes of it."""
+
+    rules = POLL
+
+    def __init__(self, n):
+        super().__init__(n, window(n))
+        self.lines = [f"poll {n} 0"]
+
+    def turn(self, words):
+        """Plays one turn, and keeps its line."""
+        register, (word, *numbers) = super().turn(words), words.split()
+        refused = register.startswith("refused")
+        line = [word, *map(int, numbers), register.split()[1] if refused else 0]
+        if word == "turn":
+            given = None if refused else self.answer(numbers[0])
+            line.append(given or "none")
+        self.lines.append(" ".join(map(str, line)))
+        return register
+
+    def answer(self, seat):
+        """The answer that a seat has, or None."""
+        record = self.seats[int(seat)]
+        return f"{record.head} {record.own}" if record.head in ANSWERS else None
+
+    def status(self, seat):
+        """A seat as the text tells it at the end."""
+        record = self.seats[seat]
+        if record.head in ("out", "crashed"):
+            return record.head
+        return self.answer(seat) or f"working {record.round} {record.own}"
+
+    def text(self):
+        """The whole text: the turns played so far, the counts, the registers and the seats."""
+        values, marks = self.board["T"], self.board["C"]
+        rounds = range(1, self.limit + 1)
+        return [
+            *self.lines,
+            " ".join(["tally", *map(str, self.counts)]),
+            *[f"round {r} {values.get(r, BLANK['T'])} {shown(marks.get(r, BLANK['C']))}" for r in rounds],
+            *[f"seat {seat} {self.status(seat)}" for seat in range(self.n)],
+        ]

@@ -1,7 +1,7 @@
 """The rules of docs/PAPER-CASES.md, each written once.
 
 paper_cases.py makes the page's tables of these rows and holds the picture docs/walk.svg to them; paper_lists.py plays random
-lists by them, in these very words (paper_play.py knows what each word does), beside the separately written program.
+lists and polls by them, in these very words (paper_play.py knows what each word does), beside the separately written program.
 
 In the rows r is the seat's round, k or i the number that stands with its stance, n the number of seats, L the round limit and
 W the window.
@@ -108,3 +108,47 @@ def window(n):
     """W for n seats, as WINDOW says it."""
     root = next(root for root in range(n + 1) if root * root >= n)
     return 2 * root + 1
+
+
+# ---------------------------------------------------------------- polls
+
+# A poll is played by the rules above, with L = W. The turns of its list, and which of the turns above each is: there are no looks, and
+# no turn has a hint, so that none has hint no.
+POLL_TURNS = {"propose": "propose", "turn": "work", "crash": "crash"}
+
+# Where a seat stands that has its answer: that word, with the own value.
+ANSWERS = ["committed", "adopted"]
+
+# The two differences: at these stances, what is done (None: as above), and the answer that the seat gets where it would go back to gate.
+POLL_DIFFERENCES = [
+    ("check-mark i, check-value i", None, "adopted"),
+    ("commit", "", "committed"),
+]
+
+
+def poll_rule(rule):
+    """A rule as it is in a poll."""
+    at, turn, when, does, outcomes = rule
+    for stances, done, answer in POLL_DIFFERENCES:
+        if at in stances.split(", "):
+            does = does if done is None else done
+            outcomes = [(found, answer if then == "gate" else then) for found, then in outcomes]
+    return at, turn, when, does, outcomes
+
+
+def poll_refusals():
+    """The refusals of a poll. An answered seat is refused as a decided one is; no seat of a poll is decided, and none spent."""
+    for number, turns, met in REFUSALS:
+        if met == "the seat is decided":
+            yield from ((number, turns, f"the seat is {answer}") for answer in ANSWERS)
+        elif met != "the seat is spent":
+            yield number, turns, met
+
+
+POLL_STANCES = STANCES + ANSWERS
+POLL_RULES = [poll_rule(rule) for rule in RULES]
+POLL_REFUSALS = list(poll_refusals())
+
+# The outcomes, as the page numbers them, that no turn of a poll has: no seat is at gate in round L, no turn has hint no, and there are
+# no looks.
+NEVER_IN_POLLS = [2, 3, 24, 25]

@@ -1,5 +1,5 @@
 #!/usr/bin/env bash
-# examples/sheet.py, examples/report.sh and tests/differential.sh as somebody new calls them: files, errors, exit codes. Nothing is proved here:
+# examples/sheet.py, examples/poll.py, examples/report.sh, examples/poll.sh and tests/differential.sh as somebody new calls them: files, errors, exit codes. Nothing is proved here:
 # a script in place of rt says when it is called.
 set -euo pipefail
 trap 'echo "scripts: line $LINENO: $BASH_COMMAND"' ERR
@@ -83,6 +83,19 @@ told 1 'standard output: Broken pipe' bash -c 'set -o pipefail; { sleep 0.3; "$0
 told 2 'try --help' "$sheet" one two three
 told 2 'try --help' "$sheet" --what
 
+# ---------------------------------------------------------------- poll.py, which reads its lines as sheet.py does
+poll=$root/examples/poll.py
+same <(printf 'n 2\npropose 1 258\nturn 1 # a remark\ncrash 0\n' | "$poll") <(printf '\2\3\0\0\1\2\1\0\0\1\1\0\0\0\0\2\0\0\0\0\0')
+"$poll" --help >"$out/help"
+grep -q '^usage: poll.py \[POLL \[BYTES\]\]' "$out/help"
+told 1 'line 2: turn takes SEAT, not 0 yes' "$poll" <(printf 'n 2\nturn 0 yes\n')
+told 1 'L is none of n, propose, turn, crash' "$poll" <(printf 'n 2\nL 5\n')
+told 1 'there is no line n' "$poll" <(echo turn 0)
+told 1 'n 256 is out of range' "$poll" <(echo n 256)
+told 1 '10923 operations are too many' "$poll" <(echo n 1; yes turn 0 | head -n 10923)
+told 1 'No such file' "$poll" "$out/none.poll"
+told 2 'try --help' "$poll" one two three
+
 # ---------------------------------------------------------------- report.sh, in a tree of its own
 export PATH=$out/bin:$PATH
 cat >"$out/bin/rt" <<'RT'
@@ -114,6 +127,22 @@ same <(wc -l <"$out/tree/calls") <(echo 2)
 touch "$out/tree/broken"
 told 1 'a proof that failed' "$report" here.sheet
 grep -q proving <(head -n 1 "$out/stderr")
+
+# ---------------------------------------------------------------- poll.sh, in the same tree
+cp "$root"/examples/{poll.sh,poll.py,sheet.py,two_answers.poll} "$out/tree/examples"
+cp "$root/build.sh" "$out/tree"
+mkdir "$out/tree/crates"
+touch "$out/tree/crates.txt"
+play=$out/tree/examples/poll.sh
+told 1 'a proof that failed' "$play"
+told 1 'No such file' "$play" none.poll
+told 2 'this is too much: b' "$play" a b
+rm "$out/tree/broken"
+printf 'n 1\nturn 0\n' >here.poll
+"$play" here.poll >stdout 2>stderr
+same stdout <(echo build 5; "$poll" here.poll)
+"$play" >stdout 2>stderr
+same stdout <(echo build 5; "$poll" "$root/examples/two_answers.poll")
 
 # ---------------------------------------------------------------- differential.sh: wrong arguments are told before anything is built
 cd "$root"

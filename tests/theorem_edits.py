@@ -1,12 +1,14 @@
 #!/usr/bin/env python3
-"""Edits of the machine's definition of which the agreement rule, or that contested is the number of marked rounds, or a paper case is
-false, and of a contract on which the rule rests.
+"""Edits of the machines' definitions of which the agreement rule, the rule of polls, that contested is the number of marked rounds, or a paper
+case is false, and of contracts on which the two rules rest.
 
 Each file of tests/theorem-edits names a file, a text of it and another text, the crate to check after the change, and the file
 and lemma at which the check must refuse it first. It also has a list of calls: the processes and rounds of the opening, the
 proposals of process 0, 1, .., and the steps, `p*k` for k steps of process p; and what they commit and write, or how many rounds are
 contested and marked after a sheet of them. From these a proof that the rule is false of the changed machine is made, and that must be
-accepted. An edit of which a paper case is false has the case's row in place of the list, as the table has it: the table that holds that row
+accepted. An edit of polls has the claim that it refutes, one of those that a file polls_CLAIM.template is for. Its opening has no rounds and
+its steps are turns; it has the answers that the calls give, none where the field is left out, and the number that the last of them returns where
+that is not 0. An edit of which a paper case is false has the case's row in place of the list, as the table has it: the table that holds that row
 alone must be proved false of the changed machine. An edit of a contract names a crate in place of the list, which must still be proved:
 the function meets the changed contract. All of it runs in a copy of the repository.
 """
@@ -21,7 +23,7 @@ from pathlib import Path
 
 ROOT = Path(__file__).resolve().parent.parent
 EDITS = ROOT / "tests" / "theorem-edits"
-TABLE = Path("crates/model_cases/specs/Table.antt")
+ANSWERS = {"committed": "Commits", "adopted": "Adopts"}
 
 
 def read_edit(path):
@@ -33,12 +35,28 @@ def read_edit(path):
     return fields
 
 
-def copy_crates(to):
-    """The crates and what rt has proved of them; the rest of target/ other tests may be writing."""
+def used_by(names):
+    """The crates that these use, and theirs, with these."""
+    lines = [line.partition(":") for line in (ROOT / "crates.txt").read_text(encoding="utf-8").splitlines() if not line.startswith("#")]
+    uses = {name: crates.split() for name, _, crates in lines}
+    found, left = set(), list(names)
+    while left:
+        name = left.pop()
+        if name in uses and name not in found:
+            found.add(name)
+            left += uses[name]
+    return found
+
+
+def copy_crates(to, names):
+    """The crates, and what rt has proved of those that the named ones use; the rest of target/ other tests may be writing."""
     shutil.copytree(ROOT / "crates", to / "crates", ignore=shutil.ignore_patterns("must-fail"))
     shutil.copy(ROOT / "crates.txt", to)
-    for part in "rlib", "stamp":
-        shutil.copytree(ROOT / "target" / part, to / "target" / part)
+    shutil.copytree(ROOT / "target" / "stamp", to / "target" / "stamp")
+    used = used_by(names)
+    for proved in (ROOT / "target" / "rlib").iterdir():
+        if proved.stem in used:
+            shutil.copytree(proved, to / "target" / "rlib" / proved.name)
 
 
 def check(copy, crate):
@@ -66,9 +84,9 @@ def listed(terms):
     return " ∷ ".join([*map(str, terms), "[]"])
 
 
-def moves(edit):
-    """The calls as the rule's proof has them, newest first."""
-    return listed([f"works {p}" if v is None else f"proposes {p} {v}" for p, v in calls(edit)][::-1])
+def moves(edit, step):
+    """The calls as the rule's proof has them, newest first; `step` is its word for a step."""
+    return listed([f"{step} {p}" if v is None else f"proposes {p} {v}" for p, v in calls(edit)][::-1])
 
 
 def sheet(edit):
@@ -78,18 +96,40 @@ def sheet(edit):
     return header + (8).to_bytes(2, "little") + (6 * len(entries)).to_bytes(2, "little") + b"".join(entries)
 
 
+def poll_refutation(edit):
+    proposals = edit["proposals"].split()
+    answers = [answer.split() for answer in edit["answers"].split(", ")] if "answers" in edit else []
+    given = [f"{ANSWERS[word]} {value}" for word, value in answers]
+    values = {
+        "list": moves(edit, "turns"),
+        "n": edit["processes"],
+        "answers": listed(given[::-1]),
+        "code": edit.get("returns", "0"),
+        "proposals": listed(proposals[::-1]),
+        "proposed": proposals[0],
+        "longer": "true" if edit["refutes"] == "pass" else "false",
+    }
+    if given:
+        values |= {"first": given[0], "v": answers[0][1], "last": given[-1], "u": answers[-1][1]}
+    return ["polls.template", f"polls_{edit['refutes']}.template"], "base model model_rule model_poll model_poll_rule", values
+
+
 def refutation(edit):
-    """The template of the proof that the edit refutes the theorem, and what it is filled with."""
+    """The templates of the proof that the edit refutes the theorem, the crates that it uses, and what the templates are filled with."""
+    if "refutes" in edit:
+        return poll_refutation(edit)
+    crates = "base model model_rule"
     if "contested" in edit:
-        return "contested.template", {"sheet": listed(sheet(edit)), "contested": edit["contested"], "marked": edit["marked"]}
+        return ["contested.template"], crates, {"sheet": listed(sheet(edit)), "contested": edit["contested"], "marked": edit["marked"]}
     v, R = re.fullmatch(r"(\d+) in round (\d+)", edit["commits"]).groups()
     u, r = re.fullmatch(r"(\d+) in round (\d+)", edit["writes"]).groups()
-    return "refuted.template", {"moves": moves(edit), "n": edit["processes"], "L": edit["rounds"], "R": R, "v": v, "r": r, "u": u}
+    values = {"moves": moves(edit, "works"), "n": edit["processes"], "L": edit["rounds"], "R": R, "v": v, "r": r, "u": u}
+    return ["refuted.template"], crates, values
 
 
 def write_refutation(copy, edit):
-    template, values = refutation(edit)
-    text = (EDITS / template).read_text(encoding="utf-8")
+    templates, uses, values = refutation(edit)
+    text = "".join((EDITS / template).read_text(encoding="utf-8") for template in templates)
     for key, value in values.items():
         text = text.replace(f"@{key}@", value)
     crate = copy / "crates" / "refuted"
@@ -98,20 +138,22 @@ def write_refutation(copy, edit):
     (crate / "src" / "lib.rt").write_text("// No code.\n", encoding="utf-8")
     (crate / "specs" / "Lib.antt").write_text(text, encoding="utf-8")
     with open(copy / "crates.txt", "a", encoding="utf-8") as crates:
-        crates.write("refuted: base model model_rule\n")
+        crates.write(f"refuted: {uses}\n")
 
 
-def case_stands(copy, row):
-    """What keeps the table of that one row from being proved false; None where it is."""
-    table = copy / TABLE
+def case_stands(copy, path, row):
+    """What keeps the table of that one row, which the file has, from being proved false; None where it is."""
+    table = copy / path
     text = table.read_text(encoding="utf-8")
-    rows = text[text.index("table =\n"):text.index("-- Every row holds")]
-    if rows.count(row) != 1:
-        return f"'{row}' stands {rows.count(row)} times in the table"
-    one = next(line.strip().removeprefix("∷ ") for line in rows.splitlines() if row in line)
-    text = text.replace(rows, f"table =\n    {one}\n    ∷ []\n\n").replace("every holds table ≡ true", "every holds table ≡ false")
+    part = text[text.index("table =\n"):text.index("-- Every row holds")]
+    rows = [" ".join(found.split()) for found in re.findall(r"record \{[^{}]*\}", part)]
+    one = [found for found in rows if row in found]
+    if len(one) != 1:
+        return f"'{row}' stands {len(one)} times in the table"
+    text = text.replace(part, f"table =\n    {one[0]}\n    ∷ []\n\n").replace("every holds table ≡ true", "every holds table ≡ false")
+    text = re.sub(r"(?<=use mathlib\.Core\.Bool\.)\{.*\}", "{true, false}", text)
     table.write_text(text, encoding="utf-8")
-    run = check(copy, TABLE.parts[1])
+    run = check(copy, Path(path).parts[1])
     return None if run.returncode == 0 else f"the row is not false of it: {first_error(run.stdout + run.stderr)}"
 
 
@@ -120,7 +162,7 @@ def fault_of(path):
     edit = read_edit(path)
     with tempfile.TemporaryDirectory() as folder:
         copy = Path(folder) / "copy"
-        copy_crates(copy)
+        copy_crates(copy, [edit["check"], edit.get("proved")])
         target = copy / edit["file"]
         text = target.read_text(encoding="utf-8")
         if text.count(edit["old"]) != 1:
@@ -137,7 +179,7 @@ def fault_of(path):
         if "proved" in edit:
             return None
         if "row" in edit:
-            return case_stands(copy, edit["row"])
+            return case_stands(copy, edit["refused"].split()[0], edit["row"])
         write_refutation(copy, edit)
         run = check(copy, "refuted")
         return None if run.returncode == 0 else f"its list of calls refutes nothing: {first_error(run.stdout + run.stderr)}"

@@ -26,6 +26,9 @@
 
 pub mod board;
 pub mod phase;
+pub mod poll;
+pub mod polls;
+pub mod random;
 pub mod readout;
 pub mod refusal;
 pub mod report;
@@ -41,6 +44,8 @@ mod tests;
 
 pub use board::{Access, Counts, Registers};
 pub use phase::{Phase, Process};
+pub use poll::{Answer, Poll, Voter};
+pub use polls::{poll_bytes, polls, Call};
 pub use refusal::Refusal;
 pub use report::report;
 pub use runner::{entry, run, Ending};

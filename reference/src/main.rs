@@ -1,11 +1,13 @@
 //! The program `reference`: a sheet on standard input, its report, its trace or
-//! the C entry's answer on standard output.
+//! the C entry's answer on standard output; or polls, and what becomes of them.
 //!
 //! - `reference report` prints the board report (01, "The board report").
 //! - `reference trace` prints one line an entry; the format is described in
 //!   `trace.rs`.
 //! - `reference traces` prints the traces of many sheets, each behind its length
 //!   in 16 bits, and a blank line after each.
+//! - `reference polls` prints what becomes of many polls; the format of both is
+//!   described in `polls.rs`.
 //! - `reference entry BUDGET` prints `code CODE`, the C entry's answer, and a
 //!   line `seat S decided VALUE` for each place of the buffer that is not 0
 //!   (01, "Turn sheets").
@@ -20,10 +22,10 @@ use std::process::ExitCode;
 
 use janus_reference::runner::BUFFER;
 use janus_reference::sheet::MAX_BYTES;
-use janus_reference::{entry, report, run, trace, traces, Counts, Refusal, Session, Sheet};
+use janus_reference::{entry, polls, report, run, trace, traces, Counts, Refusal, Session, Sheet};
 
 const USAGE: &str =
-    "usage: reference report | trace | traces | entry BUDGET | run BUDGET PLACES   (sheet on standard input)";
+    "usage: reference report | trace | traces | polls | entry BUDGET | run BUDGET PLACES   (sheet or polls on standard input)";
 
 fn main() -> ExitCode {
     let arguments: Vec<String> = std::env::args().skip(1).collect();
@@ -34,6 +36,7 @@ fn main() -> ExitCode {
         ["report"] => (one, |sheet, _| report(sheet)),
         ["trace"] => (one, |sheet, _| trace(sheet)),
         ["traces"] => (u64::MAX, |sheets, _| traces(sheets)),
+        ["polls"] => (u64::MAX, |bytes, _| polls(bytes)),
         ["entry", _] => (one, entry_text),
         ["run", _, _] => (one, run_text),
         _ => return fail(USAGE),

@@ -1,4 +1,4 @@
-//! The numbers returned. (01, "Numbers returned"; 02, wish 3.)
+//! The numbers returned. (01, "Numbers returned"; 02, wishes 3 and 6.)
 
 /// A row of the table in 01, "Numbers returned", or a number that 02 adds to it;
 /// `code` gives its number.
@@ -9,7 +9,7 @@ pub enum Refusal {
     Processes = 1,
     /// L below W or above 256.
     Limit = 2,
-    /// Session not sound.
+    /// Session or poll not sound.
     Unsound = 3,
     /// Seat number n or above.
     NoProcess = 4,
@@ -19,7 +19,8 @@ pub enum Refusal {
     Proposed = 6,
     /// Work, look or crash, seat out.
     Idle = 7,
-    /// Work, look or crash, seat crashed or decided.
+    /// Work, look or crash, seat crashed or decided, or answered in a poll. (02, wish
+    /// 6.)
     Ended = 8,
     /// Work, seat spent.
     Exhausted = 9,

@@ -49,7 +49,8 @@ fn write_report(
     Ok(())
 }
 
-fn write_seat(text: &mut String, process: &Process) -> std::fmt::Result {
+/// The words of a seat that has not answered a poll.
+pub(crate) fn write_seat(text: &mut String, process: &Process) -> std::fmt::Result {
     let (round, value) = (process.round, process.estimate);
     match process.phase {
         Phase::Idle => writeln!(text, "out"),

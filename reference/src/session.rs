@@ -46,11 +46,17 @@ pub struct Session {
     pub processes: [Process; MAX_PROCESSES],
 }
 
-/// 01, "Numbers returned", opening: 1, then 2.
-pub(crate) fn check_opening(n: usize, limit: usize) -> Result<(), Refusal> {
+/// 01, "Numbers returned", opening: 1.
+pub(crate) fn check_processes(n: usize) -> Result<(), Refusal> {
     if n == 0 || n > MAX_PROCESSES {
         return Err(Refusal::Processes);
     }
+    Ok(())
+}
+
+/// 01, "Numbers returned", opening: 1, then 2.
+pub(crate) fn check_opening(n: usize, limit: usize) -> Result<(), Refusal> {
+    check_processes(n)?;
     if limit < window(n) as usize || limit > MAX_ROUNDS {
         return Err(Refusal::Limit);
     }
@@ -183,7 +189,7 @@ impl Session {
 
 /// The registers for one operation that counts, or 16.
 #[inline]
-fn board<'a, W: FnMut(Access)>(
+pub(crate) fn board<'a, W: FnMut(Access)>(
     registers: &'a mut Registers,
     counts: &'a mut Counts,
     watch: W,
@@ -198,9 +204,9 @@ fn board<'a, W: FnMut(Access)>(
     })
 }
 
-/// The process of that number among the session's n, or 4.
+/// The process of that number among the n, or 4.
 #[inline]
-fn present(processes: &mut [Process], process: usize) -> Result<&mut Process, Refusal> {
+pub(crate) fn present<P>(processes: &mut [P], process: usize) -> Result<&mut P, Refusal> {
     processes.get_mut(process).ok_or(Refusal::NoProcess)
 }
 

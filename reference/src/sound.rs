@@ -30,14 +30,14 @@ impl Session {
 }
 
 /// Registers and marks past L are blank and unmarked.
-fn blank_past(registers: &Registers, limit: usize) -> bool {
+pub(crate) fn blank_past(registers: &Registers, limit: usize) -> bool {
     registers.values[limit..].iter().all(|value| *value == 0)
         && registers.marks[limit..].iter().all(|marked| !marked)
 }
 
 /// Out has round 0 and value 0, every other stance a value above 0, a round of
 /// at most L, and a place that fits.
-fn record(process: &Process, limit: u32, window: u32) -> bool {
+pub(crate) fn record(process: &Process, limit: u32, window: u32) -> bool {
     if process.phase == Phase::Idle {
         return process.round == 0 && process.estimate == 0;
     }

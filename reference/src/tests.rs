@@ -1,7 +1,8 @@
-//! The paper cases of document 01 and each number that it and 02 return.
+//! The paper cases of document 01, each number that it and 02 return, and polls.
 
 mod operations;
 mod paper;
+mod polls;
 mod random;
 mod sheets;
 mod soundness;

@@ -3,20 +3,8 @@
 //! entries give one after another.
 
 use super::*;
+use crate::random::Random;
 use crate::{run, Ending, Phase, Sheet};
-
-/// The generator splitmix64.
-struct Random(u64);
-
-impl Random {
-    fn below(&mut self, bound: u64) -> u64 {
-        self.0 = self.0.wrapping_add(0x9e37_79b9_7f4a_7c15);
-        let mut word = self.0;
-        word = (word ^ (word >> 30)).wrapping_mul(0xbf58_476d_1ce4_e5b9);
-        word = (word ^ (word >> 27)).wrapping_mul(0x94d0_49bb_1331_11eb);
-        (word ^ (word >> 31)) % bound
-    }
-}
 
 /// What the agreement rule of 01 speaks of, and the round of each flag write (02,
 /// wish 2), gathered along a list.
@@ -69,8 +57,8 @@ impl History {
 }
 
 fn random_operation(random: &mut Random, n: usize) -> Operation {
-    let beyond = u64::from(random.below(50) == 0);
-    let process = random.below(n as u64 + beyond) as usize;
+    let beyond = usize::from(random.once_in(50));
+    let process = random.below(n + beyond);
     match random.below(400) {
         0 => Operation::Crash { process },
         1..=3 => Operation::Learn { process },
@@ -97,9 +85,9 @@ fn public(session: &mut Session, operation: Operation, counts: &mut Counts) -> R
 /// A list in bursts, or in single turns after a proposal by each process: where
 /// it led, its accepted operations, its history.
 fn random_list(seed: u64, length: usize) -> (Case, Vec<[u8; 6]>, History) {
-    let mut random = Random(seed);
-    let n = 1 + random.below(6) as usize;
-    let limit = crate::window(n) as usize + random.below(9) as usize;
+    let mut random = Random::of(seed, 0);
+    let n = random.between(1, 6);
+    let limit = crate::window(n) as usize + random.below(9);
     let (mut case, mut history) = (Case::open(n, limit), History::default());
     let (mut accepted, mut operation) = (Vec::new(), random_operation(&mut random, n));
     let (proposals, burst) = if seed % 2 == 0 { (0, 3) } else { (n, 1) };
@@ -107,7 +95,7 @@ fn random_list(seed: u64, length: usize) -> (Case, Vec<[u8; 6]>, History) {
         if place < proposals {
             let (process, value) = (place, 1 + place as u32);
             operation = Operation::Propose { process, value };
-        } else if random.below(burst) == 0 || !matches!(operation, Operation::Step { .. }) {
+        } else if random.once_in(burst) || !matches!(operation, Operation::Step { .. }) {
             operation = random_operation(&mut random, n);
         }
         let before = case.session.clone();

@@ -1,0 +1,1084 @@
+//! Runs random polls in close contention through use_poll, a program of the proved
+//! crates, and through the reference, and compares what they print, byte for byte.
+//! (02, wish 6.) The format is described in `src/polls.rs`.
+//!
+//! Of every poll it checks, beside that, what the wish claims: each answer's value
+//! was proposed before; if one answer is committed v, all answers carry v; if all
+//! accepted proposals are v, all answers are committed v. No process may take more
+//! than W * W + 6 * W + 1 turns, D must stay blank, and contested must be the number
+//! of marked rounds.
+//!
+//! `polls USE_POLL COUNT SEED`: so many polls from that seed through the program of
+//! that path. Poll I of a seed is the same whatever the COUNT. Many polls make up an
+//! input, of at most 60,000 bytes. It prints the seed, a table of what the polls
+//! reached, and the most turns that a process took before its answer. It ends with 1
+//! at the first difference, after making the poll as small as it still differs,
+//! telling its calls and both texts, and writing it to `difference-SEED-INDEX.poll`; a
+//! fault or an endless run of the program counts as one. From 4,000 polls on it ends
+//! with 1, too, if anything was not reached as often as the table expects; fewer may
+//! be too few for that, and it says so.
+
+// Only the table of what is reached, and how bytes are put together, is used here.
+#[allow(dead_code)]
+#[macro_use]
+mod harness;
+
+use std::io::{self, Read, Write};
+use std::process::{Child, Command, ExitCode, Stdio};
+use std::sync::mpsc::{channel, Receiver};
+use std::time::{Duration, Instant};
+
+use harness::{raw, Entry, Reached};
+use janus_reference::random::Random;
+use janus_reference::{
+    poll_bytes, polls, window, Answer, Call, Counts, Phase, Poll, Process, Refusal, Voter,
+};
+
+// ---------------------------------------------------------------- polls
+
+/// The most bytes of an input, and so the most calls of a poll.
+const MOST_BYTES: usize = 60_000;
+const MOST_CALLS: usize = (MOST_BYTES - 3) / 6;
+
+/// One poll in bytes. So many of them are cut off at the end, which ends the input.
+#[derive(Clone)]
+struct Case {
+    n: u8,
+    calls: Vec<Entry>,
+    cut: usize,
+}
+
+impl Case {
+    fn of(random: &mut Random) -> Case {
+        let (n, calls) = match random.below(40) {
+            0 => refused_opening(random),
+            1 | 2 => (random.between(1, 64) as u8, noise(random)),
+            _ => composed(random),
+        };
+        let length = 6 * calls.len();
+        let cut = match random.below(100) {
+            0 => length + random.below(3),
+            1 | 2 => random.between(0, length.min(120)),
+            _ => 0,
+        };
+        Case { n, calls, cut }
+    }
+
+    fn bytes(&self) -> Vec<u8> {
+        let mut bytes = poll_bytes(self.n, &self.calls);
+        bytes.truncate(bytes.len() - self.cut);
+        bytes
+    }
+
+    /// The calls that are whole.
+    fn calls(&self) -> impl Iterator<Item = Call> + '_ {
+        let whole = self.calls.len().saturating_sub(self.cut.div_ceil(6));
+        self.calls[..whole].iter().map(|entry| Call::decode(*entry))
+    }
+}
+
+/// A number of seats that is refused, and calls that are then skipped.
+fn refused_opening(random: &mut Random) -> (u8, Vec<Entry>) {
+    let n = random.pick(&[0, 0, 65, 66, 128, 255]);
+    (n, noise(random))
+}
+
+/// A few calls of any kind, most of them refused.
+fn noise(random: &mut Random) -> Vec<Entry> {
+    let call = |random: &mut Random| {
+        let kind = random.pick(&[0, 1, 1, 2, 3, 255]);
+        let process = random.pick(&[0, 0, 1, 2, 63, 64, 255]);
+        let value = random.pick(&[0, 1, 256, 1 << 31]);
+        raw(kind, process, value)
+    };
+    let length = random.below(12);
+    (0..length).map(|_| call(random)).collect()
+}
+
+/// Which of the processes that work has the next turn.
+#[derive(Clone, Copy)]
+enum Style {
+    /// Any, so many turns at a time.
+    Bursts(usize),
+    /// Any that is awake; processes fall asleep for long, at whatever stance.
+    Sleepers,
+    /// The one that is least far, so that all come to put together, round after
+    /// round; any at all once in so many times.
+    Abreast(usize),
+    /// All abreast; in that round one at put runs alone. The others, where they would
+    /// write another value, wait until it checks the round that they write to: then
+    /// they do so once in so many times, or never before it has answered.
+    Ambush(u32, usize),
+}
+
+/// Builds a list of calls along with the poll that they lead to.
+struct Composer<'r> {
+    random: &'r mut Random,
+    poll: Poll,
+    counts: Counts,
+    calls: Vec<Entry>,
+    /// The values that are proposed, one to three.
+    values: Vec<u32>,
+    style: Style,
+    current: usize,
+    asleep: u64,
+    runner: Option<usize>,
+    /// Processes that take part and are still to propose.
+    late: Vec<usize>,
+    /// Odds of a crash, and of a call that is no part of the walk, at each turn.
+    crash: usize,
+    stray: usize,
+}
+
+/// A poll in close contention.
+fn composed(random: &mut Random) -> (u8, Vec<Entry>) {
+    let n = seats(random);
+    let mut composer = Composer::new(random, n);
+    composer.proposals();
+    let target = composer.target();
+    composer.contend(target);
+    for _ in 0..composer.random.below(12) {
+        composer.stray();
+    }
+    (n as u8, composer.calls)
+}
+
+/// Most polls are small.
+fn seats(random: &mut Random) -> usize {
+    match random.below(64) {
+        0..=3 => 1,
+        4..=41 => random.between(2, 4),
+        42..=58 => random.between(5, 8),
+        59..=62 => random.between(9, 63),
+        _ => 64,
+    }
+}
+
+impl<'r> Composer<'r> {
+    fn new(random: &'r mut Random, n: usize) -> Composer<'r> {
+        let last = window(n);
+        let any = random.between(1, last as usize) as u32;
+        let ambush = Style::Ambush(random.pick(&[any, last]), random.pick(&[2, 5, 0]));
+        let early = Style::Ambush(1, random.pick(&[2, 5, 0, 0]));
+        let styles = [
+            Style::Bursts(1),
+            Style::Bursts(random.between(2, 9)),
+            Style::Bursts(40),
+            Style::Sleepers,
+            Style::Abreast(0),
+            Style::Abreast(25),
+            ambush,
+            ambush,
+            early,
+            early,
+        ];
+        Composer {
+            poll: Poll::open(n).expect("a size within bounds"),
+            counts: Counts::default(),
+            calls: Vec::new(),
+            values: values(random),
+            style: random.pick(&styles),
+            current: 0,
+            asleep: 0,
+            runner: None,
+            late: Vec::new(),
+            crash: random.pick(&[0, 0, 800, 150, 40]),
+            stray: random.pick(&[0, 60, 20, 8]),
+            random,
+        }
+    }
+
+    /// Carries out and adds a call, refused or not, while there is room.
+    fn call(&mut self, entry: Entry) {
+        if self.calls.len() < MOST_CALLS {
+            // The answer shows in the poll.
+            let _ = Call::decode(entry).carry_out(&mut self.poll, &mut self.counts);
+            self.calls.push(entry);
+        }
+    }
+
+    fn propose(&mut self, process: usize) {
+        let value = self.random.pick(&self.values);
+        self.call(raw(0, process, value));
+    }
+
+    /// Some processes take part, and most of them propose at once.
+    fn proposals(&mut self) {
+        let (n, random) = (self.poll.n, &mut *self.random);
+        let most = match random.once_in(40) {
+            true => n,
+            false => n.min(random.between(3, 8)),
+        };
+        let skipped = random.pick(&[0, 0, 4]);
+        let late = random.pick(&[0, 2, 5]);
+        let first = random.below(n);
+        for place in 0..most {
+            let process = (first + place) % n;
+            if self.random.once_in(late) {
+                self.late.push(process);
+            } else if !self.random.once_in(skipped) {
+                self.propose(process);
+            }
+        }
+    }
+
+    /// So many calls are enough; mostly all that it takes till none works.
+    fn target(&mut self) -> usize {
+        match self.random.below(10) {
+            0 => self.random.below(60),
+            1 => self.random.below(600),
+            _ => MOST_CALLS,
+        }
+    }
+
+    /// Turns in the poll's style until there are so many calls or none works.
+    fn contend(&mut self, target: usize) {
+        while self.calls.len() < target {
+            let working: Vec<usize> = (0..self.poll.n).filter(|p| self.works(*p)).collect();
+            if working.is_empty() || self.random.once_in(40) {
+                match self.late.pop() {
+                    Some(process) => self.propose(process),
+                    None if working.is_empty() => break,
+                    None => {}
+                }
+            } else if self.random.once_in(self.stray) {
+                self.stray();
+            } else {
+                let process = self.next_process(&working);
+                let kind = 1 + u8::from(self.random.once_in(self.crash));
+                self.call(raw(kind, process, 0));
+            }
+        }
+    }
+
+    /// The record of a process that works.
+    fn record(&self, process: usize) -> Option<&Process> {
+        match self.poll.voters.get(process) {
+            Some(Voter::Walking(record)) if working(record.phase) => Some(record),
+            _ => None,
+        }
+    }
+
+    fn works(&self, process: usize) -> bool {
+        self.record(process).is_some()
+    }
+
+    fn next_process(&mut self, working: &[usize]) -> usize {
+        match self.style {
+            Style::Bursts(length) => {
+                if self.random.once_in(length) || !self.works(self.current) {
+                    self.current = self.random.pick(working);
+                }
+                self.current
+            }
+            Style::Sleepers => self.wakeful(working),
+            Style::Abreast(any) if self.random.once_in(any) => self.random.pick(working),
+            Style::Abreast(_) => self.least_far(working),
+            Style::Ambush(round, odds) => self.ambush(round, odds, working),
+        }
+    }
+
+    /// One of those awake; one wakes up or falls asleep now and then.
+    fn wakeful(&mut self, working: &[usize]) -> usize {
+        if self.random.once_in(12) {
+            self.asleep ^= 1 << self.random.pick(working);
+        }
+        let tries = [0; 4].map(|_| self.random.pick(working));
+        let awake = tries.iter().find(|p| self.asleep >> **p & 1 == 0);
+        *awake.unwrap_or(&tries[0])
+    }
+
+    /// The one that is least far; by a random place where there are more.
+    fn least_far(&mut self, working: &[usize]) -> usize {
+        let first = self.random.below(working.len());
+        let (before, from) = working.split_at(first);
+        let least = from
+            .iter()
+            .chain(before)
+            .min_by_key(|p| self.record(**p).map(far));
+        *least.expect("one that works")
+    }
+
+    /// The one that is least far, until one at put becomes the runner; then that one,
+    /// or one that writes behind it.
+    fn ambush(&mut self, round: u32, odds: usize, working: &[usize]) -> usize {
+        self.runner = self.runner.filter(|p| self.works(*p));
+        if let Some(runner) = self.runner {
+            return match self.waiting_for(runner, working) {
+                Some(writer) if self.random.once_in(odds) => writer,
+                _ => runner,
+            };
+        }
+        let next = self.least_far(working);
+        let there = |p: &Process| p.phase == Phase::Write && p.round == round;
+        let runs = self.record(next).is_some_and(there) && self.random.once_in(2);
+        self.runner = runs.then_some(next);
+        next
+    }
+
+    /// A process at put with another value, in the round that the runner checks.
+    fn waiting_for(&self, runner: usize, working: &[usize]) -> Option<usize> {
+        let runner = self.record(runner)?;
+        let (Phase::CheckMark(i) | Phase::CheckValue(i)) = runner.phase else {
+            return None;
+        };
+        let writes = |process: &Process| {
+            process.phase == Phase::Write
+                && process.round == runner.round - i
+                && process.estimate != runner.estimate
+        };
+        let mut numbers = working.iter().copied();
+        numbers.find(|p| self.record(*p).is_some_and(writes))
+    }
+
+    /// A call on any process, there or not, that hardly disturbs the poll: a process
+    /// that works does not crash by it.
+    fn stray(&mut self) {
+        let n = self.poll.n;
+        let process = match self.random.below(8) {
+            0 => self.random.pick(&[n, 63, 64, 255]),
+            _ => self.random.below(n),
+        };
+        let ignored = self.random.pick(&[0, 1, 1 << 31]);
+        let entry = match self.random.below(8) {
+            0 | 1 => raw(1, process, ignored),
+            2 | 3 if !self.works(process) => raw(2, process, ignored),
+            4 => raw(0, process, 0),
+            5 => raw(0, process, self.random.pick(&self.values)),
+            _ => raw(self.random.pick(&[3, 4, 128, 255]), process, ignored),
+        };
+        self.call(entry);
+    }
+}
+
+/// One to three values, small ones and such as differ in a single byte.
+fn values(random: &mut Random) -> Vec<u32> {
+    let from: &[u32] = match random.below(3) {
+        0 => &[1, 2, 3],
+        1 => &[3, 8, 7, 4_000_000_000, u32::MAX],
+        _ => &[1, 257, 65_537, 16_777_217, 0x8000_0001],
+    };
+    let count = random.pick(&[1, 2, 2, 2, 3, 3, 3]);
+    let first = random.below(from.len());
+    let places = (first..first + count).map(|place| place % from.len());
+    places.map(|place| from[place]).collect()
+}
+
+/// Gate to commit.
+fn working(phase: Phase) -> bool {
+    !matches!(phase, Phase::Idle | Phase::Crashed)
+}
+
+/// How far a process that works is: the rounds it has done, then gate, put, the rest.
+fn far(process: &Process) -> (u32, u8) {
+    match process.phase {
+        Phase::Waiting => (process.round, 0),
+        Phase::Write => (process.round - 1, 1),
+        _ => (process.round - 1, 2),
+    }
+}
+
+// ---------------------------------------------------------------- coverage
+
+events! {
+    NoSeats: "1: no seats" at least 5,
+    ManySeats: "1: over 64 seats" at least 20,
+    Seats1: "opened, n = 1" at least 50,
+    Seats2To8: "opened, n = 2 to 8" at least 1_000,
+    Seats9To63: "opened, n = 9 to 63" at least 100,
+    Seats64: "opened, n = 64" at least 20,
+    CutShort: "poll that the input's end cuts short" at least 20,
+    Proposed: "proposal" at least 5_000,
+    ProposedLate: "proposal after another seat's turn" at least 1_000,
+    ProposedLast: "proposal after another seat's answer" at least 500,
+    GatePut: "gate, blank: put" at least 10_000,
+    GateSeek: "gate, filled: seek r + 1" at least 5_000,
+    GateTake: "gate, round W filled: take W" at least 200,
+    PutBlank: "put into a blank register" at least 5_000,
+    PutSame: "put over the same value" at least 2_000,
+    PutOther: "put over another value" at least 2_000,
+    SeekTake: "seek k, blank: take k - 1" at least 2_000,
+    SeekOn: "seek k, filled: seek k + 1" at least 10_000,
+    SeekLast: "seek W, filled: take W" at least 1_000,
+    TakeSame: "take, own value as before" at least 2_000,
+    TakeOther: "take, another value" at least 1_000,
+    TakeChanged: "take, register changed since seen" at least 50,
+    CompareOn: "compare i, equal" at least 50_000,
+    CompareFlag: "compare i, different: flag i" at least 10_000,
+    FlagFirst: "flag of an unmarked round" at least 1_000,
+    FlagAgain: "flag of a marked round" at least 10_000,
+    Unmarked: "check-mark i, unmarked: check-value i" at least 20_000,
+    MarkedNow: "check-mark 0, marked: adopted" at least 200,
+    MarkedBack: "check-mark i, marked: adopted, i above 0" at least 1_000,
+    Equal: "check-value i, equal: check-mark i + 1" at least 20_000,
+    EqualLast: "check-value W - 1, equal: commit" at least 2_000,
+    OtherNow: "check-value 0, different: adopted" at least 10,
+    OtherBack: "check-value i, different: adopted, i above 0" at least 20,
+    Committed: "commit: committed" at least 2_000,
+    CommittedOwn: "committed, the own proposal" at least 1_000,
+    CommittedOther: "committed, another seat's proposal" at least 500,
+    AdoptedOwn: "adopted, the own proposal" at least 1_000,
+    AdoptedOther: "adopted, another seat's proposal" at least 500,
+    CrashGate: "crash at gate" at least 100,
+    CrashPut: "crash at put" at least 50,
+    CrashSeek: "crash at seek" at least 50,
+    CrashTake: "crash at take" at least 20,
+    CrashCompare: "crash at compare" at least 200,
+    CrashFlag: "crash at flag" at least 20,
+    CrashCheckMark: "crash at check-mark" at least 50,
+    CrashCheckValue: "crash at check-value" at least 50,
+    CrashCommit: "crash at commit" at least 5,
+    NoSeatPropose: "4: proposal" at least 500,
+    NoSeatTurn: "4: turn" at least 500,
+    NoSeatCrash: "4: crash" at least 500,
+    BlankOut: "5: seat out" at least 500,
+    BlankOther: "5 where 6 would follow" at least 1_000,
+    TwiceWorking: "6: seat works" at least 500,
+    TwiceCrashed: "6: seat crashed" at least 100,
+    TwiceCommitted: "6: seat committed" at least 200,
+    TwiceAdopted: "6: seat adopted" at least 200,
+    OutTurn: "7: turn" at least 1_000,
+    OutCrash: "7: crash" at least 1_000,
+    CrashedTurn: "8: turn, seat crashed" at least 200,
+    CrashedCrash: "8: crash, seat crashed" at least 200,
+    CommittedTurn: "8: turn, seat committed" at least 500,
+    CommittedCrash: "8: crash, seat committed" at least 500,
+    AdoptedTurn: "8: turn, seat adopted" at least 200,
+    AdoptedCrash: "8: crash, seat adopted" at least 200,
+    SessionRead: "session's read-out: 0" at least 2_000,
+    SessionNoSeat: "session's read-out: 4" at least 200,
+    SessionCommitted: "session's read-out: 3, a seat committed" at least 2_000,
+    SessionAdopted: "session's read-out: 3, adopted seats only" at least 500,
+    SessionFirst: "session's read-out: 3 where 4 would follow" at least 200,
+    AllAnswered: "poll with every seat answered" at least 500,
+    OneValue: "poll of one value, two or more committed" at least 200,
+    Both: "poll with committed and adopted" at least 50,
+    BothOther: "and another value adopted than proposed" at least 50,
+    TwoAdopted: "poll with two adopted, none committed" at least 200,
+    TwoValues: "poll with adopted of two values" at least 100,
+}
+
+/// The most turns of a process before its answer.
+struct Longest {
+    turns: u32,
+    bound: u32,
+    n: usize,
+}
+
+impl Longest {
+    fn ratio(&self) -> f64 {
+        f64::from(self.turns) / f64::from(self.bound)
+    }
+}
+
+struct Coverage {
+    reached: Reached,
+    longest: Longest,
+    calls: u64,
+}
+
+impl Coverage {
+    fn new() -> Coverage {
+        Coverage {
+            reached: Reached::none_of(EVENTS),
+            longest: Longest {
+                turns: 0,
+                bound: 1,
+                n: 0,
+            },
+            calls: 0,
+        }
+    }
+
+    fn note(&mut self, event: Event) {
+        self.reached.note(event);
+    }
+
+    fn note_if(&mut self, happened: bool, event: Event) {
+        self.reached.note_if(happened, event);
+    }
+
+    /// Carries a poll out call by call, noting what it reaches. Tells which claim does
+    /// not hold of it.
+    fn case(&mut self, case: &Case) -> Result<(), String> {
+        self.note_if(case.cut > 0, Event::CutShort);
+        let n = usize::from(case.n);
+        let Ok(poll) = Poll::open(n) else {
+            self.note(match n {
+                0 => Event::NoSeats,
+                _ => Event::ManySeats,
+            });
+            return Ok(());
+        };
+        self.note(match n {
+            1 => Event::Seats1,
+            2..=8 => Event::Seats2To8,
+            9..=63 => Event::Seats9To63,
+            _ => Event::Seats64,
+        });
+        let mut observer = Observer::of(poll);
+        for call in case.calls() {
+            observer.call(call, self)?;
+            self.calls += 1;
+        }
+        observer.left(self)
+    }
+
+    fn print(&self) -> Vec<String> {
+        let missing = self.reached.print();
+        let Longest { turns, bound, n } = self.longest;
+        let ratio = self.longest.ratio();
+        println!("most turns before an answer: {turns} of {bound} (n {n}), ratio {ratio:.3}");
+        missing
+    }
+}
+
+/// A poll whose calls are noted.
+struct Observer {
+    poll: Poll,
+    counts: Counts,
+    /// Of each process: its turns, its proposal, and what it last saw in a filled
+    /// register at gate or in seek.
+    turns: [u32; 64],
+    own: [u32; 64],
+    seen: [u32; 64],
+    /// The accepted proposals and the answers, in order; the latter by process.
+    proposed: Vec<u32>,
+    answers: Vec<(usize, Answer)>,
+}
+
+impl Observer {
+    fn of(poll: Poll) -> Observer {
+        Observer {
+            poll,
+            counts: Counts::default(),
+            turns: [0; 64],
+            own: [0; 64],
+            seen: [0; 64],
+            proposed: Vec::new(),
+            answers: Vec::new(),
+        }
+    }
+
+    /// Carries out and notes one call.
+    fn call(&mut self, call: Call, coverage: &mut Coverage) -> Result<(), String> {
+        let number = call.process();
+        let before = self.poll.voters.get(number).copied();
+        let register = self.register(before);
+        let answer = match call.carry_out(&mut self.poll, &mut self.counts) {
+            Ok(answer) => answer,
+            Err(refusal) => {
+                self.refused(call, before, refusal, coverage);
+                return Ok(());
+            }
+        };
+        let (Some(Voter::Walking(before)), after) = (before, self.poll.voters[number]) else {
+            return Err(format!("{call:?} accepted of an answered seat"));
+        };
+        match call {
+            Call::Propose { value, .. } => self.accepted(number, value, coverage),
+            Call::Crash { .. } => coverage.note(crash(before.phase)),
+            Call::ReadAsSession { .. } => coverage.note(Event::SessionRead),
+            Call::Step { .. } => {
+                self.turns[number] += 1;
+                coverage.note(match after {
+                    Voter::Walking(after) => self.step(number, &before, &after, register),
+                    Voter::Answered(..) => ended(&before),
+                });
+                self.more(number, &before, register);
+            }
+        }
+        answer.map_or(Ok(()), |answer| self.answered(number, answer, coverage))
+    }
+
+    fn accepted(&mut self, number: usize, value: u32, coverage: &mut Coverage) {
+        coverage.note(Event::Proposed);
+        coverage.note_if(self.turns != [0; 64], Event::ProposedLate);
+        coverage.note_if(!self.answers.is_empty(), Event::ProposedLast);
+        self.own[number] = value;
+        self.proposed.push(value);
+    }
+
+    /// Notes an answer, whose value must have been proposed.
+    fn answered(
+        &mut self,
+        number: usize,
+        answer: Answer,
+        coverage: &mut Coverage,
+    ) -> Result<(), String> {
+        let own = answer.value() == self.own[number];
+        coverage.note(match (answer, own) {
+            (Answer::Committed(_), true) => Event::CommittedOwn,
+            (Answer::Committed(_), false) => Event::CommittedOther,
+            (Answer::Adopted(_), true) => Event::AdoptedOwn,
+            (Answer::Adopted(_), false) => Event::AdoptedOther,
+        });
+        self.answers.push((number, answer));
+        let longest = Longest {
+            turns: self.turns[number],
+            bound: bound(self.poll.n),
+            n: self.poll.n,
+        };
+        if longest.ratio() > coverage.longest.ratio() {
+            coverage.longest = longest;
+        }
+        if self.proposed.contains(&answer.value()) {
+            Ok(())
+        } else {
+            Err(format!("seat {number} {answer}, which none proposed"))
+        }
+    }
+
+    /// What the register holds that a process is about to use: T[r], T[k], T[r - i] or
+    /// C[r - i].
+    fn register(&self, voter: Option<Voter>) -> u32 {
+        let Some(Voter::Walking(process)) = voter else {
+            return 0;
+        };
+        let (registers, r) = (&self.poll.registers, process.round);
+        let value = |round: u32| registers.values[round as usize - 1];
+        let mark = |round: u32| u32::from(registers.marks[round as usize - 1]);
+        match process.phase {
+            Phase::Waiting => value(r + 1),
+            Phase::Write => value(r),
+            Phase::Scan(k) | Phase::Adopt(k) => value(k),
+            Phase::Compare(i) | Phase::CheckValue(i) => value(r - i),
+            Phase::Flag(i) | Phase::CheckMark(i) => mark(r - i),
+            _ => 0,
+        }
+    }
+
+    /// The event of a turn without an answer, by the stances on either side and by
+    /// what the register held before.
+    fn step(&self, number: usize, before: &Process, after: &Process, register: u32) -> Event {
+        use Event::*;
+        match (before.phase, after.phase) {
+            (Phase::Waiting, Phase::Write) => GatePut,
+            (Phase::Waiting, Phase::Scan(_)) => GateSeek,
+            (Phase::Waiting, _) => GateTake,
+            (Phase::Write, _) if register == 0 => PutBlank,
+            (Phase::Write, _) if register == before.estimate => PutSame,
+            (Phase::Write, _) => PutOther,
+            (Phase::Scan(_), Phase::Scan(_)) => SeekOn,
+            (Phase::Scan(k), Phase::Adopt(to)) if k == to => SeekLast,
+            (Phase::Scan(_), _) => SeekTake,
+            (Phase::Adopt(_), _) if register != self.seen[number] => TakeChanged,
+            (Phase::Adopt(_), _) if before.estimate == after.estimate => TakeSame,
+            (Phase::Adopt(_), _) => TakeOther,
+            (Phase::Compare(_), Phase::Flag(_)) => CompareFlag,
+            (Phase::Compare(_), _) => CompareOn,
+            (Phase::Flag(_), _) => [FlagFirst, FlagAgain][register as usize],
+            (Phase::CheckMark(_), _) => Unmarked,
+            (_, Phase::Commit) => EqualLast,
+            _ => Equal,
+        }
+    }
+
+    /// Keeps what a process saw in a filled register.
+    fn more(&mut self, number: usize, before: &Process, register: u32) {
+        if matches!(before.phase, Phase::Waiting | Phase::Scan(_)) && register != 0 {
+            self.seen[number] = register;
+        }
+    }
+
+    fn refused(
+        &mut self,
+        call: Call,
+        voter: Option<Voter>,
+        refusal: Refusal,
+        coverage: &mut Coverage,
+    ) {
+        use Event::*;
+        let kind = match call {
+            Call::ReadAsSession { process } => return self.no_session(process, refusal, coverage),
+            Call::Propose { .. } => 0,
+            Call::Step { .. } => 1,
+            Call::Crash { .. } => 2,
+        };
+        let events = match (refusal, voter) {
+            (Refusal::NoProcess, _) => [NoSeatPropose, NoSeatTurn, NoSeatCrash],
+            (Refusal::BlankProposal, Some(Voter::Walking(p))) if p.phase == Phase::Idle => {
+                [BlankOut; 3]
+            }
+            (Refusal::BlankProposal, _) => [BlankOther; 3],
+            (Refusal::Idle, _) => [OutTurn, OutTurn, OutCrash],
+            (_, Some(Voter::Answered(Answer::Committed(_), _))) => {
+                [TwiceCommitted, CommittedTurn, CommittedCrash]
+            }
+            (_, Some(Voter::Answered(..))) => [TwiceAdopted, AdoptedTurn, AdoptedCrash],
+            (_, Some(Voter::Walking(p))) if p.phase == Phase::Crashed => {
+                [TwiceCrashed, CrashedTurn, CrashedCrash]
+            }
+            _ => [TwiceWorking; 3],
+        };
+        coverage.note(events[kind]);
+    }
+
+    /// Notes a refusal of the session's read-out.
+    fn no_session(&self, process: usize, refusal: Refusal, coverage: &mut Coverage) {
+        if refusal == Refusal::NoProcess {
+            return coverage.note(Event::SessionNoSeat);
+        }
+        coverage.note_if(process >= self.poll.n, Event::SessionFirst);
+        coverage.note(match self.committed() {
+            Some(_) => Event::SessionCommitted,
+            None => Event::SessionAdopted,
+        });
+    }
+
+    /// The value of the first committed answer.
+    fn committed(&self) -> Option<u32> {
+        self.answers.iter().find_map(|(_, answer)| match answer {
+            Answer::Committed(value) => Some(*value),
+            Answer::Adopted(_) => None,
+        })
+    }
+
+    /// The process and the value of each adopted answer.
+    fn adopted(&self) -> Vec<(usize, u32)> {
+        let adopted = |(number, answer): &(usize, Answer)| match answer {
+            Answer::Committed(_) => None,
+            Answer::Adopted(value) => Some((*number, *value)),
+        };
+        self.answers.iter().filter_map(adopted).collect()
+    }
+
+    /// Whether no two proposals differ.
+    fn one_value(&self) -> bool {
+        self.proposed.windows(2).all(|pair| pair[0] == pair[1])
+    }
+
+    /// Notes how a poll was left, of which the claims must hold.
+    fn left(self, coverage: &mut Coverage) -> Result<(), String> {
+        let (answers, adopted) = (self.answers.len(), self.adopted());
+        coverage.note_if(answers == self.poll.n, Event::AllAnswered);
+        coverage.note_if(answers > 1 && self.one_value(), Event::OneValue);
+        if self.committed().is_some() {
+            let other = adopted.iter().any(|(p, value)| *value != self.own[*p]);
+            coverage.note_if(!adopted.is_empty(), Event::Both);
+            coverage.note_if(other, Event::BothOther);
+        } else {
+            let differ = adopted.windows(2).any(|pair| pair[0].1 != pair[1].1);
+            coverage.note_if(adopted.len() > 1, Event::TwoAdopted);
+            coverage.note_if(differ, Event::TwoValues);
+        }
+        self.claims()
+    }
+
+    /// What the wish claims of the answers, beside that they were proposed; and the
+    /// turns, D and contested.
+    fn claims(&self) -> Result<(), String> {
+        if let Some(value) = self.committed() {
+            let other = self.answers.iter().find(|(_, a)| a.value() != value);
+            if let Some((number, answer)) = other {
+                return Err(format!("a seat committed {value}, seat {number} {answer}"));
+            }
+        }
+        if let (true, [(number, value), ..]) = (self.one_value(), &self.adopted()[..]) {
+            return Err(format!("one value proposed, seat {number} adopted {value}"));
+        }
+        let (turns, bound) = (self.turns.iter().max(), bound(self.poll.n));
+        if turns > Some(&bound) {
+            return Err(format!("{turns:?} turns of a seat, {bound} are the most"));
+        }
+        let registers = &self.poll.registers;
+        let marked = registers.marks.iter().filter(|mark| **mark).count();
+        if registers.decision != 0 || self.counts.contested as usize != marked {
+            let (decision, counts) = (registers.decision, self.counts);
+            return Err(format!("D {decision}, tally {counts}, {marked} marked"));
+        }
+        Ok(())
+    }
+}
+
+/// No process takes more turns than this in a poll. In each round r from 1 to W it has
+/// at most a gate, a put or a take, r compares and r flags; beside these there are at
+/// most W - 1 seeks, 2 * W checks and the commit.
+fn bound(n: usize) -> u32 {
+    let w = window(n);
+    w * w + 6 * w + 1
+}
+
+fn crash(phase: Phase) -> Event {
+    match phase {
+        Phase::Waiting => Event::CrashGate,
+        Phase::Write => Event::CrashPut,
+        Phase::Scan(_) => Event::CrashSeek,
+        Phase::Adopt(_) => Event::CrashTake,
+        Phase::Compare(_) => Event::CrashCompare,
+        Phase::Flag(_) => Event::CrashFlag,
+        Phase::CheckMark(_) => Event::CrashCheckMark,
+        Phase::CheckValue(_) => Event::CrashCheckValue,
+        _ => Event::CrashCommit,
+    }
+}
+
+/// The event of a turn with an answer.
+fn ended(before: &Process) -> Event {
+    match before.phase {
+        Phase::CheckMark(0) => Event::MarkedNow,
+        Phase::CheckMark(_) => Event::MarkedBack,
+        Phase::CheckValue(0) => Event::OtherNow,
+        Phase::CheckValue(_) => Event::OtherBack,
+        _ => Event::Committed,
+    }
+}
+
+// ---------------------------------------------------------------- the program
+
+/// How long one input may take, and how long a poll is made smaller.
+const PATIENCE: Duration = Duration::from_secs(60);
+const SHRINKING: Duration = Duration::from_secs(20);
+
+/// A run of use_poll on one input.
+struct Run {
+    child: Child,
+    output: Receiver<io::Result<Vec<u8>>>,
+}
+
+impl Run {
+    /// Starts it. Its input is written and its output read beside all else.
+    fn start(program: &str, input: Vec<u8>) -> io::Result<Run> {
+        let mut child = Command::new(program)
+            .stdin(Stdio::piped())
+            .stdout(Stdio::piped())
+            .spawn()?;
+        let mut pipe = child.stdin.take().expect("the input is a pipe");
+        // What it leaves unread shows in its output.
+        std::thread::spawn(move || pipe.write_all(&input));
+        let mut pipe = child.stdout.take().expect("the output is a pipe");
+        let (sender, output) = channel();
+        std::thread::spawn(move || {
+            let mut bytes = Vec::new();
+            let read = pipe.read_to_end(&mut bytes).map(|_| bytes);
+            sender.send(read)
+        });
+        Ok(Run { child, output })
+    }
+
+    /// What it printed, or how it failed in words.
+    fn finish(mut self) -> Result<Vec<u8>, String> {
+        let Ok(output) = self.output.recv_timeout(PATIENCE) else {
+            let _ = self.child.kill();
+            let _ = self.child.wait();
+            return Err(format!("no end in {PATIENCE:?}"));
+        };
+        let status = self.child.wait().map_err(|error| error.to_string())?;
+        if !status.success() {
+            return Err(format!("a fault ({status})"));
+        }
+        output.map_err(|error| error.to_string())
+    }
+}
+
+/// What the program prints for one poll, if it is not what the reference prints, and
+/// the latter.
+fn differs(program: &str, case: &Case) -> io::Result<Option<(String, String)>> {
+    let run = Run::start(program, case.bytes())?;
+    let ours = polls(&case.bytes());
+    let theirs = match run.finish() {
+        Ok(text) => String::from_utf8_lossy(&text).into_owned(),
+        Err(words) => words,
+    };
+    Ok((theirs != ours).then_some((theirs, ours)))
+}
+
+/// The poll without all calls that it can do without and still differ, as far as
+/// time allows: long pieces are tried first.
+fn in_small(program: &str, mut case: Case) -> io::Result<Case> {
+    let (begun, mut length) = (Instant::now(), case.calls.len());
+    while length > 0 {
+        let mut start = 0;
+        while start < case.calls.len() && begun.elapsed() < SHRINKING {
+            let mut fewer = case.clone();
+            let end = fewer.calls.len().min(start + length);
+            fewer.calls.drain(start..end);
+            fewer.cut = fewer.cut.min(6 * fewer.calls.len() + 2);
+            if differs(program, &fewer)?.is_some() {
+                case = fewer;
+            } else {
+                start = end;
+            }
+        }
+        length /= 2;
+    }
+    Ok(case)
+}
+
+/// The calls in words, equal ones in a row only once.
+fn words(case: &Case) -> String {
+    let mut words: Vec<(usize, String)> = Vec::new();
+    for call in case.calls() {
+        let call = match call {
+            Call::Propose { process, value } => format!("propose {process} {value}"),
+            Call::Step { process } => format!("turn {process}"),
+            Call::Crash { process } => format!("crash {process}"),
+            Call::ReadAsSession { process } => format!("session {process}"),
+        };
+        match words.last_mut() {
+            Some((times, last)) if *last == call => *times += 1,
+            _ => words.push((1, call)),
+        }
+    }
+    let words = words.into_iter().map(|(times, call)| match times {
+        1 => call,
+        _ => format!("{call} x {times}"),
+    });
+    words.collect::<Vec<String>>().join(", ")
+}
+
+/// The lines of a text from that one on, a few of them.
+fn lines_from(text: &str, first: usize) -> String {
+    let lines: Vec<&str> = text.lines().skip(first).take(6).collect();
+    lines.join("\n  ")
+}
+
+/// Tells in small how a poll differs.
+fn tell(program: &str, seed: u64, index: u64, case: Case) -> io::Result<()> {
+    let small = in_small(program, case)?;
+    let (theirs, ours) = differs(program, &small)?.expect("a poll that differs");
+    let equal = theirs.lines().zip(ours.lines()).take_while(|(a, b)| a == b);
+    let first = equal.count();
+    let line = |text: &str| text.lines().nth(first).unwrap_or("nothing").to_string();
+    let (proved, reference) = (line(&theirs), line(&ours));
+    println!("difference: seed {seed} index {index}: proved {proved}, reference {reference}");
+    println!("in small: n {}: {}", small.n, words(&small));
+    println!("proved from there on:\n  {}", lines_from(&theirs, first));
+    println!("reference:\n  {}", lines_from(&ours, first));
+    let file = format!("difference-{seed}-{index}.poll");
+    match std::fs::write(&file, small.bytes()) {
+        Ok(()) => println!("poll written to {file}"),
+        Err(error) => println!("{file} could not be written: {error}"),
+    }
+    Ok(())
+}
+
+// ---------------------------------------------------------------- the comparison
+
+/// So many polls reach all that is expected, and a run of so many must.
+const FULL: u64 = 4_000;
+
+/// The polls of a seed, from the first on that was not yet compared.
+struct Comparison {
+    program: String,
+    seed: u64,
+    first: u64,
+    coverage: Coverage,
+    inputs: u64,
+}
+
+impl Comparison {
+    /// The next polls, as many as make up an input, below that index.
+    fn batch(&self, count: u64) -> Vec<Case> {
+        let (mut cases, mut room) = (Vec::<Case>::new(), MOST_BYTES);
+        for index in self.first..count {
+            let case = Case::of(&mut Random::of(self.seed, index));
+            let size = case.bytes().len();
+            if size > room || cases.last().is_some_and(|case| case.cut > 0) {
+                break;
+            }
+            room -= size;
+            cases.push(case);
+        }
+        cases
+    }
+
+    /// Compares the text of these polls, and checks the claims meanwhile; false after
+    /// telling what is wrong.
+    fn compare(&mut self, cases: &[Case]) -> io::Result<bool> {
+        let input: Vec<u8> = cases.iter().flat_map(Case::bytes).collect();
+        let run = Run::start(&self.program, input.clone())?;
+        let ours = polls(&input);
+        let claims: Vec<_> = cases.iter().map(|case| self.coverage.case(case)).collect();
+        let theirs = run.finish();
+        if theirs.as_deref() != Ok(ours.as_bytes()) {
+            let words = theirs.err().unwrap_or("another text".to_string());
+            self.difference(cases, &words)?;
+            return Ok(false);
+        }
+        for (index, claim) in (self.first..).zip(claims) {
+            if let Err(words) = claim {
+                println!("claim: seed {} index {index}: {words}", self.seed);
+                return Ok(false);
+            }
+        }
+        self.first += cases.len() as u64;
+        self.inputs += 1;
+        Ok(true)
+    }
+
+    /// Tells which of these polls differs, which in one input do so by these words.
+    fn difference(&self, cases: &[Case], words: &str) -> io::Result<()> {
+        let seed = self.seed;
+        for (index, case) in (self.first..).zip(cases) {
+            if differs(&self.program, case)?.is_some() {
+                return tell(&self.program, seed, index, case.clone());
+            }
+        }
+        let (first, count) = (self.first, cases.len());
+        println!(
+            "difference: seed {seed} index {first}: {words} with {count} polls in one input, with none alone"
+        );
+        Ok(())
+    }
+}
+
+/// Compares so many polls, after an input without any.
+fn run(program: String, count: u64, seed: u64) -> io::Result<ExitCode> {
+    println!("seed {seed}");
+    let start = Instant::now();
+    let mut comparison = Comparison {
+        program,
+        seed,
+        first: 0,
+        coverage: Coverage::new(),
+        inputs: 0,
+    };
+    let mut cases = Vec::new();
+    while comparison.compare(&cases)? {
+        cases = comparison.batch(count);
+        if cases.is_empty() {
+            return Ok(summary(&comparison, start.elapsed()));
+        }
+    }
+    Ok(ExitCode::FAILURE)
+}
+
+/// Prints what all polls reached, which must be enough.
+fn summary(comparison: &Comparison, time: Duration) -> ExitCode {
+    let (count, coverage) = (comparison.first, &comparison.coverage);
+    let missing = coverage.print();
+    for name in &missing {
+        println!("not reached: {name}");
+    }
+    let left = missing.len();
+    if left > 0 && count >= FULL {
+        return ExitCode::FAILURE;
+    }
+    if left > 0 {
+        println!(
+            "{count} polls are too few for full coverage, {left} short of it; {FULL} are enough"
+        );
+    }
+    let (calls, inputs) = (coverage.calls, comparison.inputs);
+    let seconds = time.as_secs_f64();
+    println!("{calls} calls in {inputs} inputs, {seconds:.1} s");
+    println!("polls: {count} polls, no difference");
+    ExitCode::SUCCESS
+}
+
+fn main() -> ExitCode {
+    let words: Vec<String> = std::env::args().skip(1).collect();
+    let arguments = match &words[..] {
+        [program, count, seed] => Some((program.clone(), count.parse(), seed.parse())),
+        _ => None,
+    };
+    let Some((program, Ok(count @ 1..), Ok(seed))) = arguments else {
+        eprintln!("usage: polls USE_POLL COUNT SEED");
+        return ExitCode::from(2);
+    };
+    run(program, count, seed).unwrap_or_else(|error| {
+        eprintln!("polls: {error}");
+        ExitCode::from(2)
+    })
+}

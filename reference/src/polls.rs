@@ -1,0 +1,174 @@
+//! Many polls in bytes, and what becomes of them in words, as the program use_poll
+//! reads and prints them. (02, wish 6.)
+//!
+//! The bytes of a poll, which another may follow: n; the number of its calls in 16
+//! bits, low byte first; and 6 bytes for each call: kind, seat, 32-bit value, low
+//! byte first. Kind 0 is a proposal of the value; the other kinds ignore it. Kind 1 is
+//! a turn, 2 a crash, and any other kind the session's read-out of the seat, which
+//! shows 3 where the poll is no sound session. Where the bytes end early, so does the
+//! poll: the calls that are whole are carried out.
+//!
+//! The lines of a poll, whose tally is empty at first:
+//!
+//! ```text
+//! poll N CODE                 the opening; refused, the only line of the poll
+//! propose SEAT VALUE CODE     a line for each call
+//! turn SEAT CODE none         or `committed VALUE` or `adopted VALUE` at the end
+//! crash SEAT CODE
+//! session SEAT CODE
+//! tally READS WRITES CONTESTED
+//! round R VALUE unmarked      or `marked`, for each round from 1 to W
+//! seat P out                  or `working ROUND VALUE`, `crashed`, `committed VALUE`
+//!                             or `adopted VALUE`, for each seat from 0 to n - 1
+//! ```
+
+use std::fmt;
+use std::fmt::Write;
+
+use crate::board::Counts;
+use crate::poll::{Answer, Poll, Voter};
+use crate::refusal::Refusal;
+use crate::report::write_seat;
+use crate::sheet::ENTRY;
+
+/// One call on a poll.
+#[derive(Clone, Copy, PartialEq, Eq, Debug)]
+pub enum Call {
+    /// Kind 0, a proposal.
+    Propose { process: usize, value: u32 },
+    /// Kind 1, a turn.
+    Step { process: usize },
+    /// Kind 2, a crash.
+    Crash { process: usize },
+    /// Any other kind, the session's read-out of the seat.
+    ReadAsSession { process: usize },
+}
+
+impl Call {
+    /// What the 6 bytes of a call ask for.
+    pub fn decode(entry: [u8; ENTRY]) -> Call {
+        let [kind, process, a, b, c, d] = entry;
+        let process = usize::from(process);
+        let value = u32::from_le_bytes([a, b, c, d]);
+        match kind {
+            0 => Call::Propose { process, value },
+            1 => Call::Step { process },
+            2 => Call::Crash { process },
+            _ => Call::ReadAsSession { process },
+        }
+    }
+
+    /// The number of the process that it is for.
+    pub fn process(self) -> usize {
+        match self {
+            Call::Propose { process, .. }
+            | Call::Step { process }
+            | Call::Crash { process }
+            | Call::ReadAsSession { process } => process,
+        }
+    }
+
+    /// Carries the call out; the answer is that of a turn.
+    pub fn carry_out(
+        self,
+        poll: &mut Poll,
+        counts: &mut Counts,
+    ) -> Result<Option<Answer>, Refusal> {
+        match self {
+            Call::Propose { process, value } => poll.propose(process, value).map(|()| None),
+            Call::Step { process } => poll.step(process, counts),
+            Call::Crash { process } => poll.crash(process).map(|()| None),
+            Call::ReadAsSession { process } => poll
+                .session()
+                .and_then(|session| session.read_process(process))
+                .map(|_| None),
+        }
+    }
+}
+
+/// The lines of many polls, each ended by a line feed.
+pub fn polls(bytes: &[u8]) -> String {
+    let (mut text, mut rest) = (String::new(), bytes);
+    while let [n, after @ ..] = rest {
+        let (calls, after) = split_calls(after);
+        write_poll(&mut text, *n, calls).expect("a string takes every line");
+        rest = after;
+    }
+    text
+}
+
+/// The bytes of a poll's calls and those after them, from the number of the calls on.
+fn split_calls(bytes: &[u8]) -> (&[u8], &[u8]) {
+    let &[low, high, ref calls @ ..] = bytes else {
+        return (&[], &[]);
+    };
+    let length = ENTRY * usize::from(u16::from_le_bytes([low, high]));
+    calls.split_at(length.min(calls.len()))
+}
+
+/// The bytes of a poll of these calls, of which there are at most 65,535.
+pub fn poll_bytes(n: u8, calls: &[[u8; ENTRY]]) -> Vec<u8> {
+    let [low, high] = (calls.len() as u16).to_le_bytes();
+    [&[n, low, high], calls.as_flattened()].concat()
+}
+
+fn write_poll(text: &mut String, n: u8, calls: &[u8]) -> fmt::Result {
+    let mut poll = match Poll::open(usize::from(n)) {
+        Ok(poll) => poll,
+        Err(refusal) => return writeln!(text, "poll {n} {}", refusal.code()),
+    };
+    writeln!(text, "poll {n} 0")?;
+    let mut counts = Counts::default();
+    for entry in calls.chunks_exact(ENTRY) {
+        let call = Call::decode(entry.try_into().expect("the bytes of a call"));
+        let outcome = call.carry_out(&mut poll, &mut counts);
+        write_call(text, call, outcome)?;
+    }
+    write_end(text, &poll, &counts)
+}
+
+/// The line of one call.
+fn write_call(
+    text: &mut String,
+    call: Call,
+    outcome: Result<Option<Answer>, Refusal>,
+) -> fmt::Result {
+    let code = outcome.map_or_else(Refusal::code, |_| 0);
+    match call {
+        Call::Propose { process, value } => writeln!(text, "propose {process} {value} {code}"),
+        Call::Step { process } => match outcome {
+            Ok(Some(answer)) => writeln!(text, "turn {process} {code} {answer}"),
+            _ => writeln!(text, "turn {process} {code} none"),
+        },
+        Call::Crash { process } => writeln!(text, "crash {process} {code}"),
+        Call::ReadAsSession { process } => writeln!(text, "session {process} {code}"),
+    }
+}
+
+/// The tally, the board and the seats that a poll leaves.
+fn write_end(text: &mut String, poll: &Poll, counts: &Counts) -> fmt::Result {
+    writeln!(text, "tally {counts}")?;
+    let registers = &poll.registers;
+    let rounds = registers.values.iter().zip(&registers.marks);
+    for (round, (value, marked)) in (1..=poll.limit).zip(rounds) {
+        let mark = if *marked { "marked" } else { "unmarked" };
+        writeln!(text, "round {round} {value} {mark}")?;
+    }
+    for (number, voter) in poll.voters[..poll.n].iter().enumerate() {
+        write!(text, "seat {number} ")?;
+        match voter {
+            Voter::Walking(process) => write_seat(text, process)?,
+            Voter::Answered(answer, _) => writeln!(text, "{answer}")?,
+        }
+    }
+    Ok(())
+}
+
+impl fmt::Display for Answer {
+    fn fmt(&self, f: &mut fmt::Formatter) -> fmt::Result {
+        match self {
+            Answer::Committed(value) => write!(f, "committed {value}"),
+            Answer::Adopted(value) => write!(f, "adopted {value}"),
+        }
+    }
+}

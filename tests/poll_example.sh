@@ -1,0 +1,11 @@
+#!/usr/bin/env bash
+# The sample polls, as README runs the first of them: what the proved program writes is the text beside each.
+set -euo pipefail
+cd "$(dirname "$0")/.."
+examples/poll.sh | cmp - examples/two_answers.out
+count=0
+for poll in examples/*.poll; do
+    examples/poll.sh "$poll" | cmp - "${poll%.poll}.out"
+    count=$((count + 1))
+done
+echo "poll example: $count polls as they are played on paper"

@@ -1,0 +1,74 @@
+#!/usr/bin/env bash
+# The program use_poll beside the separately written one on random polls in close contention (02, wish 6): no difference may be found, the
+# claims of the wish and the bound on turns must hold of every poll, and in a run of 4,000 polls or more every answer, by each of its
+# reasons, every refusal and every kind of turn must be reached. Then that wrong programs are found.
+#
+# usage: tests/polls.sh [POLLS [SEED]]      as long as one likes; 4,000 polls from seed 1, and the wrong programs, in the gate
+set -euo pipefail
+cd "$(dirname "$0")/.."
+./build.sh reference use_poll
+polls=$PWD/target/reference/polls
+proved=$PWD/target/bin/use_poll
+"$polls" "$proved" "${1-4000}" "${2-1}" "${@:3}"
+(($# == 0)) || exit 0
+
+out=target/tests/polls
+rm -rf "$out"
+mkdir -p "$out"
+
+# A short run passes, and says that it is short.
+"$polls" "$proved" 100 7 >"$out/short.log" || { cat "$out/short.log"; exit 1; }
+grep -q '^100 polls are too few for full coverage, [0-9]* short of it; 4000 are enough$' "$out/short.log"
+echo "polls: a run of 100 polls says that it is too short"
+
+found() { # WHAT WORDS COMMAND..: 200 polls must end in a difference, or a claim that fails, told in those words
+    local index
+    if (cd "$out" && "${@:3}" 200 1 >found.log 2>&1) || ! grep -qE "^(difference|claim): seed 1 index [0-9]+: $2" "$out/found.log"; then
+        echo "polls: $1 is not found, or in other words than '$2'"
+        cat "$out/found.log"
+        exit 1
+    fi
+    index=$(sed -nE 's/^(difference|claim): seed 1 index ([0-9]+): .*/\2/p' "$out/found.log")
+    echo "polls: $1 is found at poll $((index + 1)) of 200"
+}
+found "a program that prints nothing" 'proved nothing, reference poll ' "$polls" true
+found "a program that fails" 'a fault .exit status: 1. with 0 polls in one input' "$polls" false
+
+# A wrong program: a copy of the separate one with a file that is edited by sed.
+edited() { # FILE EDIT
+    rm -rf "$out/src"
+    cp -r reference/src "$out"
+    sed -i "$2" "$out/src/$1"
+    if cmp -s "reference/src/$1" "$out/src/$1"; then echo "polls: nothing to edit: $2" && exit 1; fi
+    rustc --edition 2021 --crate-type rlib --crate-name janus_reference "$out/src/lib.rs" -o "$out/libjanus_reference.rlib"
+    rustc --edition 2021 --crate-name polls --extern janus_reference="$out/libjanus_reference.rlib" reference/polls.rs -o "$out/polls"
+}
+wrong() { # WHAT FILE EDIT DIFFERENCE: beside the proved program it differs in those words
+    edited "$2" "$3"
+    found "a program that $1" "$4" ./polls "$proved"
+}
+wrong "commits without the checks" phase.rs 's/^            Phase::CheckMark(0)$/            Phase::Commit/' \
+    'proved turn [0-9]+ 0 none, reference turn [0-9]+ 0 committed '
+wrong "answers committed where a check fails" poll.rs 's/then_some(Answer::Adopted/then_some(Answer::Committed/' \
+    'proved turn [0-9]+ 0 adopted ([0-9]+), reference turn [0-9]+ 0 committed \2$'
+wrong "answers adopted with the first proposal" poll.rs '
+    s/^    pub voters: .*/&\n    first: [u32; MAX_PROCESSES],/
+    s/^            voters: session.*/&\n            first: [0; MAX_PROCESSES],/
+    s/^        \*voter = Voter::Walking(Process {/        self.first[process] = value;\n&/
+    s/^        let process = working(voter)?;/        let first = self.first[process];\n&/
+    s/^        let answer = step(.*;/&\n        let adopts = matches!(answer, Some(Answer::Adopted(_)));\n        let answer = if adopts { Some(Answer::Adopted(first)) } else { answer };/' \
+    'proved turn [0-9]+ 0 adopted [0-9]+, reference turn [0-9]+ 0 adopted [0-9]+$'
+wrong "writes D at commit" poll.rs 's/^        return Some(Answer::Committed(process.estimate));/        board.write_decision(process.estimate);\n&/' \
+    'proved tally ([0-9]+) [0-9]+ 0, reference tally \2 [0-9]+ 0$'
+
+# On both sides, where nothing differs, the claims find it.
+untrue() { # WHAT EDIT CLAIM
+    edited poll.rs "$2"
+    rustc --edition 2021 --crate-name reference --extern janus_reference="$out/libjanus_reference.rlib" reference/src/main.rs -o "$out/reference"
+    printf '#!/bin/sh\nexec ./reference polls\n' >"$out/beside"
+    chmod +x "$out/beside"
+    found "a program that $1, beside itself," "$3" ./polls ./beside
+}
+untrue "answers committed where a check fails" 's/then_some(Answer::Adopted/then_some(Answer::Committed/' 'a seat committed [0-9]+, seat [0-9]+ committed [0-9]+$'
+untrue "answers adopted at commit" 's/return Some(Answer::Committed/return Some(Answer::Adopted/' 'one value proposed, seat [0-9]+ adopted [0-9]+$'
+untrue "answers with the round" 's/then_some(Answer::Adopted(process.estimate))/then_some(Answer::Adopted(process.round))/' 'seat [0-9]+ adopted [0-9]+, which none proposed$'
