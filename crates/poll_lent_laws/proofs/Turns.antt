@@ -1,8 +1,8 @@
 -- What a poll's turn takes and gives, by value and with the counts lent, and what each of the two promises.
-use Rattle.base.specs.Prelude.{refl, ℕ, [], _∷_}
-use Rattle.base.specs.Walks.{w64, Is}
+use Rattle.base.specs.Prelude.{refl, ℕ}
+use Rattle.base.specs.Walks.{Is}
 use denote.Struct.Laws as LL
-use Rattle.base_walk.proofs.Promise.{Row, uint, struct, Promise}
+use Rattle.base_walk.proofs.Promise.{Row, struct, Promise}
 use Rattle.model.proofs.Counts as Ct
 use Rattle.model.proofs.Counts.Laws as Ct′
 use Rattle.model_poll.specs.declared.PollStepped.{PollStepped}
@@ -11,7 +11,7 @@ use Rattle.model_poll.proofs.PollStepped as St
 use Rattle.model_poll.proofs.PollStepped.Laws as St′
 use Rattle.model_poll.proofs.Polled as Po
 use Rattle.model_poll.proofs.Polled.Laws as Po′
-use Rattle.session_lent_laws.proofs.Counted.{session, counts, lent}
+use Rattle.session_lent_laws.proofs.Counted.{takes-counts, lent-counts}
 
 module _ {n : ℕ} where
   abbrev pub stepped : Row n
@@ -28,17 +28,7 @@ pub rest-of : (x : PollStepped) → Is St.the-row x (LL.vals St.the-type St′.t
 rest-of x is = let known = LL.owed St.the-type St′.the-laws x _ is in LL.owes Po.the-type Po′.the-laws (withoutLent x) (known .0, (known .1 .0, (known .1 .1 .1 .0, tt)))
 
 abbrev pub turns : Promise 0
-turns = record {
-  takes = session ∷ uint w64 ∷ counts ∷ [];
-  gives = stepped;
-  answer = λ κs a. pollTurn (a .0) (a .1 .0) (a .1 .1 .0);
-  ends = λ κs a. (tt, (tt, (tt, tt)));
-}
+turns = takes-counts stepped (λ κs. pollTurn)
 
 abbrev pub turns-lent : Promise 1
-turns-lent = record {
-  takes = session ∷ uint w64 ∷ lent ∷ [];
-  gives = polled;
-  answer = λ κs a. withoutLent (pollTurn (a .0) (a .1 .0) (a .1 .1 .0 .now));
-  ends = λ κs a. (tt, (tt, (pollTurn (a .0) (a .1 .0) (a .1 .1 .0 .now) .counts, tt)));
-}
+turns-lent = lent-counts polled (λ κs s p c. withoutLent (pollTurn s p c)) (λ s p c. pollTurn s p c .counts)

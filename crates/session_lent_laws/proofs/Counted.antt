@@ -1,8 +1,10 @@
 -- What `step` and `learn` take and give, by value and with the counts lent, and what each of them promises.
 use Rattle.base.specs.Prelude.{refl, ℕ, [], _∷_}
-use Rattle.base.specs.Walks.{w64, Is}
+use Rattle.base.specs.Walks.{w64, Is, Lfts}
 use denote.Struct.Laws as LL
 use Rattle.base_walk.proofs.Promise.{Row, uint, truth, struct, Promise}
+use Rattle.model.specs.declared.Session.{Session}
+use Rattle.model.specs.declared.Counts.{Counts}
 use Rattle.model.specs.declared.Stepped.{Stepped}
 use Rattle.model.specs.Public
 use Rattle.model.specs.Public.{withoutCounts}
@@ -39,6 +41,23 @@ counts-of x is = LL.owed St.the-type St′.the-laws x _ is .1 .1 .0
 pub rest-of : (x : Stepped) → Is St.the-row x (LL.vals St.the-type St′.the-laws x) → Is Ch.the-row (withoutCounts x) (LL.vals Ch.the-type Ch′.the-laws (withoutCounts x))
 rest-of x is = let known = LL.owed St.the-type St′.the-laws x _ is in LL.owes Ch.the-type Ch′.the-laws (withoutCounts x) (known .0, (known .1 .0, tt))
 
+-- an operation on a process that takes the counts: its answer; and one that is lent them: its answer, and the counts that it leaves
+abbrev pub takes-counts : (gives : Row 0) → ((κs : Lfts 0) → Session → ℕ → Counts → gives .row κs .Denot) → Promise 0
+takes-counts gives answer = record {
+  takes = session ∷ uint w64 ∷ counts ∷ [];
+  gives = gives;
+  answer = λ κs a. answer κs (a .0) (a .1 .0) (a .1 .1 .0);
+  ends = λ κs a. (tt, (tt, (tt, tt)));
+}
+
+abbrev pub lent-counts : (gives : Row 1) → ((κs : Lfts 1) → Session → ℕ → Counts → gives .row κs .Denot) → (Session → ℕ → Counts → Counts) → Promise 1
+lent-counts gives answer leaves = record {
+  takes = session ∷ uint w64 ∷ lent ∷ [];
+  gives = gives;
+  answer = λ κs a. answer κs (a .0) (a .1 .0) (a .1 .1 .0 .now);
+  ends = λ κs a. (tt, (tt, (leaves (a .0) (a .1 .0) (a .1 .1 .0 .now), tt)));
+}
+
 abbrev pub steps : Promise 0
 steps = record {
   takes = session ∷ uint w64 ∷ truth ∷ counts ∷ [];
@@ -48,12 +67,7 @@ steps = record {
 }
 
 abbrev pub learns : Promise 0
-learns = record {
-  takes = session ∷ uint w64 ∷ counts ∷ [];
-  gives = stepped;
-  answer = λ κs a. Public.learn (a .0) (a .1 .0) (a .1 .1 .0);
-  ends = λ κs a. (tt, (tt, (tt, tt)));
-}
+learns = takes-counts stepped (λ κs. Public.learn)
 
 abbrev pub steps-lent : Promise 1
 steps-lent = record {
@@ -64,9 +78,4 @@ steps-lent = record {
 }
 
 abbrev pub learns-lent : Promise 1
-learns-lent = record {
-  takes = session ∷ uint w64 ∷ lent ∷ [];
-  gives = changed;
-  answer = λ κs a. withoutCounts (Public.learn (a .0) (a .1 .0) (a .1 .1 .0 .now));
-  ends = λ κs a. (tt, (tt, (Public.learn (a .0) (a .1 .0) (a .1 .1 .0 .now) .counts, tt)));
-}
+learns-lent = lent-counts changed (λ κs s p c. withoutCounts (Public.learn s p c)) (λ s p c. Public.learn s p c .counts)

@@ -2,7 +2,6 @@
 // low byte first. Standard output: a number that comes of the answers, so that no call can be left out.
 ghost use mathlib.Core.Path.{_≡_};
 ghost use Rattle.model.specs.Public.{step as stepOf, learn as learnOf};
-ghost use Rattle.model_poll.specs.Public.{pollTurn};
 use model::Counts;
 use model::Session;
 use session_crash::crash;
@@ -43,15 +42,6 @@ fn learn(s: Session, p: usize, c: Counts) -> Session
 {
     let mut counts = c;
     let answer = session_step_lent::learn(s, p, &mut counts);
-    answer.session
-}
-
-// A turn of a poll, likewise.
-fn turn(s: Session, p: usize, c: Counts) -> Session
-    ensures { λ r. ⌜ r ≡ pollTurn s p c .session ⌝ }
-{
-    let mut counts = c;
-    let answer = poll_turn_lent::turn(s, p, &mut counts);
     answer.session
 }
 
@@ -103,7 +93,7 @@ fn told(operation: u8, count: u32, start: Session) -> u32 {
     wrapping_add_u32(sum, buffer[7])
 }
 
-// Operation 10, a turn of a poll, whose 7 rounds alone may be filled.
+// Operation 10, a turn of a poll with the counts by value. Its 7 rounds alone may be filled.
 fn turned(count: u32) -> u32 {
     let mut s = proposed(true);
     let mut after = s;
@@ -114,7 +104,7 @@ fn turned(count: u32) -> u32 {
     };
     for i in 0..count {
         s.values[(i % 7) as usize] = 1 + i % 8;
-        after = turn(s, 0, c);
+        after = poll_turn::turn(s, 0, c).session;
     }
     after.values[(count % 7) as usize]
 }
