@@ -75,9 +75,9 @@ module _ (W : ℕ) (s : Session) (c : Counts) (p : ℕ) (below : p < s .n) where
 -- ---- sessions and polls apart: 3
 
 -- A test that leads to an absurdity does not hold.
-fails : (b : Bool) → (b ≡ true → ⊥) → b ≡ false
-fails true never = absurd (never refl)
-fails false never = refl
+false-if : (b : Bool) → (b ≡ true → ⊥) → b ≡ false
+false-if true never = absurd (never refl)
+false-if false never = refl
 
 -- "No sound session has an answered seat": a session's operations and read-outs refuse a poll with one.
 pub answered-no-session : (s : Session) (p v : ℕ) → Carries (answerOf (processAt s p)) v → sound s ≡ false
@@ -86,7 +86,7 @@ answered-no-session s p v has =
     let W = window (s .n) in
     let q = processAt s p in
     let is = answer-cases (q .phase) (q .estimate) v has .0 in
-    fails (soundAtAs false W s)
+    false-if (soundAtAs false W s)
     (λ t.
     let f = process-facts W (s .limit) q (sound-process false W s p t) .phase in
     ⊎-elim (λ e. rw e at f) (λ e. rw e at f) is)
@@ -95,11 +95,11 @@ answered-no-session s p v has =
 module _ (s : Session) where
   pub other-limit-no-poll : (s .limit ≡ window (s .n) → ⊥) → soundPoll s ≡ false
   unfolding soundAs
-  other-limit-no-poll other = fails (soundAtAs true (window (s .n)) s) (λ t. other (poll-limit (window (s .n)) s t))
+  other-limit-no-poll other = false-if (soundAtAs true (window (s .n)) s) (λ t. other (poll-limit (window (s .n)) s t))
 
   pub filled-no-poll : (s .decision ≡ 0 → ⊥) → soundPoll s ≡ false
   unfolding soundAs
-  filled-no-poll some = fails (soundAtAs true (window (s .n)) s) (λ t. some (poll-blank (window (s .n)) s t))
+  filled-no-poll some = false-if (soundAtAs true (window (s .n)) s) (λ t. some (poll-blank (window (s .n)) s t))
 
   module _ (p : ℕ) where
     -- The rule of the phase of process p, where the poll is sound.
@@ -109,16 +109,16 @@ module _ (s : Session) where
 
     pub spent-no-poll : processAt s p .phase ≡ Exhausted → soundPoll s ≡ false
     unfolding soundAs soundPhaseAs
-    spent-no-poll e = fails (soundAtAs true (window (s .n)) s) (λ t. true≢false (sym (rule Exhausted e t)))
+    spent-no-poll e = false-if (soundAtAs true (window (s .n)) s) (λ t. true≢false (sym (rule Exhausted e t)))
 
     pub decided-no-poll : processAt s p .phase ≡ Decided → soundPoll s ≡ false
     unfolding soundAs soundPhaseAs
-    decided-no-poll e = fails (soundAtAs true (window (s .n)) s) (λ t. true≢false (sym (rule Decided e t)))
+    decided-no-poll e = false-if (soundAtAs true (window (s .n)) s) (λ t. true≢false (sym (rule Decided e t)))
 
     pub waiting-no-poll : processAt s p .phase ≡ Waiting → window (s .n) ≤ processAt s p .round → soundPoll s ≡ false
     unfolding soundAs soundPhaseAs
     waiting-no-poll e high =
-        fails (soundAtAs true (window (s .n)) s) (λ t. omega (arith, ltb-true (processAt s p .round) (window (s .n)) (rule Waiting e t)))
+        false-if (soundAtAs true (window (s .n)) s) (λ t. omega (arith, ltb-true (processAt s p .round) (window (s .n)) (rule Waiting e t)))
 
 -- What is not sound is refused with 3, by each operation that sessions and polls share.
 pub unsound-refused : (poll : Bool) (s : Session) (c : Counts) (o : Operation) → soundAs poll s ≡ false → codeAs poll s c o ≡ 3

@@ -48,7 +48,7 @@ look-matches p (suc v) k = silent-matches (λ j. refl) (λ j e. let z : _≡_ {A
 -- ---- what an accepted operation knows of its process
 
 -- It is not decided: a test of a decided process does not hold of it.
-not-decided : {φ : Phase} (test : Phase → Bool) → test Decided ≡ true → test φ ≡ false → φ ≡ Decided → ⊥
+pub not-decided : {φ : Phase} (test : Phase → Bool) → test Decided ≡ true → test φ ≡ false → φ ≡ Decided → ⊥
 not-decided test holds fails e = true≢false (sym holds ∙ (rw e at fails))
 
 -- ---- an accepted operation

@@ -19,8 +19,8 @@ use Rattle.theory_poll.specs.Unanimous.{AllCalm, machine-calm, opened-ca
 use Rattle.theory_poll.specs.Calls.{Fresh, followed, held, answers-proposed, shown-given}
 use Rattle.theory_poll.specs.Passes.{taken-pass, calls-taken}
 
-turn-same : {p q : ℕ} → turns p ≡ turns q → p ≡ q
-turn-same e = cc
+turns-of : {p q : ℕ} → turns p ≡ turns q → p ≡ q
+turns-of e = cc
 
 -- ---- of the machine, at any window W with 2 ≤ W and 4 * n ≤ W * W
 
@@ -43,7 +43,7 @@ module _ {W n : ℕ} {start : Session} (wide : 2 ≤ W) (square : 4 * n ≤ W * 
   kept-answer : {p : ℕ} {a : Answer} (v : ℕ) → Gave p a cs → Carries a v → answerOf (processAt m p) ≡ a
   kept-answer {p} {a} v gave has =
       let k = still v (gave .stood) (subst (λ (x : Answer). Carries x v) (sym (gave .answer)) has) in
-      subst (λ (o : ℕ). answerOf (processAt m o) ≡ a) (turn-same (sym (k .1) ∙ gave .own)) (k .2 ∙ gave .answer)
+      subst (λ (o : ℕ). answerOf (processAt m o) ≡ a) (turns-of (sym (k .1) ∙ gave .own)) (k .2 ∙ gave .answer)
 
   pub calls-rule : PollRule W start cs m
   calls-rule =

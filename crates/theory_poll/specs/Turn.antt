@@ -20,7 +20,7 @@ use Rattle.theory_walk.specs.Place.{Found, Placed, PlacedAt, Stands}
 use Rattle.theory_walk.specs.Step.{step-lawful, step-spares, step-older, step-placed}
 use Rattle.theory_board.specs.Matches.{Matches, Long, found-matches}
 use Rattle.theory_board.specs.Invariant.{Invariant, turn-invariant}
-use Rattle.theory_board.specs.Operations.{step-events}
+use Rattle.theory_board.specs.Operations.{step-events, not-decided}
 
 -- ---- without the write of D
 
@@ -87,10 +87,6 @@ ends-placed W L p r v HasAdopted x h wide s a = a
 
 -- ---- the turn
 
--- A gone process is decided, crashed or answered: one that is here is not decided.
-not-decided : {φ : Phase} → isGone (status φ) ≡ false → φ ≡ Decided → ⊥
-not-decided stays e = true≢false (rw e at stays)
-
 pub turn-kept : {W : ℕ} {s : Session} {h : List Event} → Invariant W s h → 1 ≤ W → soundAtAs true W s ≡ true → (c : Counts) (p : ℕ) → TurnAccepted s c p →
     let q = processAt s p in Invariant W (turnAfter W s p) (stepEvents p (q .round) (q .estimate) (q .phase) ++ h)
 unfolding turnAfter pollAccess pollNext next accessOf access
@@ -114,5 +110,5 @@ turn-kept {W} {s} {h} i wide sound c p a =
           (step-placed (s .limit) p (q .round) (q .estimate) (q .phase) true _ (facts .phase) (i .lawful) (placed .0) (placed .1) found-is);
       decided =
           λ v d.
-          absurd (not-decided (a .here) (i .stands p .decided v (step-older (decision p v) p (q .round) (q .estimate) (q .phase) (λ z. z) d) .0));
+          absurd (not-decided (λ φ. isGone (status φ)) refl (a .here) (i .stands p .decided v (step-older (decision p v) p (q .round) (q .estimate) (q .phase) (λ z. z) d) .0));
     })

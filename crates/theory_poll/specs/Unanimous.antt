@@ -50,8 +50,8 @@ Calm HasCommitted = Unit {0}
 Calm HasAdopted = ⊥
 
 -- No round was flagged.
-abbrev pub Unflagged : List Event → Type 0
-Unflagged h = (j : ℕ) → Happened (flag j) h → ⊥
+abbrev pub NoFlag : List Event → Type 0
+NoFlag h = (j : ℕ) → Happened (flag j) h → ⊥
 
 module _ {W : ℕ} {s : Session} {h : List Event} (i : Invariant W s h) (v : ℕ) (only : Only v h) where
   -- Where register r was written, every register up to it holds v.
@@ -66,7 +66,7 @@ module _ {W : ℕ} {s : Session} {h : List Event} (i : Invariant W s h) (v : ℕ
       ]
 
   -- No mark is set.
-  unmarked : Unflagged h → (j : ℕ) → 1 ≤ j → bit (markAt s j) ≡ 0
+  unmarked : NoFlag h → (j : ℕ) → 1 ≤ j → bit (markAt s j) ≡ 0
   unmarked none j some = go (markAt s j) refl
     where
       go : (b : Bool) → markAt s j ≡ b → bit b ≡ 0
@@ -78,7 +78,7 @@ module _ {W : ℕ} {s : Session} {h : List Event} (i : Invariant W s h) (v : ℕ
   calm-go-on r j = cond-cases Calm (ltb (j + 1) (min r W)) (λ t. tt) (λ t. cond-cases Calm (leb W r) (λ u. tt) (λ u. tt))
 
   -- A turn of a calm process leaves it calm.
-  pub calm-next : Unflagged h → 1 ≤ W → (L p r e : ℕ) (φ : Phase) → PhaseSound W L r φ → Proposed e h → Placed W p r e φ h → Calm φ →
+  pub calm-next : NoFlag h → 1 ≤ W → (L p r e : ℕ) (φ : Phase) → PhaseSound W L r φ → Proposed e h → Placed W p r e φ h → Calm φ →
       let q = nextAt W L r e φ true (found s (withoutDecision (accessAt L r φ true))) in Calm (ending φ (q .phase))
   unfolding nextAt accessAt ending withoutDecision found waitingRule
   calm-next none wide L p r e Idle k b a c = tt
@@ -109,9 +109,9 @@ module _ {W : ℕ} {s : Session} {h : List Event} (i : Invariant W s h) (v : ℕ
   calm-next none wide L p r e HasAdopted k b a c = absurd c
 
 -- The events of a calm process' turn are no flag.
-pub calm-events : (p r e : ℕ) (φ : Phase) (h : List Event) → Calm φ → Unflagged h → Unflagged (stepEvents p r e φ ++ h)
+pub calm-events : (p r e : ℕ) (φ : Phase) (h : List Event) → Calm φ → NoFlag h → NoFlag (stepEvents p r e φ ++ h)
 calm-events p r e φ h calm none =
-    step-cases (λ φ es. Calm φ → Unflagged (es ++ h)) p r e
+    step-cases (λ φ es. Calm φ → NoFlag (es ++ h)) p r e
     (λ φ c. none)
     (λ c j f. none j (happened-older (λ e. let z : _≡_ {A = ℕ} 0 1 = cc in omega arith) f))
     (λ i c. absurd c)
@@ -128,7 +128,7 @@ happened-append (e ∷ es) k = happened-past (there here) (happened-append es k)
 -- What is known of a poll and its past where all that was proposed is v.
 pub record AllCalm (s : Session) (h : List Event) : Type 0 where
   pub calm : (p : ℕ) → Calm (processAt s p .phase)
-  pub none : Unflagged h
+  pub none : NoFlag h
 
 -- A turn of a calm poll.
 turn-calm : {W n : ℕ} {s : Session} {h : List Event} → PollReached W n s h → 1 ≤ W → (v : ℕ) → Only v h → (c : Counts) (p : ℕ) → TurnAccepted s c p → AllCalm s h →
@@ -155,7 +155,7 @@ accepted-calm {W} {n} {s} {h} i wide v only c o a k =
     own : Calm (processAt (pollAfter W s o) (pollProcessOf o) .phase)
     own = rw (own-becomes W s o (omega (arith, accepted-below s c o a, i .invariant .long .processes))) (becomes o a)
 
-    unflagged : (o : PollOperation) → Unflagged (pollOperationEvents s o ++ h)
+    unflagged : (o : PollOperation) → NoFlag (pollOperationEvents s o ++ h)
     unflagged (proposes p v) = λ j f. k .none j (happened-older (λ e. let z : _≡_ {A = ℕ} 0 1 = cc in omega arith) f)
     unflagged (turns p) = let q = processAt s p in calm-events p (q .round) (q .estimate) (q .phase) h (k .calm p) (k .none)
     unflagged (crashes p) = k .none
