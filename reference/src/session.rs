@@ -47,6 +47,7 @@ pub struct Session {
 }
 
 /// 01, "Numbers returned", opening: 1.
+#[inline]
 pub(crate) fn check_processes(n: usize) -> Result<(), Refusal> {
     if n == 0 || n > MAX_PROCESSES {
         return Err(Refusal::Processes);
@@ -55,6 +56,7 @@ pub(crate) fn check_processes(n: usize) -> Result<(), Refusal> {
 }
 
 /// 01, "Numbers returned", opening: 1, then 2.
+#[inline]
 pub(crate) fn check_opening(n: usize, limit: usize) -> Result<(), Refusal> {
     check_processes(n)?;
     if limit < window(n) as usize || limit > MAX_ROUNDS {
@@ -65,6 +67,7 @@ pub(crate) fn check_opening(n: usize, limit: usize) -> Result<(), Refusal> {
 
 impl Session {
     /// Opens a session. (01, order: 1, 2.)
+    #[inline]
     pub fn open(n: usize, limit: usize) -> Result<Session, Refusal> {
         check_opening(n, limit)?;
         Ok(Session::blank(n, limit as u32))
