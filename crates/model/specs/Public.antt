@@ -1,4 +1,5 @@
--- The public operations on any session at all, damaged ones included: the machine at the session's window, with one test more.
+-- The public operations on any session at all, damaged ones included: the machine with one test more. At any window W (02, wish 7: "the window a
+-- parameter of the machine"), and in service, at the window of the session's n.
 -- (Opening takes no session: `Machine.opening`.)
 use Prim.Native.Nat.{ℕ}
 use mathlib.Core.Bool.{Bool, false, not}
@@ -13,15 +14,7 @@ use Rattle.model.specs.Window.{window}
 use Rattle.model.specs.Board.{noCounts}
 use Rattle.model.specs.Refusal.{tests}
 use Rattle.model.specs.Machine.{answered}
-use Rattle.model.specs.Sound.{soundAs}
-
--- "3: session not sound", tested first; "session, tally, buffer unchanged". Proposals and crashes are those of polls too (02, wish 6), where 3 is
--- by a poll's soundness: `poll` says which. (A poll's turn is its own: `model_poll`.)
-unfoldable pub operateAs : (poll : Bool) → Session → Counts → Operation → Stepped
-operateAs poll s c o = answered ((not (soundAs poll s), 3) ∷ tests s c o) (window (s .n)) s c o
-
-abbrev pub operate : Session → Counts → Operation → Stepped
-operate s c o = operateAs false s c o
+use Rattle.model.specs.Sound.{soundAtAs}
 
 -- An answer with the counts that the caller lent, as they stand at the end: "the caller lends its tally, which a turn updates where
 -- it stands".
@@ -32,24 +25,57 @@ withCounts a c = record { code = a .code; session = a .session; counts = c }
 abbrev pub withoutCounts : Stepped → Changed
 withoutCounts a = record { code = a .code; session = a .session }
 
+-- ---- at any window
+
+-- "3: session not sound", tested first; "session, tally, buffer unchanged". Proposals and crashes are those of polls too (02, wish 6), where 3 is
+-- by a poll's soundness: `poll` says which. (A poll's turn is its own: `model_poll`.)
+unfoldable pub operateAtAs : (poll : Bool) → (W : ℕ) → Session → Counts → Operation → Stepped
+operateAtAs poll W s c o = answered ((not (soundAtAs poll W s), 3) ∷ tests s c o) W s c o
+
 -- "Proposal 3, 4, 5, 6."
-unfoldable pub proposeAs : (poll : Bool) → Session → (p v : ℕ) → Changed
-proposeAs poll s p v = withoutCounts (operateAs poll s noCounts (Propose p v))
+unfoldable pub proposeAtAs : (poll : Bool) → (W : ℕ) → Session → (p v : ℕ) → Changed
+proposeAtAs poll W s p v = withoutCounts (operateAtAs poll W s noCounts (Propose p v))
+
+abbrev pub proposeAt : (W : ℕ) → Session → (p v : ℕ) → Changed
+proposeAt W s p v = proposeAtAs false W s p v
+
+-- "Work 3, 4, 7, 8, 9, 16."
+unfoldable pub stepAt : (W : ℕ) → Session → (p : ℕ) → (leader : Bool) → Counts → Stepped
+stepAt W s p leader c = operateAtAs false W s c (Step p leader)
+
+-- "Look 3, 4, 7, 8, 16."
+unfoldable pub learnAt : (W : ℕ) → Session → (p : ℕ) → Counts → Stepped
+learnAt W s p c = operateAtAs false W s c (Learn p)
+
+-- "Crash 3, 4, 7, 8."
+unfoldable pub crashAtAs : (poll : Bool) → (W : ℕ) → Session → (p : ℕ) → Changed
+crashAtAs poll W s p = withoutCounts (operateAtAs poll W s noCounts (Crash p))
+
+abbrev pub crashAt : (W : ℕ) → Session → (p : ℕ) → Changed
+crashAt W s p = crashAtAs false W s p
+
+-- ---- in service: at the window of the session's n
+
+abbrev pub operateAs : (poll : Bool) → Session → Counts → Operation → Stepped
+operateAs poll s c o = operateAtAs poll (window (s .n)) s c o
+
+abbrev pub operate : Session → Counts → Operation → Stepped
+operate s c o = operateAs false s c o
+
+abbrev pub proposeAs : (poll : Bool) → Session → (p v : ℕ) → Changed
+proposeAs poll s p v = proposeAtAs poll (window (s .n)) s p v
 
 abbrev pub propose : Session → (p v : ℕ) → Changed
 propose s p v = proposeAs false s p v
 
--- "Work 3, 4, 7, 8, 9, 16."
-unfoldable pub step : Session → (p : ℕ) → (leader : Bool) → Counts → Stepped
-step s p leader c = operate s c (Step p leader)
+abbrev pub step : Session → (p : ℕ) → (leader : Bool) → Counts → Stepped
+step s p leader c = stepAt (window (s .n)) s p leader c
 
--- "Look 3, 4, 7, 8, 16."
-unfoldable pub learn : Session → (p : ℕ) → Counts → Stepped
-learn s p c = operate s c (Learn p)
+abbrev pub learn : Session → (p : ℕ) → Counts → Stepped
+learn s p c = learnAt (window (s .n)) s p c
 
--- "Crash 3, 4, 7, 8."
-unfoldable pub crashAs : (poll : Bool) → Session → (p : ℕ) → Changed
-crashAs poll s p = withoutCounts (operateAs poll s noCounts (Crash p))
+abbrev pub crashAs : (poll : Bool) → Session → (p : ℕ) → Changed
+crashAs poll s p = crashAtAs poll (window (s .n)) s p
 
 abbrev pub crash : Session → (p : ℕ) → Changed
 crash s p = crashAs false s p

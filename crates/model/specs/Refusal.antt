@@ -75,10 +75,14 @@ full c = leb maxCount (c .reads) || leb maxCount (c .writes) || leb maxCount (c 
 
 -- ---- the tests of each operation, in their order
 
--- Opening with n processes and round limit L, within a caller's limits: 1, 2.
+-- Opening with n processes and round limit L, within a caller's limits, at window W: 1, 2.
+abbrev pub openTestsAt : Limits → (W n L : ℕ) → List Test
+openTestsAt most W n L =
+    (not (leb 1 n && leb n (most .processes)), 1) ∷ (not (leb W L && leb L (most .rounds)), 2) ∷ []
+
+-- In service: at the window of n.
 abbrev pub openTests : Limits → (n L : ℕ) → List Test
-openTests most n L =
-    (not (leb 1 n && leb n (most .processes)), 1) ∷ (not (leb (window n) L && leb L (most .rounds)), 2) ∷ []
+openTests most n L = openTestsAt most (window n) n L
 
 -- The operations' tests after 3 (session not sound: `Public`) and 4, by the phase of the process. Proposal: 5, 6.
 abbrev pub proposeTests : Phase → (v : ℕ) → List Test

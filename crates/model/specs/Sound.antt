@@ -73,7 +73,7 @@ soundProcess W L q = soundProcessAs false W L q
 abbrev pub soundAt : (W : ℕ) → Session → Bool
 soundAt W s = soundAtAs false W s
 
--- ---- at the window of its n
+-- ---- in service: at the window of its n
 
 unfoldable pub soundAs : (poll : Bool) → Session → Bool
 soundAs poll s = soundAtAs poll (window (s .n)) s

@@ -6,8 +6,8 @@ use Rattle.model.specs.Window.{window}
 use Rattle.model.specs.Step.{counted, turn, stored, found, learnt, process}
 use Rattle.model.specs.Refusal.{Test, refusal, isMalformed, processOf, ownTests, tests, stepped, full}
 use Rattle.model.specs.Machine.{accessOf, becomes, after, countsAfter, answered, perform}
-use Rattle.model.specs.Public.{operateAs, proposeAs, crashAs, withCounts, withoutCounts}
-use Rattle.model.specs.Sound.{soundAs}
+use Rattle.model.specs.Public.{operateAtAs, proposeAtAs, crashAtAs, operateAs, withCounts, withoutCounts}
+use Rattle.model.specs.Sound.{soundAtAs, soundAs}
 use Rattle.base.specs.Bools.{cond-same}
 use Rattle.model_laws.specs.Accepted.{NoneHolds, Accepted, accepted}
 use Rattle.model_laws.specs.Sounds.{sound-few}
@@ -43,21 +43,24 @@ pub stepped-counts : (m : ℕ) (s t : Session) (c d : Counts) → withCounts (wi
 stepped-counts zero s t c d = refl
 stepped-counts (suc m) s t c d = refl
 
--- ---- the public operations
+-- ---- the public operations, at any window
 
--- A sound session, or poll, is answered as the machine answers.
-pub operate-sound : (poll : Bool) (s : Session) (c : Counts) (o : Operation) → soundAs poll s ≡ true → operateAs poll s c o ≡ perform (window (s .n)) s c o
-unfolding operateAs perform answered
-operate-sound poll s c o ok = rw ok
+module _ (poll : Bool) (W : ℕ) (s : Session) (c : Counts) where
+  -- A sound session, or poll, is answered as the machine answers.
+  pub operate-sound : (o : Operation) → soundAtAs poll W s ≡ true → operateAtAs poll W s c o ≡ perform W s c o
+  unfolding operateAtAs perform answered
+  operate-sound o ok = rw ok
 
--- A proposal and a crash leave any counts.
-pub propose-counts : (poll : Bool) (s : Session) (c : Counts) (p v : ℕ) → withCounts (proposeAs poll s p v) c ≡ operateAs poll s c (Propose p v)
-unfolding proposeAs operateAs answered countsAfter accessOf counted
-propose-counts poll s c p v = stepped-counts (codeAs poll s c (Propose p v)) s (after (window (s .n)) s (Propose p v)) noCounts c
+  -- A proposal and a crash leave any counts.
+  pub propose-counts : (p v : ℕ) → withCounts (proposeAtAs poll W s p v) c ≡ operateAtAs poll W s c (Propose p v)
+  unfolding proposeAtAs operateAtAs answered countsAfter accessOf counted
+  propose-counts p v = stepped-counts (refusal ((not (soundAtAs poll W s), 3) ∷ tests s c (Propose p v))) s (after W s (Propose p v)) noCounts c
 
-pub crash-counts : (poll : Bool) (s : Session) (c : Counts) (p : ℕ) → withCounts (crashAs poll s p) c ≡ operateAs poll s c (Crash p)
-unfolding crashAs operateAs answered countsAfter accessOf counted
-crash-counts poll s c p = stepped-counts (codeAs poll s c (Crash p)) s (after (window (s .n)) s (Crash p)) noCounts c
+  pub crash-counts : (p : ℕ) → withCounts (crashAtAs poll W s p) c ≡ operateAtAs poll W s c (Crash p)
+  unfolding crashAtAs operateAtAs answered countsAfter accessOf counted
+  crash-counts p = stepped-counts (refusal ((not (soundAtAs poll W s), 3) ∷ tests s c (Crash p))) s (after W s (Crash p)) noCounts c
+
+-- ---- in service
 
 -- What an accepted operation knows.
 pub admitted : (poll : Bool) (s : Session) (c : Counts) (o : Operation) → codeAs poll s c o ≡ 0 → (soundAs poll s ≡ true) × Accepted s c o
@@ -105,7 +108,7 @@ module _ (poll : Bool) (s : Session) (c : Counts) (o : Operation) where
 
   module _ {k : ℕ} (code : k ≡ codeAs poll s c o) where
     pub operate-refused : (k ≡ 0 → ⊥) → record { code = k; session = s; counts = c } ≡ operateAs poll s c o
-    unfolding operateAs answered
+    unfolding operateAtAs answered soundAs
     operate-refused some = stepped-refused _ _ code some
 
     module _ (none : k ≡ 0) where
@@ -120,7 +123,7 @@ module _ (poll : Bool) (s : Session) (c : Counts) (o : Operation) where
       pub operate-accepted : {t : Session} {d : Counts} → t ≡ after (window (s .n)) s o →
           d ≡ cond (full c) c (countsAfter s c o) →
           record { code = k; session = t; counts = d } ≡ operateAs poll s c o
-      unfolding operateAs answered countsAfter
+      unfolding operateAtAs answered countsAfter soundAs
       operate-accepted et ed = stepped-accepted s c code none et (ed ∙ accepted-counts (s .limit) _ _ c o (known .1 .own))
 
 -- The same of an operation that is lent no counts.

@@ -1,10 +1,9 @@
 -- Each accepted operation of the machine leaves a sound session, and so does each operation, accepted or refused.
 use Rattle.base.specs.Prelude.{ℕ, suc, zero, _≤_, _<_, arith, _≡_, refl, Bool, true, false, _&&_, leb, not-false, leb-true, eqb-false}
 use Rattle.model_laws.specs.Types.{Access, Nothing, ReadValue, WriteValue, ReadMark, SetMark, ReadDecision, WriteDecision, Process, Session, Counts, Limits, Waiting, Crashed, Operation, Propose, Step, Learn, Crash, Malformed}
-use Rattle.model.specs.Window.{window}
 use Rattle.model.specs.Board.{processAt, opened, maxProcesses, maxRounds}
 use Rattle.model.specs.Step.{access, stored, turn, found}
-use Rattle.model.specs.Refusal.{refusal, stepped, openTests, ownTests, processOf, tests}
+use Rattle.model.specs.Refusal.{refusal, stepped, openTestsAt, ownTests, processOf, tests}
 use Rattle.model.specs.Machine.{accessOf, becomes, after, countsAfter, answered, perform}
 use Rattle.model.specs.Sound.{soundAt, soundProcess, pollRegisters, soundAtAs, soundProcessAs}
 use Rattle.base.specs.Bools.{and-left, and-right}
@@ -107,10 +106,10 @@ unfolding opened
 opened-sound W n L some few wide low = facts-sound false W _ (search (every-drop, every-replicate, idle-sound, session-only))
 
 -- What an accepted opening within limits knows.
-pub open-accepted : (most : Limits) (n L : ℕ) → refusal (openTests most n L) ≡ 0 →
-    (1 ≤ n) × (n ≤ most .processes) × (window n ≤ L) × (L ≤ most .rounds)
-open-accepted most n L e =
-    let a = none-holds (openTests most n L) (omega arith) e in
+pub open-accepted : (most : Limits) (W n L : ℕ) → refusal (openTestsAt most W n L) ≡ 0 →
+    (1 ≤ n) × (n ≤ most .processes) × (W ≤ L) × (L ≤ most .rounds)
+open-accepted most W n L e =
+    let a = none-holds (openTestsAt most W n L) (omega arith) e in
     let b = not-false (leb 1 n && leb n (most .processes)) (a .0) in
-    let c = not-false (leb (window n) L && leb L (most .rounds)) (a .1 .0) in
+    let c = not-false (leb W L && leb L (most .rounds)) (a .1 .0) in
     search (and-left, and-right, leb-true)

@@ -13,15 +13,19 @@ use Rattle.model.specs.Window.{window}
 use Rattle.model.specs.Board.{processAt}
 use Rattle.model.specs.Step.{found, turn, counted}
 use Rattle.model.specs.Refusal.{Test, refusal, learnTests, stepped}
-use Rattle.model.specs.Machine.{opening, perform}
+use Rattle.model.specs.Machine.{openingAt, perform}
 use Rattle.model_poll.specs.declared.Answer.{Answer}
 use Rattle.model_poll.specs.declared.Answer.the-variants.{Pending}
 use Rattle.model_poll.specs.declared.PollStepped.{PollStepped}
 use Rattle.model_poll.specs.Turn.{pollAccess, pollNext, answerOf}
 
--- "A poll has L = W": the session's opening with that limit. (So 1 alone can refuse it: `model_poll_laws`, `poll-opening-code`.)
-unfoldable pub pollOpening : (n : ℕ) → Changed
-pollOpening n = opening n (window n)
+-- "A poll has L = W": the session's opening with that limit, at window W (02, wish 7: "the window a parameter of the machine .. Polls are covered too").
+unfoldable pub pollOpeningAt : (W n : ℕ) → Changed
+pollOpeningAt W n = openingAt W n W
+
+-- In service: at the window of n. (So 1 alone can refuse it: `model_poll_laws`, `poll-opening-code`.)
+abbrev pub pollOpening : (n : ℕ) → Changed
+pollOpening n = pollOpeningAt (window n) n
 
 -- ---- a turn
 

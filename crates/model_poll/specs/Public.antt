@@ -1,4 +1,5 @@
--- The public operations on any poll at all, damaged ones included: the machine at the poll's window, with one test more, 3 (`soundPoll` of `model`).
+-- The public operations on any poll at all, damaged ones included: the machine with one test more, 3 (`soundPoll` of `model`). At any window W (02, wish
+-- 7), and in service, at the window of the poll's n.
 -- (Opening takes no poll: `Machine.pollOpening`.)
 use Prim.Native.Nat.{ℕ}
 use mathlib.Core.Bool.{true, not}
@@ -8,28 +9,43 @@ use Rattle.model.specs.declared.Counts.{Counts}
 use Rattle.model.specs.declared.Changed.{Changed}
 use Rattle.model.specs.declared.ProcessAnswer.{ProcessAnswer}
 use Rattle.model.specs.Window.{window}
-use Rattle.model.specs.Sound.{soundPoll}
-use Rattle.model.specs.Public.{proposeAs, crashAs}
+use Rattle.model.specs.Sound.{soundAtAs}
+use Rattle.model.specs.Public.{proposeAtAs, crashAtAs}
 use Rattle.model.specs.ReadOut.{processRecordAs}
 use Rattle.model_poll.specs.declared.PollStepped.{PollStepped}
 use Rattle.model_poll.specs.declared.Polled.{Polled}
 use Rattle.model_poll.specs.Machine.{turnTests, turned}
 
+-- ---- at any window
+
 -- Proposal 3, 4, 5, 6.
-abbrev pub pollPropose : Session → (p v : ℕ) → Changed
-pollPropose s p v = proposeAs true s p v
+abbrev pub pollProposeAt : (W : ℕ) → Session → (p v : ℕ) → Changed
+pollProposeAt W s p v = proposeAtAs true W s p v
 
 -- Turn 3, 4, 7, 8, 16.
-unfoldable pub pollTurn : Session → (p : ℕ) → Counts → PollStepped
-pollTurn s p c = turned ((not (soundPoll s), 3) ∷ turnTests s c p) (window (s .n)) s c p
+unfoldable pub pollTurnAt : (W : ℕ) → Session → (p : ℕ) → Counts → PollStepped
+pollTurnAt W s p c = turned ((not (soundAtAs true W s), 3) ∷ turnTests s c p) W s c p
 
 -- Crash 3, 4, 7, 8.
+abbrev pub pollCrashAt : (W : ℕ) → Session → (p : ℕ) → Changed
+pollCrashAt W s p = crashAtAs true W s p
+
+-- ---- in service: at the window of the poll's n
+
+abbrev pub pollPropose : Session → (p v : ℕ) → Changed
+pollPropose s p v = pollProposeAt (window (s .n)) s p v
+
+abbrev pub pollTurn : Session → (p : ℕ) → Counts → PollStepped
+pollTurn s p c = pollTurnAt (window (s .n)) s p c
+
 abbrev pub pollCrash : Session → (p : ℕ) → Changed
-pollCrash s p = crashAs true s p
+pollCrash s p = pollCrashAt (window (s .n)) s p
 
 -- "Seats are read out as in sessions": 3, 4.
 abbrev pub pollRecord : Session → (p : ℕ) → ProcessAnswer
 pollRecord s p = processRecordAs true s p
+
+-- ---- the counts
 
 -- A turn's answer with the counts that the caller lent, as they stand at the end.
 abbrev pub withLent : Polled → Counts → PollStepped

@@ -5,7 +5,7 @@ use Rattle.model.specs.Window.{window}
 use Rattle.model.specs.Board.{processAt, idle, with, maxRounds}
 use Rattle.model.specs.Step.{access, accessAt, counted, found}
 use Rattle.model.specs.Refusal.{Test, refusal, status, isOutside, isGone, full, learnTests, stepped}
-use Rattle.model.specs.Sound.{soundPoll}
+use Rattle.model.specs.Sound.{soundAs, soundPoll}
 use Rattle.model_laws.specs.Accepted.{none-holds}
 use Rattle.model_laws.specs.Sounds.{sound-facts}
 use Rattle.model_laws.specs.Answers.{index-is, stepped-accepted, stepped-refused}
@@ -13,7 +13,7 @@ use Rattle.model_poll.specs.declared.Answer.{Answer}
 use Rattle.model_poll.specs.declared.Answer.the-variants.{Pending}
 use Rattle.model_poll.specs.Turn.{pollAccess, answerOf}
 use Rattle.model_poll.specs.Machine.{turnTests, turnAfter, turnCounts, given, polled, turned}
-use Rattle.model_poll.specs.Public.{pollTurn}
+use Rattle.model_poll.specs.Public.{pollTurnAt, pollTurn}
 
 -- What an accepted turn knows: its process is one of the n, has proposed, is not gone; and the counts are not full.
 pub record TurnAccepted (s : Session) (c : Counts) (p : ℕ) : Type 0 where
@@ -32,7 +32,7 @@ turn-accepted s c p e =
 module _ (s : Session) (c : Counts) (p : ℕ) {k : ℕ} (code : k ≡ refusal ((not (soundPoll s), 3) ∷ turnTests s c p)) where
   -- Refused: nothing changes, and no answer is given.
   pub turn-refused : (k ≡ 0 → ⊥) → record { code = k; session = s; counts = c; answer = Pending } ≡ pollTurn s p c
-  unfolding pollTurn turned
+  unfolding pollTurnAt turned soundAs
   turn-refused some = go k _ code some
     where
       go : (k m : ℕ) → k ≡ m → (k ≡ 0 → ⊥) →
@@ -56,7 +56,7 @@ module _ (s : Session) (c : Counts) (p : ℕ) {k : ℕ} (code : k ≡ refusal ((
     -- The poll, the counts and the answer that the code leaves.
     pub turn-left : {t : Session} {d : Counts} {a : Answer} → t ≡ turnAfter (window (s .n)) s p → d ≡ cond (full c) c (turnCounts s c p) →
         a ≡ answerOf (processAt t p) → record { code = k; session = t; counts = d; answer = a } ≡ pollTurn s p c
-    unfolding pollTurn turned
+    unfolding pollTurnAt turned soundAs
     turn-left et ed ea =
         let zero-is : 0 ≡ refusal ((not (soundPoll s), 3) ∷ turnTests s c p) = sym none ∙ code in
         let counts = rw (turn-known .1 .room) at ed in

@@ -3,14 +3,14 @@ use Rattle.base.specs.Prelude.{ℕ, suc, zero, _*_, _+_, _≤_, arith, _≡_, r
 use Rattle.base.specs.Bools.{and-left, and-right, and-both}
 use Rattle.model.specs.Window.{window}
 use Rattle.model.specs.Board.{opened, maxProcesses, maxRounds, serverLimits}
-use Rattle.model.specs.Refusal.{refusal, openTests, changed}
-use Rattle.model.specs.Machine.{openWithin, opening}
+use Rattle.model.specs.Refusal.{refusal, openTestsAt, openTests, changed}
+use Rattle.model.specs.Machine.{openWithinAt}
 use Rattle.model.specs.Sound.{pollRegisters, soundAtAs}
 use Rattle.model_laws.specs.Windows.{window-low}
-use Rattle.model_laws.specs.Operations.{opened-sound}
+use Rattle.model_laws.specs.Operations.{open-accepted}
 use Rattle.model_laws.specs.Every.{every-replicate, every-drop}
 use Rattle.model_laws.specs.Sounds.{facts-sound, idle-sound}
-use Rattle.model_poll.specs.Machine.{pollOpening}
+use Rattle.model_poll.specs.Machine.{pollOpeningAt, pollOpening}
 
 -- The first test of an opening alone can hold: L is W, and W is at most 256 where n is at most 64.
 open-first : (n : ℕ) → _≡_ {A = ℕ} (refusal (openTests serverLimits n (window n))) (cond (not (leb 1 n && leb n maxProcesses)) 1 0)
@@ -28,7 +28,7 @@ open-first n = go (leb 1 n && leb n maxProcesses) refl
 
 -- "(Numbers 1, ..": no other.
 pub poll-opening-code : (n : ℕ) → (pollOpening n .code ≡ 0) ⊎ (pollOpening n .code ≡ 1)
-unfolding pollOpening opening openWithin
+unfolding pollOpeningAt openWithinAt
 poll-opening-code n = rw (open-first n) (go (leb 1 n && leb n maxProcesses))
   where
     go : (b : Bool) →
@@ -37,16 +37,15 @@ poll-opening-code n = rw (open-first n) (go (leb 1 n && leb n maxProcesses))
     go true = inl refl
     go false = inr refl
 
--- What an accepted opening knows, and what it opens.
-pub poll-opened : (n : ℕ) → pollOpening n .code ≡ 0 → (1 ≤ n) × (n ≤ maxProcesses) × (pollOpening n .session ≡ opened n (window n))
-unfolding pollOpening opening openWithin
-poll-opened n = rw (open-first n) (go (leb 1 n && leb n maxProcesses) refl)
+-- What an accepted opening at any window knows, and what it opens.
+pub poll-opened : (W n : ℕ) → pollOpeningAt W n .code ≡ 0 → (1 ≤ n) × (n ≤ maxProcesses) × (W ≤ maxRounds) × (pollOpeningAt W n .session ≡ opened n W)
+unfolding pollOpeningAt openWithinAt
+poll-opened W n = go (refusal (openTestsAt serverLimits W n W)) refl
   where
-    go : (b : Bool) → (leb 1 n && leb n maxProcesses) ≡ b →
-        let a = changed (cond {A = ℕ} (not b) 1 0) (opened 0 0) (opened n (window n)) in
-        a .code ≡ 0 → (1 ≤ n) × (n ≤ maxProcesses) × (a .session ≡ opened n (window n))
-    go true t e = (leb-true 1 n (and-left (leb 1 n) _ t), leb-true n maxProcesses (and-right (leb 1 n) _ t), refl)
-    go false t e = absurd (omega arith)
+    go : (k : ℕ) → refusal (openTestsAt serverLimits W n W) ≡ k → let a = changed k (opened 0 0) (opened n W) in
+        a .code ≡ 0 → (1 ≤ n) × (n ≤ maxProcesses) × (W ≤ maxRounds) × (a .session ≡ opened n W)
+    go zero e ok = let a = open-accepted serverLimits W n W e in (a .0, a .1, a .3, refl)
+    go (suc k) e ok = absurd (omega arith)
 
 -- A poll just opened is sound, at any window that fits.
 pub opened-poll-sound : (W n : ℕ) → 1 ≤ n → n ≤ maxProcesses → W ≤ maxRounds → soundAtAs true W (opened n W) ≡ true

@@ -9,13 +9,14 @@ use Rattle.model.specs.declared.Process.{Process}
 use Rattle.model.specs.declared.Session.{Session}
 use Rattle.model.specs.declared.Counts.{Counts}
 use Rattle.model.specs.declared.Changed.{Changed}
+use Rattle.model.specs.Window.{window}
 use Rattle.model.specs.Board.{processAt}
 use Rattle.model_rule.specs.Event.{Event, proposal, stepEvents}
 use Rattle.model_rule.specs.Calls.{ifAccepted}
 use Rattle.model_poll.specs.declared.Answer.the-variants.{Pending}
 use Rattle.model_poll.specs.declared.Polled.{Polled}
 use Rattle.model_poll.specs.Machine.{PollOperation, proposes, turns, crashes, pollPerform}
-use Rattle.model_poll.specs.Public.{pollPropose, pollTurn, pollCrash, withLent}
+use Rattle.model_poll.specs.Public.{pollProposeAt, pollTurnAt, pollCrashAt, withLent}
 
 -- ---- the machine
 
@@ -55,17 +56,26 @@ pub record PollCall : Type 0 where
 abbrev pub unasked : Changed → Polled
 unasked a = record { code = a .code; session = a .session; answer = Pending }
 
--- What the contract of the called function says, where the call was given poll s: `poll_change::propose`, `poll_turn_lent::turn`, `poll_change::crash`.
-abbrev pub PollPromised : Session → Counts → PollOperation → (answer : Polled) → (after : Counts) → Type 0
-PollPromised s c (proposes p v) a c′ = (a ≡ unasked (pollPropose s p v)) × (c′ ≡ c)
-PollPromised s c (turns p) a c′ = withLent a c′ ≡ pollTurn s p c
-PollPromised s c (crashes p) a c′ = (a ≡ unasked (pollCrash s p)) × (c′ ≡ c)
+-- What the called operation says at window W, where the call was given poll s.
+abbrev pub PollPromisedAt : (W : ℕ) → Session → Counts → PollOperation → (answer : Polled) → (after : Counts) → Type 0
+PollPromisedAt W s c (proposes p v) a c′ = (a ≡ unasked (pollProposeAt W s p v)) × (c′ ≡ c)
+PollPromisedAt W s c (turns p) a c′ = withLent a c′ ≡ pollTurnAt W s p c
+PollPromisedAt W s c (crashes p) a c′ = (a ≡ unasked (pollCrashAt W s p)) × (c′ ≡ c)
 
--- A list of calls from a poll: "each call of a run or order gets the .. poll .. that the one before left".
-pub data PollRun (start : Session) : List PollCall → Session → Type 0 where
-  none : PollRun start [] start
-  call : {cs : List PollCall} {s : Session} → PollRun start cs s → (c : PollCall) →
-      PollPromised s (c .input .counts) (c .input .operation) (c .answer) (c .after) → PollRun start (c ∷ cs) (c .answer .session)
+-- In service, at the window of the poll's n: what the contract of the called function says, `poll_change::propose`, `poll_turn_lent::turn`,
+-- `poll_change::crash`.
+abbrev pub PollPromised : Session → Counts → PollOperation → (answer : Polled) → (after : Counts) → Type 0
+PollPromised s c o a c′ = PollPromisedAt (window (s .n)) s c o a c′
+
+-- A list of calls from a poll, where w n is the window of n processes: "each call of a run or order gets the .. poll .. that the one before left".
+pub data PollRunWith (w : ℕ → ℕ) (start : Session) : List PollCall → Session → Type 0 where
+  none : PollRunWith w start [] start
+  call : {cs : List PollCall} {s : Session} → PollRunWith w start cs s → (c : PollCall) →
+      PollPromisedAt (w (s .n)) s (c .input .counts) (c .input .operation) (c .answer) (c .after) → PollRunWith w start (c ∷ cs) (c .answer .session)
+
+-- In service.
+abbrev pub PollRun : Session → List PollCall → Session → Type 0
+PollRun start cs s = PollRunWith window start cs s
 
 -- The operations of the calls.
 abbrev pub pollInputs : List PollCall → List PollInput

@@ -7,11 +7,11 @@ use Rattle.model.specs.declared.Counts.{Counts}
 use Rattle.model.specs.declared.Operation.{Operation}
 use Rattle.model.specs.declared.Operation.the-variants.{Propose, Step, Learn, Crash, Malformed}
 use Rattle.model.specs.declared.Changed.{Changed}
+use Rattle.model.specs.Window.{window}
 use Rattle.model.specs.Board.{processAt}
 use Rattle.model.specs.Refusal.{processOf}
 use Rattle.model.specs.Machine.{perform}
-use Rattle.model.specs.Public
-use Rattle.model.specs.Public.{withCounts}
+use Rattle.model.specs.Public.{withCounts, proposeAt, stepAt, learnAt, crashAt}
 use Rattle.model_rule.specs.Event.{Event, eventsOf}
 
 -- ---- the machine
@@ -50,20 +50,28 @@ pub record Call : Type 0 where
   pub answer : Changed
   pub after : Counts
 
--- What the contract of the called function says, where the call was given session s: `session_propose::propose`,
--- `session_step_lent::step`, `session_step_lent::learn`, `session_crash::crash`. No function carries out a malformed operation.
-abbrev pub Promised : Session → Counts → Operation → (answer : Changed) → (after : Counts) → Type 0
-Promised s c (Propose p v) a c′ = (a ≡ Public.propose s p v) × (c′ ≡ c)
-Promised s c (Step p leader) a c′ = withCounts a c′ ≡ Public.step s p leader c
-Promised s c (Learn p) a c′ = withCounts a c′ ≡ Public.learn s p c
-Promised s c (Crash p) a c′ = (a ≡ Public.crash s p) × (c′ ≡ c)
-Promised s c Malformed a c′ = ⊥
+-- What the called operation says at window W, where the call was given session s. No operation carries out a malformed one.
+abbrev pub PromisedAt : (W : ℕ) → Session → Counts → Operation → (answer : Changed) → (after : Counts) → Type 0
+PromisedAt W s c (Propose p v) a c′ = (a ≡ proposeAt W s p v) × (c′ ≡ c)
+PromisedAt W s c (Step p leader) a c′ = withCounts a c′ ≡ stepAt W s p leader c
+PromisedAt W s c (Learn p) a c′ = withCounts a c′ ≡ learnAt W s p c
+PromisedAt W s c (Crash p) a c′ = (a ≡ crashAt W s p) × (c′ ≡ c)
+PromisedAt W s c Malformed a c′ = ⊥
 
--- A list of calls from a session: "each call is given the session that the last one returned or, refused, left".
-pub data Run (start : Session) : List Call → Session → Type 0 where
-  none : Run start [] start
-  call : {cs : List Call} {s : Session} → Run start cs s → (c : Call) →
-      Promised s (c .input .counts) (c .input .operation) (c .answer) (c .after) → Run start (c ∷ cs) (c .answer .session)
+-- In service, at the window of the session's n: what the contract of the called function says, `session_propose::propose`,
+-- `session_step_lent::step`, `session_step_lent::learn`, `session_crash::crash`.
+abbrev pub Promised : Session → Counts → Operation → (answer : Changed) → (after : Counts) → Type 0
+Promised s c o a c′ = PromisedAt (window (s .n)) s c o a c′
+
+-- A list of calls from a session, where w n is the window of n processes: "each call is given the session that the last one returned or, refused, left".
+pub data RunWith (w : ℕ → ℕ) (start : Session) : List Call → Session → Type 0 where
+  none : RunWith w start [] start
+  call : {cs : List Call} {s : Session} → RunWith w start cs s → (c : Call) →
+      PromisedAt (w (s .n)) s (c .input .counts) (c .input .operation) (c .answer) (c .after) → RunWith w start (c ∷ cs) (c .answer .session)
+
+-- In service.
+abbrev pub Run : Session → List Call → Session → Type 0
+Run start cs s = RunWith window start cs s
 
 -- The operations of the calls.
 abbrev pub inputs : List Call → List Input

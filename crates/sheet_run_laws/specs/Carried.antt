@@ -40,7 +40,7 @@ unfolding opened
 sheet-opens t e ew es =
     let inside = accepted-inside serverLimits t e in
     let a = sheet-facts serverLimits t e .opens in
-    let f = open-accepted serverLimits (processCount t) (roundLimit t) (rw (a .0, a .1 .0)) in
+    let f = open-accepted serverLimits (window (processCount t)) (processCount t) (roundLimit t) (rw (a .0, a .1 .0)) in
     rw (ew, es)
     (record {
       opened = record {

@@ -4,9 +4,8 @@ use Rattle.model_laws.specs.Types.{Session, Counts, Operation, Propose, Step, L
 use Rattle.model.specs.Window.{window}
 use Rattle.model.specs.Board.{opened, serverLimits}
 use Rattle.model.specs.Refusal.{refusal, openTests, changed}
-use Rattle.model.specs.Machine.{answered, perform, openWithin, opening}
-use Rattle.model.specs.Public.{operate, withCounts, step, learn}
-use Rattle.model.specs.Sound.{soundAs}
+use Rattle.model.specs.Machine.{answered, perform, openWithinAt, opening}
+use Rattle.model.specs.Public.{operate, withCounts, stepAt, learnAt}
 use Rattle.model_laws.specs.Windows.{window-least, window-square}
 use Rattle.model_laws.specs.Accepted.{never-three}
 use Rattle.model_laws.specs.Operations.{open-accepted}
@@ -19,20 +18,19 @@ use Rattle.theory_agreement.specs.Machine.{Reached, machine-reached, ope
 -- What is promised of a call is what the operation answers: a proposal and a crash leave any counts.
 pub promised-operate : (s : Session) (c : Counts) (o : Operation) (a : Changed) (c′ : Counts) → Promised s c o a c′ →
     withCounts a c′ ≡ operate s c o
-unfolding step learn
-promised-operate s c (Propose p v) a c′ e = rw (e .0, e .1) (propose-counts false s c p v)
+unfolding stepAt learnAt
+promised-operate s c (Propose p v) a c′ e = rw (e .0, e .1) (propose-counts false _ s c p v)
 promised-operate s c (Step p leader) a c′ e = e
 promised-operate s c (Learn p) a c′ e = e
-promised-operate s c (Crash p) a c′ e = rw (e .0, e .1) (crash-counts false s c p)
+promised-operate s c (Crash p) a c′ e = rw (e .0, e .1) (crash-counts false _ s c p)
 promised-operate s c Malformed a c′ e = absurd e
 
 -- A session that the machine reached, at its own window: every operation answers as the machine does, and not 3.
 module _ {n L : ℕ} {m : Session} {h : List Event} (i : Reached (window n) n L m h) (f : Input) where
   pub operate-reached : operate m (f .counts) (f .operation) ≡ perform (window n) m (f .counts) (f .operation)
-  unfolding soundAs
   operate-reached =
       let w : window (m .n) ≡ window n = ap window (i .size) in
-      operate-sound false m (f .counts) (f .operation) (rw w (i .sound)) ∙ rw w
+      operate-sound false _ m (f .counts) (f .operation) (rw w (i .sound)) ∙ rw w
 
   pub never-unsound : perform (window n) m (f .counts) (f .operation) .code ≡ 3 → ⊥
   unfolding perform answered
@@ -53,13 +51,13 @@ followed {n} {L} {start} wide i (call {cs} {s} run c promised) =
 
 -- An accepted opening.
 pub opening-reached : (n L : ℕ) → opening n L .code ≡ 0 → (1 ≤ n) × Reached (window n) n L (opening n L .session) []
-unfolding opening openWithin
+unfolding openWithinAt
 opening-reached n L = go (refusal (openTests serverLimits n L)) refl
   where
     go : (k : ℕ) → refusal (openTests serverLimits n L) ≡ k → changed k (opened 0 0) (opened n L) .code ≡ 0 →
         (1 ≤ n) × Reached (window n) n L (changed k (opened 0 0) (opened n L) .session) []
     go zero e ok =
-        let a = open-accepted serverLimits n L e in (a .0, opened-reached (window n) n L (a .0) (a .1) (a .2) (a .3))
+        let a = open-accepted serverLimits (window n) n L e in (a .0, opened-reached (window n) n L (a .0) (a .1) (a .2) (a .3))
     go (suc k) e ok = absurd (omega arith)
 
 -- The agreement rule.

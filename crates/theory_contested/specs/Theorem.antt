@@ -5,7 +5,7 @@ use Rattle.model_laws.specs.Types.{Session, Counts, Operation, Ran, Stepped}
 use Rattle.model.specs.Window.{window}
 use Rattle.model.specs.Board.{noCounts, opened, serverLimits, maxRounds}
 use Rattle.model.specs.Refusal.{refusal, openTests, changed}
-use Rattle.model.specs.Machine.{perform, openWithin, opening}
+use Rattle.model.specs.Machine.{perform, openWithinAt, opening}
 use Rattle.model.specs.Sheet.{processCount, roundLimit, entries, sheetRefusal}
 use Rattle.model.specs.Runner.{runBy, runFrom, ranOr, runWithin, run}
 use Rattle.model_laws.specs.Windows.{window-least}
@@ -29,7 +29,7 @@ opened-contested n L = none L
     none (suc r) = rw (← none r, same-everywhere maxRounds r _)
 
 opening-contested : (n L : ℕ) → 0 ≡ markedRounds (opening n L .session)
-unfolding opening openWithin
+unfolding openWithinAt
 opening-contested n L = go (refusal (openTests serverLimits n L))
   where
     go : (k : ℕ) → 0 ≡ markedRounds (changed k (opened 0 0) (opened n L) .session)

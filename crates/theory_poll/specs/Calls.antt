@@ -16,7 +16,7 @@ use Rattle.model_poll.specs.declared.Polled.{Polled}
 use Rattle.model_poll.specs.declared.PollStepped.{PollStepped}
 use Rattle.model_poll.specs.Turn.{answerOf, Carries}
 use Rattle.model_poll.specs.Machine.{PollOperation, proposes, turns, crashes, turnTests, turned, unanswered, pollOpening, pollPerform}
-use Rattle.model_poll.specs.Public.{withLent, pollTurn}
+use Rattle.model_poll.specs.Public.{withLent, pollTurnAt}
 use Rattle.model_poll_rule.specs.Calls.{PollInput, pollMachine, pollOperationEvents, pollEvents, pollPast, PollCall, PollPromised, PollRun, none, call, pollInputs, isTurnOf, turnsOf}
 use Rattle.model_poll_rule.specs.Rule.{EachAsThePollMachine, Stood, last, before, Gave, PollRule, PollClaim}
 use Rattle.model_poll_laws.specs.Opening.{poll-opened}
@@ -29,11 +29,11 @@ use Rattle.theory_poll.specs.Machine.{PollReached, poll-reached, opened-
 -- What is promised of a call on a sound poll is what the machine answers.
 promised-performs : (s : Session) (c : Counts) (o : PollOperation) (a : Polled) (c′ : Counts) → soundPoll s ≡ true → PollPromised s c o a c′ →
     withLent a c′ ≡ pollPerform (window (s .n)) s c o
-unfolding pollPerform pollTurn turned
+unfolding pollPerform pollTurnAt turned soundAs
 promised-performs s c (proposes p v) a c′ ok e =
-    rw (e .0, e .1) (ap unanswered (propose-counts true s c p v ∙ operate-sound true s c (Propose p v) ok))
+    rw (e .0, e .1) (ap unanswered (propose-counts true _ s c p v ∙ operate-sound true _ s c (Propose p v) ok))
 promised-performs s c (turns p) a c′ ok e = e ∙ rw ok
-promised-performs s c (crashes p) a c′ ok e = rw (e .0, e .1) (ap unanswered (crash-counts true s c p ∙ operate-sound true s c (Crash p) ok))
+promised-performs s c (crashes p) a c′ ok e = rw (e .0, e .1) (ap unanswered (crash-counts true _ s c p ∙ operate-sound true _ s c (Crash p) ok))
 
 -- At the window of a poll that the machine reached.
 answered-as : {n : ℕ} {s : Session} {h : List Event} → PollReached (window n) n s h → (c : Counts) (o : PollOperation) (a : Polled) (c′ : Counts) →

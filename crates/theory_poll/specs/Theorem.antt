@@ -3,7 +3,7 @@ use Rattle.base.specs.Prelude.{ℕ, _+_, _*_, _≤_, arith, _≡_, refl, sym, _
 use Rattle.model_laws.specs.Types.{Session, HasCommitted, HasAdopted}
 use Rattle.model.specs.Window.{window}
 use Rattle.model.specs.Board.{processAt, idle, opened, maxProcesses, maxRounds}
-use Rattle.model_laws.specs.Windows.{window-least, window-square, window-low}
+use Rattle.model_laws.specs.Windows.{window-least, window-square}
 use Rattle.model_rule.specs.Event.{Proposed}
 use Rattle.model_poll.specs.declared.Answer.{Answer}
 use Rattle.model_poll.specs.declared.Answer.the-variants.{Commits}
@@ -73,11 +73,10 @@ opened-fresh W n p = same-everywhere maxProcesses p idle
 
 pub poll-rule : PollClaim
 poll-rule n ok cs s run =
-    let o = poll-opened n ok in
+    let o = poll-opened (window n) n ok in
     let least = window-least n (o .0) in
     let wide : 1 ≤ window n = omega arith in
-    let low : window n ≤ maxRounds = omega (arith, window-low n, o .1) in
-    let reached = opened-poll-reached (window n) n (o .0) (o .1) low in
-    let f = followed wide reached (rw (o .2) at run) in
-    rw (o .2)
+    let reached = opened-poll-reached (window n) n (o .0) (o .1) (o .2) in
+    let f = followed wide reached (rw (o .3) at run) in
+    rw (o .3)
     (f .0, f .1, rw (f .1) (calls-rule least (window-square n) reached (opened-fresh (window n) n) (opened-calm (window n) n) cs (f .0)))

@@ -106,7 +106,7 @@ module _ (t : List ℕ) (budget : ℕ) (ok : sheetRefusal serverLimits t ≡ 0) 
 
   pub sheet-reached : (1 ≤ processCount t) × Reached (windowOf t) (processCount t) (roundLimit t) (openedBy t) []
   sheet-reached =
-      let a = open-accepted serverLimits (processCount t) (roundLimit t) sheet-opens in
+      let a = open-accepted serverLimits (windowOf t) (processCount t) (roundLimit t) sheet-opens in
       (a .0, opened-reached (windowOf t) (processCount t) (roundLimit t) (a .0) (a .1) (a .2) (a .3))
 
   wide : 1 ≤ windowOf t

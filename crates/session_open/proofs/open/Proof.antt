@@ -3,7 +3,7 @@ use Rattle.base.specs.Prelude.{_≡_, refl, ℕ, zero, suc, needs}
 use Rattle.model.specs.declared.Session.{Session}
 use Rattle.model.specs.Board.{opened, serverLimits}
 use Rattle.model.specs.Refusal.{refusal, openTests}
-use Rattle.model.specs.Machine.{opening, openWithin}
+use Rattle.model.specs.Machine.{openWithinAt, opening}
 use Rattle.session_open.proofs.open.Statement.{statement}
 use Rattle.session_open.proofs.open.Tie as tie
 
@@ -14,12 +14,12 @@ number c = rw (c .before .server .ensures) at (c .open-refusal .ensures)
 -- The answer, where the number is not 0 and where it is.
 module _ (n L : ℕ) {t : Session} where
   refused : (k : ℕ) → k ≡ refusal (openTests serverLimits n L) → (k ≡ 0 → ⊥) → t ≡ opened 0 0 → record { code = k; session = t } ≡ opening n L
-  unfolding opening openWithin
+  unfolding openWithinAt
   refused zero e some same = absurd (some refl)
   refused (suc k) e some same = rw (← e, same)
 
   accepted : {k : ℕ} → k ≡ refusal (openTests serverLimits n L) → k ≡ 0 → t ≡ opened n L → record { code = k; session = t } ≡ opening n L
-  unfolding opening openWithin
+  unfolding openWithinAt
   accepted e none same = rw (← e, none, same)
 
 returns : tie.Need-returns
