@@ -12,9 +12,9 @@ use Rattle.model_rule.specs.Event.{Proposed}
 use Rattle.model_poll.specs.declared.Answer.{Answer}
 use Rattle.model_poll.specs.declared.Answer.the-variants.{Commits}
 use Rattle.model_poll.specs.Turn.{answerOf, Carries, passTurns}
-use Rattle.model_poll.specs.Machine.{turns, pollOpening, pollPerform}
+use Rattle.model_poll.specs.Machine.{turns, pollOpeningAt, pollPerform}
 use Rattle.model_poll.specs.Public.{withLent}
-use Rattle.model_poll_rule.specs.Calls.{pollMachine, pollPast, PollCall, PollRun, pollInputs, turnsOf}
+use Rattle.model_poll_rule.specs.Calls.{pollMachine, pollPast, PollCall, PollRunWith, pollInputs, turnsOf}
 
 -- After each call, refused or not, its answer, the counts and the poll equal the machine's, and 3 is never returned.
 abbrev pub EachAsThePollMachine : (W : ℕ) → Session → List PollCall → Type 0
@@ -55,13 +55,22 @@ pub record PollRule (W : ℕ) (start : Session) (cs : List PollCall) (s : Sessio
   pub onePass : (p : ℕ) → turnsOf p cs ≤ passTurns W
   pub working : (p : ℕ) → status (processAt s p .phase) ≡ Active → turnsOf p cs < passTurns W
 
--- The claim: of every list of calls from every accepted opening.
-abbrev pub PollClaim : Type 0
-PollClaim =
-    (n : ℕ)
-    → pollOpening n .code ≡ 0
+-- The claim, of n processes, where w n is the window of n processes: of every list of calls from an accepted opening.
+abbrev pub PollClaimWith : (w : ℕ → ℕ) → (n : ℕ) → Type 0
+PollClaimWith w n =
+    let start = pollOpeningAt (w n) n in
+    start .code ≡ 0
     → (cs : List PollCall) (s : Session)
-    → PollRun (pollOpening n .session) cs s
-    → EachAsThePollMachine (window n) (pollOpening n .session) cs
-    × (s ≡ pollMachine (window n) (pollOpening n .session) (pollInputs cs))
-    × PollRule (window n) (pollOpening n .session) cs s
+    → PollRunWith w (start .session) cs s
+    → EachAsThePollMachine (w n) (start .session) cs
+    × (s ≡ pollMachine (w n) (start .session) (pollInputs cs))
+    × PollRule (w n) (start .session) cs s
+
+-- 02, wish 7: "Show the agreement rule for every window W of at least 2 with W times W at least 4n .. Polls are covered too." (As `EveryWindow` of
+-- `model_rule` has it of sessions.)
+abbrev pub EveryPollWindow : Type 0
+EveryPollWindow = (w : ℕ → ℕ) (n : ℕ) → 4 * n ≤ w n * w n → PollClaimWith w n
+
+-- The claim in service.
+abbrev pub PollClaim : Type 0
+PollClaim = (n : ℕ) → PollClaimWith window n

@@ -1,16 +1,16 @@
 -- The agreement rule (document 01, "The agreement rule"; demand 3 of the order).
-use Prim.Native.Nat.{ℕ, _≤_}
+use Prim.Native.Nat.{ℕ, _*_, _≤_}
 use mathlib.Core.Path.{_≡_}
 use mathlib.Core.List.{List, [], _∷_}
 use Rattle.model.specs.declared.Phase.the-variants.{Decided}
 use Rattle.model.specs.declared.Session.{Session}
 use Rattle.model.specs.Window.{window}
 use Rattle.model.specs.Board.{processAt}
-use Rattle.model.specs.Machine.{perform, opening}
+use Rattle.model.specs.Machine.{perform, openingAt}
 use Rattle.model.specs.Public.{withCounts}
 use Rattle.model_rule.specs.Event.{Event, Past, Proposed, Written, Committed, DecidedOn}
 use Rattle.model_rule.specs.Event.Event.{commit}
-use Rattle.model_rule.specs.Calls.{machine, past, Call, Run, inputs}
+use Rattle.model_rule.specs.Calls.{machine, past, Call, RunWith, inputs}
 
 -- "After each call, refused or not, its answer, the tally and the session equal the machine's", and 3 is never returned.
 abbrev pub EachAsTheMachine : (W : ℕ) → Session → List Call → Type 0
@@ -44,13 +44,23 @@ pub record Rule (s : Session) (h : List Event) : Type 0 where
   -- a value committed in round R is the only one written to the register of round R or a later one, before or after
   pub commitment : (R r u v : ℕ) → Committed R v h → Written r u h → R ≤ r → u ≡ v
 
--- The claim: of every list of calls from every accepted opening.
-abbrev pub AgreementRule : Type 0
-AgreementRule =
-    (n L : ℕ)
-    → opening n L .code ≡ 0
+-- The claim, of n processes and round limit L, where w n is the window of n processes: of every list of calls from an accepted opening.
+abbrev pub AgreementWith : (w : ℕ → ℕ) → (n L : ℕ) → Type 0
+AgreementWith w n L =
+    let start = openingAt (w n) n L in
+    start .code ≡ 0
     → (cs : List Call) (s : Session)
-    → Run (opening n L .session) cs s
-    → EachAsTheMachine (window n) (opening n L .session) cs
-    × (s ≡ machine (window n) (opening n L .session) (inputs cs))
-    × Rule s (past (window n) (opening n L .session) (inputs cs))
+    → RunWith w (start .session) cs s
+    → EachAsTheMachine (w n) (start .session) cs
+    × (s ≡ machine (w n) (start .session) (inputs cs))
+    × Rule s (past (w n) (start .session) (inputs cs))
+
+-- 02, wish 7: "Show the agreement rule for every window W of at least 2 with W times W at least 4n, the window a parameter of the machine, for all n at
+-- once." (An opening accepts 1 or more processes, so that a window with W times W at least 4n is at least 2.) A window that is one number for every n
+-- is `λ m. W`.
+abbrev pub EveryWindow : Type 0
+EveryWindow = (w : ℕ → ℕ) (n L : ℕ) → 4 * n ≤ w n * w n → AgreementWith w n L
+
+-- The claim in service.
+abbrev pub AgreementRule : Type 0
+AgreementRule = (n L : ℕ) → AgreementWith window n L

@@ -1,4 +1,4 @@
--- The rule of the machine, at any window W with 2 ≤ W and 4 * n ≤ W * W.
+-- What the machine at window W comes to, and its rule where 2 ≤ W and 4 * n ≤ W * W.
 use Rattle.base.specs.Prelude.{ℕ, suc, zero, _*_, _≤_, arith, _≡_, refl, _∙_, true, false, List, [], _∷_, _++_}
 use Rattle.model_laws.specs.Types.{Session, Counts, Operation}
 use Rattle.model.specs.Board.{processAt, opened, maxProcesses, maxRounds}
@@ -70,20 +70,3 @@ opened-reached W n L some few wide low =
 -- The rule of every session that the machine reached.
 pub reached-rule : {W n L : ℕ} {s : Session} {h : List Event} → 2 ≤ W → 4 * n ≤ W * W → Reached W n L s h → Rule s h
 reached-rule wide square i = invariant-rule (i .invariant) wide (rw (i .size) square)
-
--- The claim, for all windows at once: of every list of operations from a session just opened.
-abbrev pub MachineRule : Type 0
-MachineRule =
-    (W n L : ℕ)
-    → 2 ≤ W
-    → 4 * n ≤ W * W
-    → 1 ≤ n
-    → n ≤ maxProcesses
-    → W ≤ L
-    → L ≤ maxRounds
-    → (fs : List Input)
-    → Rule (machine W (opened n L) fs) (past W (opened n L) fs)
-
-pub machine-rule : MachineRule
-machine-rule W n L wide square some few fits low fs =
-    reached-rule wide square (machine-reached (omega arith) (opened-reached W n L some few fits low) fs)

@@ -69,7 +69,7 @@ module _ {n L : ℕ} (wide : 1 ≤ window n) where
 
 pub contested : ContestedRule
 contested n L ok cs s c run tally =
-    let o = opening-reached n L ok in
+    let o = opening-reached (window n) n L ok in
     let wide : 1 ≤ window n = omega (arith, window-least n (o .0)) in
     let f = followed wide (o .1) run in
     rw (f .1) (calls-contested wide (o .1) (opening-contested n L) cs (f .0) c tally)

@@ -1,12 +1,10 @@
 -- The calls follow the machine, and what they answered stands in the records.
 use Rattle.base.specs.Prelude.{ℕ, suc, zero, _+_, _*_, _≤_, _<_, arith, _≡_, refl, sym, _∙_, ap, subst, ℕ-discrete, Bool, true, false, true≢false, cond, _&&_, List, [], _∷_, _++_, _⊎_, inl, inr, ⊎-elim, eqb, eqb-true, eq-eqb, ne-eqb}
 use Rattle.model_laws.specs.Types.{Session, Counts, Process, Propose, Crash, HasCommitted, HasAdopted}
-use Rattle.model.specs.Window.{window}
 use Rattle.model.specs.Board.{processAt, idle}
 use Rattle.model.specs.Refusal.{refusal, stepped}
 use Rattle.model.specs.Machine.{answered, perform}
-use Rattle.model.specs.Sound.{soundAs, soundPoll}
-use Rattle.model_laws.specs.Windows.{window-least, window-square, window-low}
+use Rattle.model.specs.Sound.{soundAtAs}
 use Rattle.model_laws.specs.Accepted.{returned, never-three}
 use Rattle.model_laws.specs.Answers.{stepped-code, operate-sound, propose-counts, crash-counts}
 use Rattle.model_rule.specs.Event.{Event, proposal, stepEvents, Proposed}
@@ -17,7 +15,7 @@ use Rattle.model_poll.specs.declared.PollStepped.{PollStepped}
 use Rattle.model_poll.specs.Turn.{answerOf, Carries}
 use Rattle.model_poll.specs.Machine.{PollOperation, proposes, turns, crashes, turnTests, turned, unanswered, pollOpening, pollPerform}
 use Rattle.model_poll.specs.Public.{withLent, pollTurnAt}
-use Rattle.model_poll_rule.specs.Calls.{PollInput, pollMachine, pollOperationEvents, pollEvents, pollPast, PollCall, PollPromised, PollRun, none, call, pollInputs, isTurnOf, turnsOf}
+use Rattle.model_poll_rule.specs.Calls.{PollInput, pollMachine, pollOperationEvents, pollEvents, pollPast, PollCall, PollPromisedAt, PollRunWith, none, call, pollInputs, isTurnOf, turnsOf}
 use Rattle.model_poll_rule.specs.Rule.{EachAsThePollMachine, Stood, last, before, Gave, PollRule, PollClaim}
 use Rattle.model_poll_laws.specs.Opening.{poll-opened}
 use Rattle.model_poll_laws.specs.Performs.{pollProcessOf, pollBecomes, perform-cases, others-stay, own-becomes, accepted-below, answered-stays, gives, turn-gives}
@@ -27,21 +25,21 @@ use Rattle.theory_poll.specs.Machine.{PollReached, poll-reached, opened-
 -- ---- the calls follow the machine
 
 -- What is promised of a call on a sound poll is what the machine answers.
-promised-performs : (s : Session) (c : Counts) (o : PollOperation) (a : Polled) (c′ : Counts) → soundPoll s ≡ true → PollPromised s c o a c′ →
-    withLent a c′ ≡ pollPerform (window (s .n)) s c o
-unfolding pollPerform pollTurnAt turned soundAs
-promised-performs s c (proposes p v) a c′ ok e =
-    rw (e .0, e .1) (ap unanswered (propose-counts true _ s c p v ∙ operate-sound true _ s c (Propose p v) ok))
-promised-performs s c (turns p) a c′ ok e = e ∙ rw ok
-promised-performs s c (crashes p) a c′ ok e = rw (e .0, e .1) (ap unanswered (crash-counts true _ s c p ∙ operate-sound true _ s c (Crash p) ok))
+promised-performs : (W : ℕ) (s : Session) (c : Counts) (o : PollOperation) (a : Polled) (c′ : Counts) → soundAtAs true W s ≡ true →
+    PollPromisedAt W s c o a c′ → withLent a c′ ≡ pollPerform W s c o
+unfolding pollPerform pollTurnAt turned
+promised-performs W s c (proposes p v) a c′ ok e =
+    rw (e .0, e .1) (ap unanswered (propose-counts true W s c p v ∙ operate-sound true W s c (Propose p v) ok))
+promised-performs W s c (turns p) a c′ ok e = e ∙ rw ok
+promised-performs W s c (crashes p) a c′ ok e =
+    rw (e .0, e .1) (ap unanswered (crash-counts true W s c p ∙ operate-sound true W s c (Crash p) ok))
 
 -- At the window of a poll that the machine reached.
-answered-as : {n : ℕ} {s : Session} {h : List Event} → PollReached (window n) n s h → (c : Counts) (o : PollOperation) (a : Polled) (c′ : Counts) →
-    PollPromised s c o a c′ → withLent a c′ ≡ pollPerform (window n) s c o
-unfolding soundAs
-answered-as {n} {s} m c o a c′ p =
-    let w : window (s .n) ≡ window n = ap window (m .size) in
-    rw (← w) (promised-performs s c o a c′ (rw w (m .sound)) p)
+answered-as : (w : ℕ → ℕ) {n : ℕ} {s : Session} {h : List Event} → PollReached (w n) n s h → (c : Counts) (o : PollOperation) (a : Polled) (c′ : Counts) →
+    PollPromisedAt (w (s .n)) s c o a c′ → withLent a c′ ≡ pollPerform (w n) s c o
+answered-as w {n} {s} m c o a c′ p =
+    let same : w (s .n) ≡ w n = ap w (m .size) in
+    rw (← same) (promised-performs (w (s .n)) s c o a c′ (rw same (m .sound)) p)
 
 -- The machine never returns 3.
 never-unsound : (W : ℕ) (s : Session) (c : Counts) (o : PollOperation) → pollPerform W s c o .code ≡ 3 → ⊥
@@ -51,15 +49,15 @@ never-unsound W s c (turns p) e =
     omega (arith, returned 3 (turnTests s c p) (omega arith) (sym (stepped-code _ s _ _ _) ∙ e) .0)
 never-unsound W s c (crashes p) e = never-three s c (Crash p) (sym (stepped-code _ s _ _ _) ∙ e)
 
-pub followed : {n : ℕ} {start : Session} {cs : List PollCall} {s : Session} → 1 ≤ window n → PollReached (window n) n start [] → PollRun start cs s →
-    EachAsThePollMachine (window n) start cs × (s ≡ pollMachine (window n) start (pollInputs cs))
+pub followed : {w : ℕ → ℕ} {n : ℕ} {start : Session} {cs : List PollCall} {s : Session} → 1 ≤ w n → PollReached (w n) n start [] →
+    PollRunWith w start cs s → EachAsThePollMachine (w n) start cs × (s ≡ pollMachine (w n) start (pollInputs cs))
 followed wide i none = (tt, refl)
-followed {n} {start} wide i (call {cs} {s} run c promised) =
+followed {w} {n} {start} wide i (call {cs} {s} run c promised) =
     let f = followed wide i run in
     let m = poll-reached wide i (pollInputs cs) in
-    let e = answered-as m (c .input .counts) (c .input .operation) (c .answer) (c .after)
-    (subst (λ (x : Session). PollPromised x (c .input .counts) (c .input .operation) (c .answer) (c .after)) (f .1) promised) in
-    ((e, λ three. never-unsound (window n) _ (c .input .counts) (c .input .operation) (sym (ap (λ (x : PollStepped). x .code) e) ∙ three), f .0), ap (λ (x : PollStepped). x .session) e)
+    let e = answered-as w m (c .input .counts) (c .input .operation) (c .answer) (c .after)
+    (subst (λ (x : Session). PollPromisedAt (w (x .n)) x (c .input .counts) (c .input .operation) (c .answer) (c .after)) (f .1) promised) in
+    ((e, λ three. never-unsound (w n) _ (c .input .counts) (c .input .operation) (sym (ap (λ (x : PollStepped). x .code) e) ∙ three), f .0), ap (λ (x : PollStepped). x .session) e)
 
 -- ---- the answers
 

@@ -1,16 +1,16 @@
--- The rule of polls holds.
+-- The rule of polls holds at every window that is wide enough; the rule in service is an instance.
 use Rattle.base.specs.Prelude.{ℕ, _+_, _*_, _≤_, arith, _≡_, refl, sym, _∙_, ap, subst, List, [], ⊎-elim}
 use Rattle.model_laws.specs.Types.{Session, HasCommitted, HasAdopted}
 use Rattle.model.specs.Window.{window}
 use Rattle.model.specs.Board.{processAt, idle, opened, maxProcesses, maxRounds}
-use Rattle.model_laws.specs.Windows.{window-least, window-square}
+use Rattle.model_laws.specs.Windows.{wide-enough, window-square}
 use Rattle.model_rule.specs.Event.{Proposed}
 use Rattle.model_poll.specs.declared.Answer.{Answer}
 use Rattle.model_poll.specs.declared.Answer.the-variants.{Commits}
 use Rattle.model_poll.specs.Turn.{answerOf, Carries}
-use Rattle.model_poll.specs.Machine.{turns, pollOpening}
+use Rattle.model_poll.specs.Machine.{turns}
 use Rattle.model_poll_rule.specs.Calls.{pollMachine, pollPast, PollCall, pollInputs}
-use Rattle.model_poll_rule.specs.Rule.{EachAsThePollMachine, Stood, Gave, PollRule, PollClaim}
+use Rattle.model_poll_rule.specs.Rule.{EachAsThePollMachine, Stood, Gave, PollRule, PollClaimWith, EveryPollWindow, PollClaim}
 use Rattle.model_poll_laws.specs.Opening.{poll-opened}
 use Rattle.model_poll_laws.specs.Performs.{answer-cases}
 use Rattle.theory_board.specs.Opening.{same-everywhere}
@@ -71,12 +71,21 @@ opened-fresh : (W n : ℕ) → Fresh (opened n W)
 unfolding opened
 opened-fresh W n p = same-everywhere maxProcesses p idle
 
-pub poll-rule : PollClaim
-poll-rule n ok cs s run =
-    let o = poll-opened (window n) n ok in
-    let least = window-least n (o .0) in
-    let wide : 1 ≤ window n = omega arith in
-    let reached = opened-poll-reached (window n) n (o .0) (o .1) (o .2) in
+-- The rule of polls, at every window.
+pub every-poll-window : EveryPollWindow
+every-poll-window w n square ok cs s run =
+    let o = poll-opened (w n) n ok in
+    let least : 2 ≤ w n = wide-enough (w n) n (o .0) square in
+    let wide : 1 ≤ w n = omega arith in
+    let reached = opened-poll-reached (w n) n (o .0) (o .1) (o .2) in
     let f = followed wide reached (rw (o .3) at run) in
     rw (o .3)
-    (f .0, f .1, rw (f .1) (calls-rule least (window-square n) reached (opened-fresh (window n) n) (opened-calm (window n) n) cs (f .0)))
+    (f .0, f .1, rw (f .1) (calls-rule least square reached (opened-fresh (w n) n) (opened-calm (w n) n) cs (f .0)))
+
+-- At a window that is one number, in the words of 02, wish 7.
+pub poll-rule-at : (W n : ℕ) → 2 ≤ W → 4 * n ≤ W * W → PollClaimWith (λ m. W) n
+poll-rule-at W n least square = every-poll-window (λ m. W) n square
+
+-- And in service.
+pub poll-rule : PollClaim
+poll-rule n = every-poll-window window n (window-square n)
