@@ -85,8 +85,8 @@ def listed(terms):
 
 
 def moves(edit, step):
-    """The calls as the rule's proof has them, newest first; `step` is its word for a step."""
-    return listed([f"{step} {p}" if v is None else f"proposes {p} {v}" for p, v in calls(edit)][::-1])
+    """The calls as a proof has them, oldest first; `step` is its word for a step."""
+    return [f"{step} {p}" if v is None else f"proposes {p} {v}" for p, v in calls(edit)]
 
 
 def sheet(edit):
@@ -101,7 +101,7 @@ def poll_refutation(edit):
     answers = [answer.split() for answer in edit["answers"].split(", ")] if "answers" in edit else []
     given = [f"{ANSWERS[word]} {value}" for word, value in answers]
     values = {
-        "list": moves(edit, "turns"),
+        "list": listed(moves(edit, "turns")[::-1]),
         "n": edit["processes"],
         "answers": listed(given[::-1]),
         "code": edit.get("returns", "0"),
@@ -122,9 +122,9 @@ def refutation(edit):
     if "contested" in edit:
         return ["contested.template"], crates, {"sheet": listed(sheet(edit)), "contested": edit["contested"], "marked": edit["marked"]}
     v, R = re.fullmatch(r"(\d+) in round (\d+)", edit["commits"]).groups()
-    u, r = re.fullmatch(r"(\d+) in round (\d+)", edit["writes"]).groups()
-    values = {"moves": moves(edit, "works"), "n": edit["processes"], "L": edit["rounds"], "R": R, "v": v, "r": r, "u": u}
-    return ["refuted.template"], crates, values
+    u, r, p = re.fullmatch(r"(\d+) in round (\d+) by process (\d+)", edit["writes"]).groups()
+    values = {"moves": listed(moves(edit, "works")), "n": edit["processes"], "L": edit["rounds"], "R": R, "v": v, "p": p, "r": r, "u": u}
+    return ["refuted.template"], crates + " model_rule_cases", values
 
 
 def write_refutation(copy, edit):
@@ -186,7 +186,7 @@ def fault_of(path):
 
 
 def main():
-    edits = sorted(EDITS.glob("*.edit"))
+    edits = sorted(EDITS.glob(sys.argv[1] if len(sys.argv) > 1 else "*.edit"))
     failed = 0
     with ThreadPoolExecutor(os.cpu_count()) as pool:
         faults = list(pool.map(fault_of, edits))

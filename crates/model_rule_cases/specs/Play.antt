@@ -1,0 +1,94 @@
+-- Lists of calls that are played on the machine at any window, oldest first: proposals, steps that are told to lead, looks.
+use Prim.Native.Nat.{ℕ}
+use mathlib.Core.Path.{_≡_, refl, sym, _∙_, ap, subst}
+use mathlib.Core.Bool.{true, false}
+use mathlib.Core.List.{List, [], _∷_, _++_}
+use Rattle.model.specs.declared.Session.{Session}
+use Rattle.model.specs.declared.Operation.{Operation}
+use Rattle.model.specs.declared.Operation.the-variants.{Propose, Step, Learn}
+use Rattle.model.specs.Board.{noCounts}
+use Rattle.model.specs.Machine.{perform, openingAt}
+use Rattle.model.specs.Public.{withoutCounts, proposeAt, stepAt, learnAt}
+use Rattle.model_rule.specs.Event.{Event}
+use Rattle.model_rule.specs.Calls.{Input, machine, events, past, Call, RunWith, none, call, inputs}
+use Rattle.model_rule.specs.Rule.{Rule, AgreementWith}
+
+-- One call of such a list. (01: a proposal; a work turn with hint yes; a look.)
+pub data Move : Type 0 where
+  proposes : (p v : ℕ) → Move
+  works : (p : ℕ) → Move
+  looks : (p : ℕ) → Move
+
+abbrev pub operationOf : Move → Operation
+operationOf (proposes p v) = Propose p v
+operationOf (works p) = Step p true
+operationOf (looks p) = Learn p
+
+-- What the machine is fed. Each call brings an empty tally: the counts do not bear on what happens.
+abbrev pub inputOf : Move → Input
+inputOf m = record { operation = operationOf m; counts = noCounts }
+
+-- ---- the machine
+
+-- The past after the moves, from session s with the past h, in one pass.
+unfoldable pub played : (W : ℕ) → Session → List Event → List Move → List Event
+played W s h [] = h
+played W s h (m ∷ ms) = played W (perform W s noCounts (operationOf m) .session) (events W s (inputOf m) ++ h) ms
+
+-- What the machine is fed by the moves, newest first, on top of what it was fed before.
+abbrev pub fedBy : List Move → List Input → List Input
+fedBy [] fs = fs
+fedBy (m ∷ ms) fs = fedBy ms (inputOf m ∷ fs)
+
+-- That is the machine's past.
+pub played-past : (W : ℕ) (start : Session) (ms : List Move) (fs : List Input) →
+    played W (machine W start fs) (past W start fs) ms ≡ past W start (fedBy ms fs)
+unfolding played
+played-past W start [] fs = refl
+played-past W start (m ∷ ms) fs = played-past W start ms (inputOf m ∷ fs)
+
+-- ---- the calls
+
+-- Calls, each answered as promised where w n is the window of n processes, by which the machine is fed fs.
+record Called (w : ℕ → ℕ) (start : Session) (fs : List Input) : Type 0 where
+  pub calls : List Call
+  pub session : Session
+  pub run : RunWith w start calls session
+  pub same : inputs calls ≡ fs
+
+module _ {w : ℕ → ℕ} {start : Session} where
+  -- One call more.
+  then-called : {fs : List Input} → Called w start fs → (m : Move) → Called w start (inputOf m ∷ fs)
+  then-called r (proposes p v) =
+      let s = r .session in
+      let x : Call = record { input = inputOf (proposes p v); answer = proposeAt (w (s .n)) s p v; after = noCounts } in
+      record { calls = x ∷ r .calls; session = x .answer .session; run = call (r .run) x (refl, refl); same = ap (λ gs. x .input ∷ gs) (r .same) }
+  then-called r (works p) =
+      let s = r .session in
+      let a = stepAt (w (s .n)) s p true noCounts in
+      let x : Call = record { input = inputOf (works p); answer = withoutCounts a; after = a .counts } in
+      record { calls = x ∷ r .calls; session = x .answer .session; run = call (r .run) x refl; same = ap (λ gs. x .input ∷ gs) (r .same) }
+  then-called r (looks p) =
+      let s = r .session in
+      let a = learnAt (w (s .n)) s p noCounts in
+      let x : Call = record { input = inputOf (looks p); answer = withoutCounts a; after = a .counts } in
+      record { calls = x ∷ r .calls; session = x .answer .session; run = call (r .run) x refl; same = ap (λ gs. x .input ∷ gs) (r .same) }
+
+  -- All the moves.
+  called : {fs : List Input} (ms : List Move) → Called w start fs → Called w start (fedBy ms fs)
+  called [] r = r
+  called (m ∷ ms) r = called ms (then-called r m)
+
+-- No call yet.
+none-called : {w : ℕ → ℕ} (start : Session) → Called w start []
+none-called start = record { calls = []; session = start; run = none; same = refl }
+
+-- A list of moves from an accepted opening whose past no rule allows: the agreement rule is false.
+pub breaks-rule : (w : ℕ → ℕ) (n L : ℕ) (ms : List Move) →
+    let start = openingAt (w n) n L in
+    start .code ≡ 0 → ((s : Session) → Rule s (played (w n) (start .session) [] ms) → ⊥) → AgreementWith w n L → ⊥
+breaks-rule w n L ms ok never rule =
+    let start = openingAt (w n) n L .session in
+    let c = called ms (none-called start) in
+    let same = ap (past (w n) start) (c .same) ∙ sym (played-past (w n) start ms []) in
+    never (c .session) (subst (Rule (c .session)) same (rule ok (c .calls) (c .session) (c .run) .2))

@@ -1,0 +1,2 @@
+-- Lists of calls at windows that are too short.
+pub mod Table

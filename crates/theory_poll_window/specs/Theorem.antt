@@ -1,0 +1,66 @@
+-- Windows that are too short for polls (document 02, wish 7), and the n for which the least window with W * W ≥ 4n is the least safe one.
+use Rattle.base.specs.Prelude.{ℕ, _+_, _*_, _≤_, arith, _≡_, refl, sym, _∙_, subst, Bool, true, true≢false, _&&_, eqb, eqb-true, le-leb}
+use Rattle.base.specs.Bools.{and-left, and-right}
+use Rattle.model.specs.declared.Session.{Session}
+use Rattle.model.specs.Board.{opened, processAt, maxProcesses, maxRounds}
+use Rattle.model.specs.Machine.{openWithinAt}
+use Rattle.model.specs.Sound.{every}
+use Rattle.model_rule.specs.Safe.{Least}
+use Rattle.model_poll.specs.declared.Answer.{Answer}
+use Rattle.model_poll.specs.declared.Answer.the-variants.{Pending, Commits, Adopts}
+use Rattle.model_poll.specs.Turn.{answerOf, Carries}
+use Rattle.model_poll.specs.Machine.{pollOpeningAt}
+use Rattle.model_poll_rule.specs.Safe.{PollSafe, LeastSafePollWindows}
+use Rattle.model_poll_laws.specs.Opening.{poll-opened}
+use Rattle.theory_window.specs.Construction.{from, atLast, withOne, withTwo}
+use Rattle.theory_window.specs.Broken.{enoughFor}
+use Rattle.theory_window.specs.More.{sized}
+use Rattle.theory_window.specs.Theorem.{every-from, least-of}
+use Rattle.theory_poll.specs.Theorem.{poll-rule-at}
+use Rattle.theory_poll_window.specs.Play.{played, breaks-poll-rule}
+use Rattle.theory_poll_window.specs.Broken.{operations, isCommitted, isAdopted, left, answersDiffer, broken, all-broken}
+use Rattle.theory_poll_window.specs.More.{within, played-more}
+
+committed-is : (v : ℕ) (a : Answer) → isCommitted v a ≡ true → a ≡ Commits v
+committed-is v Pending t = absurd (true≢false (sym t))
+committed-is v (Commits u) t = rw (eqb-true u v t) refl
+committed-is v (Adopts u) t = absurd (true≢false (sym t))
+
+adopted-carries : (v : ℕ) (a : Answer) → isAdopted v a ≡ true → Carries a v
+adopted-carries v Pending t = absurd (true≢false (sym t))
+adopted-carries v (Commits u) t = absurd (true≢false (sym t))
+adopted-carries v (Adopts u) t = eqb-true u v t
+
+-- What is opened with n processes and a window that fits.
+opens : (W n : ℕ) → 1 ≤ n → n ≤ maxProcesses → W ≤ maxRounds → (pollOpeningAt W n .code ≡ 0) × (pollOpeningAt W n .session ≡ opened n W)
+unfolding pollOpeningAt openWithinAt
+opens W n some few low = rw (le-leb 1 n some, le-leb n maxProcesses few, le-leb W W (omega arith), le-leb W maxRounds low) (refl, refl)
+
+-- A window from 2 to 15 is not safe for polls of as many processes as break it, nor of more.
+pub poll-too-short : (W n : ℕ) → 2 ≤ W → W ≤ 15 → enoughFor W ≤ n → n ≤ maxProcesses → PollSafe W n → ⊥
+unfolding broken answersDiffer opened
+poll-too-short W n least most enough few =
+    let e = enoughFor W in
+    let os = operations W in
+    let one = withOne W (atLast W) in
+    let other = withTwo W (atLast W) in
+    let a = answerOf (processAt (left W) one) in
+    let b = answerOf (processAt (left W) other) in
+    let accepted = eqb (pollOpeningAt W e .code) 0 in
+    let t = every-from broken 2 14 W least (omega arith) all-broken in
+    let start = and-left (accepted && every (within e) os) (answersDiffer (left W) one other) t in
+    let differ = and-right (accepted && every (within e) os) (answersDiffer (left W) one other) t in
+    let small = poll-opened W e (eqb-true (pollOpeningAt W e .code) 0 (and-left accepted (every (within e) os) start)) in
+    let large = opens W n (omega (arith, small .0)) few (small .2) in
+    let same : sized n (left W) ≡ played W (pollOpeningAt W n .session) os =
+    rw (small .3, large .1) (sym (played-more W n e (opened e W) os refl enough (and-right accepted (every (within e) os) start))) in
+    breaks-poll-rule (λ m. W) n os one other 2 1 (large .0)
+    (subst (λ (s : Session). answerOf (processAt s one) ≡ Commits 1) same
+    (committed-is 1 a (and-left (isCommitted 1 a) (isAdopted 2 b) differ)))
+    (subst (λ (s : Session). Carries (answerOf (processAt s other)) 2) same
+    (adopted-carries 2 b (and-right (isCommitted 1 a) (isAdopted 2 b) differ)))
+    (λ z. omega arith)
+
+pub least-safe-poll : LeastSafePollWindows
+least-safe-poll n some few other =
+    least-of (λ W. PollSafe W n) n some few other (λ W. poll-rule-at W n) (λ W least most enough. poll-too-short W n least most enough few)
