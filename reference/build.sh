@@ -1,7 +1,8 @@
 #!/bin/sh
-# Builds the reference program, its unit tests and polls, which compares it with
-# the program use_poll, into target/reference/ and runs the tests. With the path
-# of a libjanus.a it also builds the programs that compare that library with the
+# Builds the reference program, its unit tests, polls, which compares it with the
+# program use_poll, and short_windows, which breaks the agreement rule at windows
+# that are too short, into target/reference/ and runs the tests. With the path of a
+# libjanus.a it also builds the programs that compare that library with the
 # reference: differential and writes.
 #
 # usage: reference/build.sh [LIBRARY]
@@ -23,7 +24,9 @@ uses="--extern janus_reference=$out/libjanus_reference.rlib"
 build --crate-type rlib --crate-name janus_reference \
     reference/src/lib.rs -o "$out/libjanus_reference.rlib"
 build --crate-name reference $uses reference/src/main.rs -o "$out/reference"
-build --crate-name polls $uses reference/polls.rs -o "$out/polls"
+for program in polls short_windows; do
+    build --crate-name "$program" $uses "reference/$program.rs" -o "$out/$program"
+done
 build --test --crate-name tests reference/src/lib.rs -o "$out/tests"
 if [ -n "$library" ]; then
     for program in differential writes; do

@@ -51,5 +51,5 @@ pub use report::report;
 pub use runner::{entry, run, Ending};
 pub use session::{window, Session};
 pub use sheet::{Operation, Sheet};
-pub use trace::{trace, traces};
+pub use trace::{trace, trace_at, traces};
 pub use write::write;

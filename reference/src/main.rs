@@ -2,7 +2,8 @@
 //! the C entry's answer on standard output; or polls, and what becomes of them.
 //!
 //! - `reference report` prints the board report (01, "The board report").
-//! - `reference trace` prints one line an entry; the format is described in
+//! - `reference trace [WINDOW]` prints one line an entry, with that window in place
+//!   of the one in service if it is told (02, wish 7); the format is described in
 //!   `trace.rs`.
 //! - `reference traces` prints the traces of many sheets, each behind its length
 //!   in 16 bits, and a blank line after each.
@@ -22,10 +23,12 @@ use std::process::ExitCode;
 
 use janus_reference::runner::BUFFER;
 use janus_reference::sheet::MAX_BYTES;
-use janus_reference::{entry, polls, report, run, trace, traces, Counts, Refusal, Session, Sheet};
+use janus_reference::{
+    entry, polls, report, run, trace, trace_at, traces, Counts, Refusal, Session, Sheet,
+};
 
 const USAGE: &str =
-    "usage: reference report | trace | traces | polls | entry BUDGET | run BUDGET PLACES   (sheet or polls on standard input)";
+    "usage: reference report | trace [WINDOW] | traces | polls | entry BUDGET | run BUDGET PLACES   (sheet or polls on standard input)";
 
 fn main() -> ExitCode {
     let arguments: Vec<String> = std::env::args().skip(1).collect();
@@ -35,6 +38,7 @@ fn main() -> ExitCode {
     let (most, answer): (u64, fn(&[u8], &[u64]) -> String) = match words[..] {
         ["report"] => (one, |sheet, _| report(sheet)),
         ["trace"] => (one, |sheet, _| trace(sheet)),
+        ["trace", _] => (one, trace_text),
         ["traces"] => (u64::MAX, |sheets, _| traces(sheets)),
         ["polls"] => (u64::MAX, |bytes, _| polls(bytes)),
         ["entry", _] => (one, entry_text),
@@ -64,6 +68,12 @@ fn answer_input(
     let mut input = Vec::new();
     io::stdin().take(most).read_to_end(&mut input)?;
     io::stdout().write_all(answer(&input, &numbers).as_bytes())
+}
+
+/// A window of more than 32 bits is above every L, like the largest one of 32.
+fn trace_text(sheet: &[u8], numbers: &[u64]) -> String {
+    let window = u32::try_from(numbers[0]).unwrap_or(u32::MAX);
+    trace_at(window, sheet)
 }
 
 fn entry_text(sheet: &[u8], numbers: &[u64]) -> String {

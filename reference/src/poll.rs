@@ -3,7 +3,7 @@
 use crate::board::{Access, Board, Counts, Registers};
 use crate::phase::{Bounds, Phase, Process};
 use crate::refusal::Refusal;
-use crate::session::{board, check_processes, present, window, Session, MAX_PROCESSES};
+use crate::session::{board, check_opening, present, window, Session, MAX_PROCESSES};
 use crate::sound::{blank_past, record};
 
 /// What a process gets from a poll, with its value.
@@ -54,8 +54,14 @@ pub struct Poll {
 impl Poll {
     /// Opens a poll. (Order: 1.)
     pub fn open(n: usize) -> Result<Poll, Refusal> {
-        check_processes(n)?;
-        Ok(Poll::of(&Session::blank(n, window(n))))
+        Poll::open_at(window(n), n)
+    }
+
+    /// Opens a poll at a window, which is its L. (02, wish 7: "Polls are covered too";
+    /// order: 1, 2.)
+    pub fn open_at(window: u32, n: usize) -> Result<Poll, Refusal> {
+        let session = Session::open_at(window, n, window as usize)?;
+        Ok(Poll::of(&session))
     }
 
     /// A session's board and seats taken for a poll's, which need not be sound.
@@ -88,7 +94,12 @@ impl Poll {
 
     /// A process takes up a value. (Order: 3, 4, 5, 6.)
     pub fn propose(&mut self, process: usize, value: u32) -> Result<(), Refusal> {
-        self.check_sound()?;
+        self.propose_at(window(self.n), process, value)
+    }
+
+    /// A proposal at a window. (02, wish 7; order: 3, 4, 5, 6.)
+    pub fn propose_at(&mut self, window: u32, process: usize, value: u32) -> Result<(), Refusal> {
+        self.check_sound_at(window)?;
         let voter = present(&mut self.voters[..self.n], process)?;
         if value == 0 {
             return Err(Refusal::BlankProposal);
@@ -107,10 +118,20 @@ impl Poll {
     /// One step of a process, and the answer if it gives one. (02: a turn; order: 3,
     /// 4, 7, 8, 16.)
     pub fn step(&mut self, process: usize, counts: &mut Counts) -> Result<Option<Answer>, Refusal> {
-        self.check_sound()?;
+        self.step_at(window(self.n), process, counts)
+    }
+
+    /// One step at a window. (02, wish 7; order: 3, 4, 7, 8, 16.)
+    pub fn step_at(
+        &mut self,
+        window: u32,
+        process: usize,
+        counts: &mut Counts,
+    ) -> Result<Option<Answer>, Refusal> {
+        self.check_sound_at(window)?;
         let bounds = Bounds {
             limit: self.limit,
-            window: window(self.n),
+            window,
         };
         let voter = present(&mut self.voters[..self.n], process)?;
         let process = working(voter)?;
@@ -124,7 +145,12 @@ impl Poll {
 
     /// A process stops for good. (Order: 3, 4, 7, 8.)
     pub fn crash(&mut self, process: usize) -> Result<(), Refusal> {
-        self.check_sound()?;
+        self.crash_at(window(self.n), process)
+    }
+
+    /// A crash at a window. (02, wish 7; order: 3, 4, 7, 8.)
+    pub fn crash_at(&mut self, window: u32, process: usize) -> Result<(), Refusal> {
+        self.check_sound_at(window)?;
         let voter = present(&mut self.voters[..self.n], process)?;
         working(voter)?.phase = Phase::Crashed;
         Ok(())
@@ -132,14 +158,14 @@ impl Poll {
 
     /// A process. ("Seats are read out as in sessions"; order: 3, 4.)
     pub fn read_process(&self, process: usize) -> Result<Voter, Refusal> {
-        self.check_sound()?;
+        self.check_sound_at(window(self.n))?;
         let seated = &self.voters[..self.n];
         seated.get(process).copied().ok_or(Refusal::NoProcess)
     }
 
-    /// 01, "Numbers returned", 3.
-    fn check_sound(&self) -> Result<(), Refusal> {
-        if self.is_sound() {
+    /// 01, "Numbers returned", 3, at a window.
+    fn check_sound_at(&self, window: u32) -> Result<(), Refusal> {
+        if self.is_sound_at(window) {
             Ok(())
         } else {
             Err(Refusal::Unsound)
@@ -150,13 +176,19 @@ impl Poll {
     /// W, a blank D, no spent or decided seat, gate only below round W, and answered
     /// seats at round W".
     pub fn is_sound(&self) -> bool {
-        if check_processes(self.n).is_err() || self.limit != window(self.n) {
+        self.is_sound_at(window(self.n))
+    }
+
+    /// Whether the poll is sound at a window. (02, wish 7.)
+    pub fn is_sound_at(&self, window: u32) -> bool {
+        let limit = self.limit as usize;
+        if check_opening(window, self.n, limit).is_err() || self.limit != window {
             return false;
         }
         let (seated, rest) = self.voters.split_at(self.n);
         self.registers.decision == 0
-            && blank_past(&self.registers, self.limit as usize)
-            && seated.iter().all(|voter| stands(voter, self.limit))
+            && blank_past(&self.registers, limit)
+            && seated.iter().all(|voter| stands(voter, window))
             && rest.iter().all(|voter| *voter == Voter::IDLE)
     }
 }

@@ -27,10 +27,15 @@ const fn windows() -> [u32; MAX_PROCESSES + 1] {
     table
 }
 
-/// The window of n processes, n from 1 to 64. (01: W.)
+/// The window in service of n processes, n from 1 to 64. (01: W.) There is none of
+/// more, and 0 stands for it.
 #[inline]
 pub const fn window(n: usize) -> u32 {
-    WINDOWS[n]
+    if n <= MAX_PROCESSES {
+        WINDOWS[n]
+    } else {
+        0
+    }
 }
 
 /// One agreement. (01: a session.)
@@ -46,20 +51,14 @@ pub struct Session {
     pub processes: [Process; MAX_PROCESSES],
 }
 
-/// 01, "Numbers returned", opening: 1.
+/// 01, "Numbers returned", opening: 1, then 2, at any window. (02, wish 7: "the
+/// window a parameter of the machine".)
 #[inline]
-pub(crate) fn check_processes(n: usize) -> Result<(), Refusal> {
+pub(crate) fn check_opening(window: u32, n: usize, limit: usize) -> Result<(), Refusal> {
     if n == 0 || n > MAX_PROCESSES {
         return Err(Refusal::Processes);
     }
-    Ok(())
-}
-
-/// 01, "Numbers returned", opening: 1, then 2.
-#[inline]
-pub(crate) fn check_opening(n: usize, limit: usize) -> Result<(), Refusal> {
-    check_processes(n)?;
-    if limit < window(n) as usize || limit > MAX_ROUNDS {
+    if limit < window as usize || limit > MAX_ROUNDS {
         return Err(Refusal::Limit);
     }
     Ok(())
@@ -69,7 +68,14 @@ impl Session {
     /// Opens a session. (01, order: 1, 2.)
     #[inline]
     pub fn open(n: usize, limit: usize) -> Result<Session, Refusal> {
-        check_opening(n, limit)?;
+        Session::open_at(window(n), n, limit)
+    }
+
+    /// Opens a session at a window, which the session does not keep: each operation is
+    /// told it again. (02, wish 7; order: 1, 2.)
+    #[inline]
+    pub fn open_at(window: u32, n: usize, limit: usize) -> Result<Session, Refusal> {
+        check_opening(window, n, limit)?;
         Ok(Session::blank(n, limit as u32))
     }
 
@@ -97,8 +103,20 @@ impl Session {
         leader: bool,
         counts: &mut Counts,
     ) -> Result<(), Refusal> {
-        self.check_sound()?;
-        self.step_trusted(process, leader, counts, |_| {})
+        self.step_at(window(self.n), process, leader, counts)
+    }
+
+    /// One step at a window. (02, wish 7; order: 3, 4, 7, 8, 9, 16.)
+    #[inline]
+    pub fn step_at(
+        &mut self,
+        window: u32,
+        process: usize,
+        leader: bool,
+        counts: &mut Counts,
+    ) -> Result<(), Refusal> {
+        self.check_sound_at(window)?;
+        self.step_trusted(|_| window, process, leader, counts, |_| {})
     }
 
     /// One reading of the decision. (01: look; order: 3, 4, 7, 8, 16.)
@@ -113,6 +131,18 @@ impl Session {
         self.crash_trusted(process)
     }
 
+    /// Carries out any operation at a window. (02, wish 7; order as the operation's
+    /// own.)
+    pub fn apply_at(
+        &mut self,
+        window: u32,
+        operation: Operation,
+        counts: &mut Counts,
+    ) -> Result<(), Refusal> {
+        self.check_sound_at(window)?;
+        self.apply_trusted_by(|_| window, operation, counts, |_| {})
+    }
+
     /// Carries out one operation on a session known to be sound: one that was
     /// opened and has only been operated on since. Soundness is kept by every
     /// operation, so 3 cannot come up and is not tested once more. The register
@@ -124,10 +154,23 @@ impl Session {
         counts: &mut Counts,
         watch: impl FnMut(Access),
     ) -> Result<(), Refusal> {
+        self.apply_trusted_by(window, operation, counts, watch)
+    }
+
+    /// The same of a session that was opened and operated on at the window that
+    /// `window` gives for n. Only a step asks for it. (02, wish 7.)
+    #[inline]
+    pub(crate) fn apply_trusted_by(
+        &mut self,
+        window: impl FnOnce(usize) -> u32,
+        operation: Operation,
+        counts: &mut Counts,
+        watch: impl FnMut(Access),
+    ) -> Result<(), Refusal> {
         match operation {
             Operation::Propose { process, value } => self.propose_trusted(process, value),
             Operation::Step { process, leader } => {
-                self.step_trusted(process, leader, counts, watch)
+                self.step_trusted(window, process, leader, counts, watch)
             }
             Operation::Learn { process } => self.learn_trusted(process, counts, watch),
             Operation::Crash { process } => self.crash_trusted(process),
@@ -151,6 +194,7 @@ impl Session {
     #[inline]
     fn step_trusted(
         &mut self,
+        window: impl FnOnce(usize) -> u32,
         process: usize,
         leader: bool,
         counts: &mut Counts,

@@ -1,7 +1,7 @@
 //! Sheets in bytes. (01, "Turn sheets".)
 
 use crate::refusal::Refusal;
-use crate::session::{check_opening, Session};
+use crate::session::{check_opening, window, Session};
 
 /// The most bytes of a sheet. (01, "Numbers returned", 10.)
 pub const MAX_BYTES: usize = 65_535;
@@ -72,6 +72,16 @@ impl<'a> Sheet<'a> {
     /// Reads a sheet's bytes. (01, order: 10, 1, 2, 11 over all pairs, 12 over all
     /// runs.)
     pub fn read(bytes: &'a [u8]) -> Result<Sheet<'a>, Refusal> {
+        Sheet::read_by(window, bytes)
+    }
+
+    /// The same, 2 being tested with the window that `window` gives for n. (02, wish
+    /// 7.)
+    #[inline]
+    pub(crate) fn read_by(
+        window: impl FnOnce(usize) -> u32,
+        bytes: &'a [u8],
+    ) -> Result<Sheet<'a>, Refusal> {
         let &[n, p, limit_low, limit_high, ref rest @ ..] = bytes else {
             return Err(Refusal::Sheet);
         };
@@ -83,7 +93,7 @@ impl<'a> Sheet<'a> {
         };
         let n = usize::from(n);
         let limit = usize::from(u16::from_le_bytes([limit_low, limit_high]));
-        check_opening(n, limit)?;
+        check_opening(window(n), n, limit)?;
         let sheet = Sheet {
             bytes,
             pairs,

@@ -9,7 +9,12 @@ use crate::session::{check_opening, window, Session};
 impl Session {
     /// 01, "Numbers returned", 3.
     pub(crate) fn check_sound(&self) -> Result<(), Refusal> {
-        if self.is_sound() {
+        self.check_sound_at(window(self.n))
+    }
+
+    /// The same at any window. (02, wish 7.)
+    pub(crate) fn check_sound_at(&self, window: u32) -> Result<(), Refusal> {
+        if self.is_sound_at(window) {
             Ok(())
         } else {
             Err(Refusal::Unsound)
@@ -18,10 +23,15 @@ impl Session {
 
     /// Whether the session is sound.
     pub fn is_sound(&self) -> bool {
-        if check_opening(self.n, self.limit as usize).is_err() {
+        self.is_sound_at(window(self.n))
+    }
+
+    /// Whether the session is sound at a window. (02, wish 7.)
+    pub fn is_sound_at(&self, window: u32) -> bool {
+        if check_opening(window, self.n, self.limit as usize).is_err() {
             return false;
         }
-        let (limit, window) = (self.limit, window(self.n));
+        let limit = self.limit;
         let (seated, rest) = self.processes.split_at(self.n);
         blank_past(&self.registers, limit as usize)
             && seated.iter().all(|process| record(process, limit, window))

@@ -1,4 +1,5 @@
-//! The paper cases of document 01, each number that it and 02 return, and polls.
+//! The paper cases of document 01, each number that it and 02 return, polls, and the
+//! window as a parameter.
 
 mod operations;
 mod paper;
@@ -6,6 +7,7 @@ mod polls;
 mod random;
 mod sheets;
 mod soundness;
+mod windows;
 mod writer;
 
 use crate::{Counts, Operation, Process, Refusal, Session};

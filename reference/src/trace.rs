@@ -25,6 +25,9 @@
 //! A refused entry has `refused CODE` in place of the last three columns and is
 //! the last line. A refused sheet gives the one line `sheet refused CODE`.
 //!
+//! The window is the one in service, or one that is asked for in its place: the
+//! sheet is then opened and its turns are taken at that window. (02, wish 7.)
+//!
 //! So `grep '| work 3 '` follows a seat's turns, `grep 'T\[4\]'` a register,
 //! and `grep ' D written '` finds each commit.
 
@@ -34,12 +37,23 @@ use std::fmt::Write;
 use crate::board::{Access, Counts};
 use crate::phase::{Phase, Process};
 use crate::refusal::Refusal;
-use crate::session::Session;
+use crate::session::{window, Session};
 use crate::sheet::{Operation, Sheet};
 
 /// The trace of a sheet, each line ended by a line feed.
 pub fn trace(bytes: &[u8]) -> String {
-    let sheet = match Sheet::read(bytes) {
+    trace_by(window, bytes)
+}
+
+/// The trace of a sheet with that window in place of the one in service. (02, wish
+/// 7: "the window a parameter of the machine".)
+pub fn trace_at(window: u32, bytes: &[u8]) -> String {
+    trace_by(|_| window, bytes)
+}
+
+/// The trace with the window that `window` gives for n.
+fn trace_by(window: impl Fn(usize) -> u32, bytes: &[u8]) -> String {
+    let sheet = match Sheet::read_by(&window, bytes) {
         Ok(sheet) => sheet,
         Err(refusal) => return format!("sheet refused {}\n", refusal.code()),
     };
@@ -47,7 +61,7 @@ pub fn trace(bytes: &[u8]) -> String {
     let mut counts = Counts::default();
     let mut text = String::new();
     for (index, entry) in sheet.entries().enumerate() {
-        let (words, result) = carry_out(entry, &mut session, &mut counts);
+        let (words, result) = carry_out(entry, &window, &mut session, &mut counts);
         write!(text, "{index:5} | {words:24} | ").expect("a string takes every line");
         match result {
             Ok(rest) => text += &rest,
@@ -77,6 +91,7 @@ pub fn traces(sheets: &[u8]) -> String {
 /// The words of an entry, and its last three columns or its refusal.
 fn carry_out(
     entry: &[u8],
+    window: impl Fn(usize) -> u32,
     session: &mut Session,
     counts: &mut Counts,
 ) -> (String, Result<String, Refusal>) {
@@ -86,7 +101,9 @@ fn carry_out(
     };
     let mut register = String::from("none");
     let result = session
-        .apply_trusted(operation, counts, |access| register = access.to_string())
+        .apply_trusted_by(window, operation, counts, |access| {
+            register = access.to_string()
+        })
         .map(|()| &session.processes[operation.process()])
         .map(|process| format!("{register:25} | {:40} | {counts}\n", process.to_string()));
     (operation.to_string(), result)

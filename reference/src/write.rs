@@ -1,7 +1,7 @@
 //! The writer of sheets. (02, wish 3.)
 
 use crate::refusal::Refusal;
-use crate::session::check_opening;
+use crate::session::{check_opening, window};
 use crate::sheet::{ENTRY, HEADER, MAX_BYTES, MAX_PAIRS, PAIR};
 
 /// Writes the sheet of n, L and these entries to the first bytes of the output,
@@ -15,7 +15,7 @@ pub fn write(
     runs: &[usize],
     output: &mut [u8],
 ) -> Result<usize, Refusal> {
-    check_opening(n, limit)?;
+    check_opening(window(n), n, limit)?;
     if entries.len() % ENTRY != 0 {
         return Err(Refusal::RunLength);
     }

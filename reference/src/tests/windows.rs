@@ -1,0 +1,184 @@
+//! The window as a parameter of sessions, polls and traces. (02, wish 7.)
+
+use super::*;
+use crate::{trace, trace_at, window, Answer, Phase, Poll, Voter};
+
+fn refused<T>(answer: Result<T, Refusal>) -> Option<u32> {
+    answer.err().map(Refusal::code)
+}
+
+#[test]
+fn openings() {
+    let at = |window, n, limit| refused(Session::open_at(window, n, limit));
+    assert_eq!(refused(Session::open(2, 3)), Some(2));
+    assert_eq!(at(2, 2, 3), None);
+    assert_eq!(at(2, 2, 2), None);
+    assert_eq!(at(2, 2, 1), Some(2));
+    assert_eq!(at(2, 2, 256), None);
+    assert_eq!(at(2, 2, 257), Some(2));
+    assert_eq!(at(256, 64, 256), None);
+    assert_eq!(at(257, 64, 257), Some(2));
+    assert_eq!(at(u32::MAX, 1, usize::MAX), Some(2));
+    assert_eq!(at(2, 0, 1), Some(1));
+    assert_eq!(at(2, 65, 1), Some(1));
+    assert_eq!(at(0, 65, 257), Some(1));
+}
+
+#[test]
+fn openings_in_service_are_at_its_window() {
+    for n in 0..=66 {
+        for limit in [0, 2, 3, 5, 6, 16, 17, 256, 257] {
+            let at = Session::open_at(window(n), n, limit);
+            assert_eq!(Session::open(n, limit), at);
+        }
+        assert_eq!(Poll::open(n), Poll::open_at(window(n), n));
+    }
+}
+
+/// One process that has proposed 7, with L = 3, and stands so.
+fn standing(phase: Phase, round: u32) -> Session {
+    let mut session = Session::open_at(2, 2, 3).expect("an opening within bounds");
+    session.processes[0] = Process {
+        phase,
+        round,
+        estimate: 7,
+    };
+    session
+}
+
+/// At which of the windows 1 to 4 a session is sound.
+fn sound_at(session: &Session) -> Vec<u32> {
+    (1..=4)
+        .filter(|window| session.is_sound_at(*window))
+        .collect()
+}
+
+#[test]
+fn soundness() {
+    let at = |phase, round| sound_at(&standing(phase, round));
+    assert_eq!(at(Phase::Waiting, 3), [1, 2, 3]);
+    assert_eq!(at(Phase::Compare(1), 3), [2, 3]);
+    assert_eq!(at(Phase::Flag(2), 3), [3]);
+    assert_eq!(at(Phase::CheckMark(0), 2), [1, 2]);
+    assert_eq!(at(Phase::CheckValue(1), 2), [2]);
+    assert_eq!(at(Phase::CheckValue(1), 3), [2, 3]);
+    assert_eq!(at(Phase::Commit, 1), [1]);
+    assert_eq!(at(Phase::Commit, 3), [1, 2, 3]);
+    assert!(!standing(Phase::Waiting, 3).is_sound());
+}
+
+#[test]
+fn calls_at_another_window_are_refused() {
+    let mut session = standing(Phase::Flag(2), 3);
+    let before = session.clone();
+    let mut counts = Counts::default();
+    let calls = [
+        Operation::Propose {
+            process: 1,
+            value: 0,
+        },
+        Operation::Step {
+            process: 0,
+            leader: true,
+        },
+        Operation::Learn { process: 1 },
+        Operation::Crash { process: 64 },
+    ];
+    for window in [1, 2, 4] {
+        for call in calls {
+            let answer = session.apply_at(window, call, &mut counts);
+            assert_eq!(answer, Err(Refusal::Unsound));
+        }
+        let answer = session.step_at(window, 0, true, &mut counts);
+        assert_eq!(answer, Err(Refusal::Unsound));
+    }
+    assert_eq!(session.step(0, true, &mut counts), Err(Refusal::Unsound));
+    assert_eq!((&session, counts), (&before, Counts::default()));
+    let codes = calls.map(|call| refused(before.clone().apply_at(3, call, &mut counts)));
+    assert_eq!(codes, [Some(5), None, Some(7), Some(4)]);
+}
+
+/// 02, wish 8, has this window in service: "12 work turns to the commit, 9 reads, 3
+/// writes".
+#[test]
+fn one_seat_alone_at_window_two() {
+    let mut session = Session::open_at(2, 1, 2).expect("an opening within bounds");
+    let mut counts = Counts::default();
+    let propose = Operation::Propose {
+        process: 0,
+        value: 7,
+    };
+    assert_eq!(session.apply_at(2, propose, &mut counts), Ok(()));
+    for _ in 0..11 {
+        assert_eq!(session.step_at(2, 0, true, &mut counts), Ok(()));
+    }
+    assert_eq!(session.processes[0].to_string(), "commit round 2 value 7");
+    assert_eq!(session.step_at(2, 0, true, &mut counts), Ok(()));
+    assert_eq!(session.registers.decision, 7);
+    assert_eq!(counts.to_string(), "9 3 0");
+}
+
+#[test]
+fn a_poll_at_window_two() {
+    let opened = |window, n| refused(Poll::open_at(window, n));
+    assert_eq!([opened(2, 0), opened(257, 65)], [Some(1), Some(1)]);
+    assert_eq!([opened(256, 64), opened(257, 64)], [None, Some(2)]);
+    let mut poll = Poll::open_at(2, 1).expect("an opening within bounds");
+    let mut counts = Counts::default();
+    assert_eq!(poll.limit, 2);
+    assert!(poll.is_sound_at(2) && !poll.is_sound());
+    assert!(!poll.is_sound_at(1) && !poll.is_sound_at(3));
+    assert_eq!(poll.propose_at(2, 0, 7), Ok(()));
+    for _ in 0..11 {
+        assert_eq!(poll.step_at(2, 0, &mut counts), Ok(None));
+    }
+    let mut crashed = poll.clone();
+    let answer = poll.step_at(2, 0, &mut counts);
+    assert_eq!(answer, Ok(Some(Answer::Committed(7))));
+    assert_eq!(poll.voters[0], Voter::Answered(Answer::Committed(7), 2));
+    assert!(poll.is_sound_at(2));
+    assert_eq!(counts.to_string(), "9 2 0");
+    assert_eq!(crashed.crash_at(2, 0), Ok(()));
+    assert!(crashed.is_sound_at(2));
+}
+
+#[test]
+fn a_poll_at_another_window_is_refused() {
+    let mut poll = Poll::open_at(2, 1).expect("an opening within bounds");
+    let before = poll.clone();
+    let mut counts = Counts::default();
+    for window in [1, 3] {
+        assert_eq!(poll.propose_at(window, 0, 7), Err(Refusal::Unsound));
+        let answer = poll.step_at(window, 0, &mut counts);
+        assert_eq!(answer, Err(Refusal::Unsound));
+        assert_eq!(poll.crash_at(window, 0), Err(Refusal::Unsound));
+    }
+    assert_eq!(poll.propose(0, 7), Err(Refusal::Unsound));
+    assert_eq!(poll.step(0, &mut counts), Err(Refusal::Unsound));
+    assert_eq!(poll.crash(0), Err(Refusal::Unsound));
+    assert_eq!(poll.read_process(0), Err(Refusal::Unsound));
+    assert_eq!((poll, counts), (before, Counts::default()));
+}
+
+#[test]
+fn traces_at_a_window() {
+    let bytes = report_sheet();
+    assert_eq!(trace_at(3, &bytes), trace(&bytes));
+    assert_eq!(trace_at(4, &bytes), "sheet refused 2\n");
+    assert_eq!(trace_at(u32::MAX, &bytes), "sheet refused 2\n");
+    assert_eq!(trace_at(2, &[]), "sheet refused 10\n");
+    let mut entries = vec![raw(0, 0, 7)];
+    entries.extend([raw(1, 0, YES); 12]);
+    entries.push(raw(2, 0, 0));
+    let bytes = sheet(1, 2, &entries);
+    assert_eq!(trace(&bytes), "sheet refused 2\n");
+    let text = trace_at(2, &bytes);
+    let written: Vec<&str> = text
+        .lines()
+        .filter(|line| line.contains("D written"))
+        .collect();
+    let line = "   12 | work 0 yes               | D written 7               | gate round 2 value 7                     | 9 3 0";
+    assert_eq!(written, [line]);
+    let last = text.lines().last().expect("a line for each entry");
+    assert!(last.ends_with("| decided round 2 value 7                  | 10 3 0"));
+}

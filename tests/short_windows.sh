@@ -1,0 +1,92 @@
+#!/usr/bin/env bash
+# Windows below the bound of 02, wish 7, W times W at least 4n, on the separately written program: for every W from 2 to 15 a list of calls in
+# which two turns commit different numbers, and polls with two answers; within the bound, no such thing. Then lists as sheets, with their
+# traces, and that wrong lists and wrong machines are found.
+set -euo pipefail
+cd "$(dirname "$0")/.."
+./build.sh reference
+short_windows=target/reference/short_windows
+"$short_windows"
+
+out=target/tests/short_windows
+rm -rf "$out"
+mkdir -p "$out"
+fail() {
+    echo "short_windows: FAILED: $*" >&2
+    exit 1
+}
+
+# A list as it is printed makes a sheet. In service nothing commits in it; at its window two turns write D, and two seats are decided.
+traced() { # KIND W ENTRIES
+    local sheet=$out/$1-$2.sheet
+    "$short_windows" "$1" "$2" | examples/sheet.py - "$sheet"
+    target/reference/reference trace <"$sheet" >"$out/service"
+    if grep ' D written ' "$out/service"; then fail "$1 $2 commits in service"; fi
+    target/reference/reference trace "$2" <"$sheet" >"$out/trace"
+    [[ $(wc -l <"$out/trace") == "$3" ]] || fail "$1 $2: $(wc -l <"$out/trace") entries, not $3"
+    [[ $(grep -c ' D written ' "$out/trace") == 2 ]] || fail "$1 $2: not two commits: $(grep ' D written ' "$out/trace")"
+    [[ $(sed -n 's/.*| look .*| decided .* value \([12]\) .*/\1/p' "$out/trace" | sort) == $'1\n2' ]] || fail "$1 $2: $(grep '| look ' "$out/trace")"
+    echo "short_windows: $1 $2: $3 entries; at window $2 two seats are decided, with 1 and with 2, and none in service"
+}
+traced list 2 36
+traced list 15 2366
+traced short 2 36
+traced short 3 66
+traced short 4 109
+for arguments in 'list 1' 'list 16' 'list x' 'short 5' list 'list 2 3' more; do
+    read -ra words <<<"$arguments"
+    code=0
+    said=$("$short_windows" "${words[@]}" 2>&1) || code=$?
+    [[ $code == 2 && $said == 'usage: short_windows '* ]] || fail "$arguments: ended with $code: $said"
+done
+
+# A wrong program: a copy, or the same on a copy of the machine, with a file that is edited by sed.
+edit() { # FILE EDIT
+    sed -i "$2" "$out/$1"
+    if cmp -s "reference/$1" "$out/$1"; then fail "nothing to edit: $2"; fi
+}
+found() { # WHAT WORDS PROGRAM MACHINE: the program with that machine must end with 1 and tell in those words what is wrong
+    local said code=0
+    rustc --edition 2021 --crate-name short_windows --extern janus_reference="$4/libjanus_reference.rlib" "$3/short_windows.rs" -o "$out/short_windows"
+    said=$("$out/short_windows") || code=$?
+    said=$(tail -n 1 <<<"$said")
+    [[ $code == 1 && $said =~ ^wrong:\ $2$ ]] || fail "$1 is not found, or in other words than '$2': $said"
+    echo "short_windows: $1 is found: ${said#wrong: }"
+}
+wrong_list() { # WHAT EDIT WORDS
+    cp reference/short_windows.rs "$out"
+    edit short_windows.rs "$2"
+    found "$1" "$3" "$out" target/reference
+}
+wrong_list "a list that leaves an overwrite out" '
+    s/for process in &writers {/for process in \&writers[usize::from(epoch > 1)..] {/
+    s/writers.into_iter().zip(1..) {/writers.into_iter().zip(1..).skip(usize::from(epoch > 1)) {/' \
+    'W 3, 3 seats: commits by round \[.*\], not \[\(3, 2\), \(5, 1\)\]'
+wrong_list "a list that lets free seats go" 's/self.free.pop();/self.free.pop().filter(|free| free.1 == epoch);/' \
+    'W 5: seats and work turns \(8, 170\), not \(7, 169\)'
+wrong_list "a list that ends before the second commit" 's/for round in window..2 \* window {/for round in window..2 * window - 1 {/' \
+    'W 2, 2 seats: commits by round \[\(2, 2\)\], not \[\(2, 2\), \(3, 1\)\]'
+wrong_list "a control at W for W + 1" 's/Play::open(list.window + 1, /Play::open(list.window, /' \
+    'the construction at W \+ 1, list 0: 2 committed in round 2, 1 written in round 2'
+wrong_list "a control at one less than the least window" 's/random_list(least_window(n), /random_list(least_window(n) - 1, /' \
+    'random, n from 2 to 16, least W within the bound, list [0-9]+: 1 committed in round 2, 2 written in round 2'
+wrong_list "a control that can find nothing" 's/random_list(2, 2, index)/random_list(3, 2, index)/' \
+    'random, n 2, W 2: some commit, some two values: \(true, false\), not \(true, true\)'
+
+wrong_machine() { # WHAT FILE EDIT WORDS
+    rm -rf "$out/src"
+    cp -r reference/src "$out"
+    edit "src/$2" "$3"
+    rustc --edition 2021 --crate-type rlib --crate-name janus_reference "$out/src/lib.rs" -o "$out/libjanus_reference.rlib"
+    found "a machine that $1" "$4" reference "$out"
+}
+wrong_machine "opens at the window in service" session.rs 's/^        check_opening(window, n, limit)?;/        check_opening(self::window(n).max(window), n, limit)?;/' \
+    'W 2, 2 seats: refused 2'
+wrong_machine "walks at a window one larger" session.rs 's/^            window: window(self.n),/            window: window(self.n) + 1,/' \
+    'W 2, 2 seats: call [0-9]+, work 1 yes: left unsound'
+wrong_machine "is sound at a window one larger" sound.rs 's/^        let limit = self.limit;/&\n        let window = window + 1;/' \
+    'W 2, 2 seats: call [0-9]+, work 1 yes: left unsound'
+wrong_machine "reads over marks" phase.rs 's/if board.read_mark(self.round - i) {/if board.read_mark(self.round - i) \&\& false {/' \
+    'W 2, 2 seats: commits by round \[\(2, 2\)\], not \[\(2, 2\), \(3, 1\)\]'
+wrong_machine "answers committed where a check fails" poll.rs 's/then_some(Answer::Adopted/then_some(Answer::Committed/' \
+    'W 2, poll of 2 seats: answers \[Committed\(2\), Committed\(1\)\], not \[Committed\(2\), Adopted\(1\)\]'
