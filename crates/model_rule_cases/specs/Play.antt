@@ -49,39 +49,39 @@ played-past W start (m ∷ ms) fs = played-past W start ms (inputOf m ∷ fs)
 
 -- ---- the calls
 
--- Calls, each answered as promised where w n is the window of n processes, by which the machine is fed fs.
-record Called (w : ℕ → ℕ) (start : Session) (fs : List Input) : Type 0 where
-  pub calls : List Call
+-- Calls by which a machine is fed fs, and the session that they come to. (Polls' calls too: `theory_poll_window`.)
+pub record Called {C F : Type 0} (Run : List C → Session → Type 0) (inputs : List C → List F) (fs : List F) : Type 0 where
+  pub calls : List C
   pub session : Session
-  pub run : RunWith w start calls session
+  pub run : Run calls session
   pub same : inputs calls ≡ fs
 
+-- One call more.
+pub called-more : {C F : Type 0} {Run : List C → Session → Type 0} {inputs : List C → List F} {fs : List F} (r : Called Run inputs fs)
+    (x : C) (s : Session) (f : F) → Run (x ∷ r .calls) s → inputs (x ∷ r .calls) ≡ f ∷ inputs (r .calls) → Called Run inputs (f ∷ fs)
+called-more r x s f run more = record { calls = x ∷ r .calls; session = s; run = run; same = more ∙ ap (λ gs. f ∷ gs) (r .same) }
+
+-- Each answered as promised, where w n is the window of n processes.
 module _ {w : ℕ → ℕ} {start : Session} where
-  -- One call more.
-  then-called : {fs : List Input} → Called w start fs → (m : Move) → Called w start (inputOf m ∷ fs)
+  then-called : {fs : List Input} → Called (RunWith w start) inputs fs → (m : Move) → Called (RunWith w start) inputs (inputOf m ∷ fs)
   then-called r (proposes p v) =
       let s = r .session in
       let x : Call = record { input = inputOf (proposes p v); answer = proposeAt (w (s .n)) s p v; after = noCounts } in
-      record { calls = x ∷ r .calls; session = x .answer .session; run = call (r .run) x (refl, refl); same = ap (λ gs. x .input ∷ gs) (r .same) }
+      called-more r x (x .answer .session) (x .input) (call (r .run) x (refl, refl)) refl
   then-called r (works p) =
       let s = r .session in
       let a = stepAt (w (s .n)) s p true noCounts in
       let x : Call = record { input = inputOf (works p); answer = withoutCounts a; after = a .counts } in
-      record { calls = x ∷ r .calls; session = x .answer .session; run = call (r .run) x refl; same = ap (λ gs. x .input ∷ gs) (r .same) }
+      called-more r x (x .answer .session) (x .input) (call (r .run) x refl) refl
   then-called r (looks p) =
       let s = r .session in
       let a = learnAt (w (s .n)) s p noCounts in
       let x : Call = record { input = inputOf (looks p); answer = withoutCounts a; after = a .counts } in
-      record { calls = x ∷ r .calls; session = x .answer .session; run = call (r .run) x refl; same = ap (λ gs. x .input ∷ gs) (r .same) }
+      called-more r x (x .answer .session) (x .input) (call (r .run) x refl) refl
 
-  -- All the moves.
-  called : {fs : List Input} (ms : List Move) → Called w start fs → Called w start (fedBy ms fs)
+  called : {fs : List Input} (ms : List Move) → Called (RunWith w start) inputs fs → Called (RunWith w start) inputs (fedBy ms fs)
   called [] r = r
   called (m ∷ ms) r = called ms (then-called r m)
-
--- No call yet.
-none-called : {w : ℕ → ℕ} (start : Session) → Called w start []
-none-called start = record { calls = []; session = start; run = none; same = refl }
 
 -- A list of moves from an accepted opening whose past no rule allows: the agreement rule is false.
 pub breaks-rule : (w : ℕ → ℕ) (n L : ℕ) (ms : List Move) →
@@ -89,6 +89,6 @@ pub breaks-rule : (w : ℕ → ℕ) (n L : ℕ) (ms : List Move) →
     start .code ≡ 0 → ((s : Session) → Rule s (played (w n) (start .session) [] ms) → ⊥) → AgreementWith w n L → ⊥
 breaks-rule w n L ms ok never rule =
     let start = openingAt (w n) n L .session in
-    let c = called ms (none-called start) in
+    let c = called {w = w} {start = start} ms (record { calls = []; session = start; run = none; same = refl }) in
     let same = ap (past (w n) start) (c .same) ∙ sym (played-past (w n) start ms []) in
     never (c .session) (subst (Rule (c .session)) same (rule ok (c .calls) (c .session) (c .run) .2))

@@ -2,6 +2,7 @@
 use Rattle.base.specs.Prelude.{ℕ, _≡_, refl, sym, _∙_, ap, subst, List, [], _∷_}
 use Rattle.model.specs.declared.Session.{Session}
 use Rattle.model.specs.Board.{processAt, noCounts}
+use Rattle.model_rule_cases.specs.Play.{Called, called-more}
 use Rattle.model_poll.specs.declared.Answer.{Answer}
 use Rattle.model_poll.specs.declared.Answer.the-variants.{Commits}
 use Rattle.model_poll.specs.declared.PollStepped.{PollStepped}
@@ -33,31 +34,26 @@ played-machine W start (o ∷ os) fs = played-machine W start os (inputOf o ∷ 
 
 -- ---- the calls
 
--- Calls, each answered as promised where w n is the window of n processes, by which the machine is fed fs.
-record Called (w : ℕ → ℕ) (start : Session) (fs : List PollInput) : Type 0 where
-  pub calls : List PollCall
-  pub session : Session
-  pub run : PollRunWith w start calls session
-  pub same : pollInputs calls ≡ fs
-
+-- Each answered as promised, where w n is the window of n processes.
 module _ {w : ℕ → ℕ} {start : Session} where
-  -- One call more.
-  then-called : {fs : List PollInput} → Called w start fs → (o : PollOperation) → Called w start (inputOf o ∷ fs)
+  then-called : {fs : List PollInput} → Called (PollRunWith w start) pollInputs fs → (o : PollOperation) →
+      Called (PollRunWith w start) pollInputs (inputOf o ∷ fs)
   then-called r (proposes p v) =
       let s = r .session in
       let x : PollCall = record { input = inputOf (proposes p v); answer = unasked (pollProposeAt (w (s .n)) s p v); after = noCounts } in
-      record { calls = x ∷ r .calls; session = x .answer .session; run = call (r .run) x (refl, refl); same = ap (λ gs. x .input ∷ gs) (r .same) }
+      called-more r x (x .answer .session) (x .input) (call (r .run) x (refl, refl)) refl
   then-called r (turns p) =
       let s = r .session in
       let a = pollTurnAt (w (s .n)) s p noCounts in
       let x : PollCall = record { input = inputOf (turns p); answer = withoutLent a; after = a .counts } in
-      record { calls = x ∷ r .calls; session = x .answer .session; run = call (r .run) x refl; same = ap (λ gs. x .input ∷ gs) (r .same) }
+      called-more r x (x .answer .session) (x .input) (call (r .run) x refl) refl
   then-called r (crashes p) =
       let s = r .session in
       let x : PollCall = record { input = inputOf (crashes p); answer = unasked (pollCrashAt (w (s .n)) s p); after = noCounts } in
-      record { calls = x ∷ r .calls; session = x .answer .session; run = call (r .run) x (refl, refl); same = ap (λ gs. x .input ∷ gs) (r .same) }
+      called-more r x (x .answer .session) (x .input) (call (r .run) x (refl, refl)) refl
 
-  called : {fs : List PollInput} (os : List PollOperation) → Called w start fs → Called w start (fedBy os fs)
+  called : {fs : List PollInput} (os : List PollOperation) → Called (PollRunWith w start) pollInputs fs →
+      Called (PollRunWith w start) pollInputs (fedBy os fs)
   called [] r = r
   called (o ∷ os) r = called os (then-called r o)
 
@@ -70,7 +66,7 @@ pub breaks-poll-rule : (w : ℕ → ℕ) (n : ℕ) (os : List PollOperation) (p 
     start .code ≡ 0 → answerOf (processAt s p) ≡ Commits v → Carries (answerOf (processAt s q)) u → (u ≡ v → ⊥) → PollClaimWith w n → ⊥
 breaks-poll-rule w n os p q u v ok commits carries differ claim =
     let start = pollOpeningAt (w n) n .session in
-    let c = called os (record { calls = []; session = start; run = none; same = refl }) in
+    let c = called {w = w} {start = start} os (record { calls = []; session = start; run = none; same = refl }) in
     let holds = claim ok (c .calls) (c .session) (c .run) in
     let same : played (w n) start os ≡ c .session =
     played-machine (w n) start os [] ∙ ap (pollMachine (w n) start) (sym (c .same)) ∙ sym (holds .1) in

@@ -3,9 +3,9 @@
 -- and in the second another process passes it with the other value. So at the end two processes stand before the write to register W, one with each
 -- value, the registers below hold the one, and nothing is marked.
 use Prim.Native.Nat.{ℕ, suc, zero, _+_, _-_, _*_}
-use mathlib.Core.Bool.{Bool, true, false, cond, not, _&&_, _||_}
+use mathlib.Core.Bool.{Bool, true, cond, not, _||_}
 use mathlib.Core.List.{List, [], _∷_, _++_, map}
-use lib.Dec.{leb, ltb, eqb}
+use lib.Dec.{ltb, eqb}
 use Rattle.model_cases.specs.Play.{repeat}
 use Rattle.model_rule_cases.specs.Play.{Move, proposes, works, looks}
 use Rattle.model_rule_cases.specs.Breaks.{Row}
@@ -57,7 +57,7 @@ pub record Standing : Type 0 where
 
 -- ---- the values
 
--- The value of the second pass of epoch e: 1 in epoch W - 1, and the other one in every epoch before.
+-- The value of the second pass of epoch e: 1 in epoch W - 1, 2 in the one before, and so by turns.
 abbrev secondValue : (W e : ℕ) → ℕ
 secondValue W e = cond (isEven (W - 1 - e)) 1 2
 
@@ -67,6 +67,7 @@ firstValue W e = 3 - secondValue W e
 
 -- ---- one pass
 
+-- The processes whose pass it is, and the others.
 abbrev due : (t : ℕ) → List Ready → List Ready
 due t [] = []
 due t (r ∷ rs) = cond (eqb (r .pass) t) (r ∷ due t rs) (due t rs)
