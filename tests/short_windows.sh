@@ -33,6 +33,19 @@ traced list 15 2366
 traced short 2 36
 traced short 3 66
 traced short 4 109
+# The list that docs/AGREEMENT.md goes through register by register: the trace, without the tally.
+page=$(grep -E '^ *[0-9]+ \| (propose|work|look) ' docs/AGREEMENT.md | sed 's/^ *//')
+trace=$(target/reference/reference trace 2 <"$out/list-2.sheet" | cut -d'|' -f1-4 | sed -E 's/ *\| */ | /g; s/^ *//; s/ *$//')
+[[ $page == "$trace" ]] || fail "docs/AGREEMENT.md has another trace: $(diff <(echo "$page") <(echo "$trace"))"
+echo "short_windows: docs/AGREEMENT.md has the trace of list 2"
+
+# The three searched lists are those of the proved table.
+table=crates/model_window_cases/specs/Table.antt
+for w in 2 3 4; do
+    python3 tests/short_lists.py "$table" "$w" | diff - <("$short_windows" short "$w" | sed 's/ *#.*//; /^$/d') || fail "short $w is not the list of $table"
+done
+echo "short_windows: the three searched lists are those of $table"
+
 for arguments in 'list 1' 'list 16' 'list x' 'short 5' list 'list 2 3' more; do
     read -ra words <<<"$arguments"
     code=0
