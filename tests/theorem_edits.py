@@ -1,12 +1,18 @@
 #!/usr/bin/env python3
 """Edits of the machines' definitions of which the agreement rule, the rule of polls, that contested is the number of marked rounds, or a paper
-case is false, and of contracts on which the two rules rest.
+case is false, of the two rules' bound on the window, and of contracts on which they rest.
 
-Each file of tests/theorem-edits names a file, a text of it and another text, the crate to check after the change, and the file
-and lemma at which the check must refuse it first. It also has a list of calls: the processes and rounds of the opening, the
+    theorem_edits.py             tries every edit
+    theorem_edits.py PATTERN     tries those whose file name matches, as 'short*.edit': for work on one
+
+Each file of tests/theorem-edits names a file, a text of it and another text, or several such pairs, the crate to check after the change, and the
+file and lemma at which the check must refuse it first. It also has a list of calls: the processes and rounds of the opening, the
 proposals of process 0, 1, .., and the steps, `p*k` for k steps of process p; and what they commit and write, or how many rounds are
 contested and marked after a sheet of them. From these a proof that the rule is false of the changed machine is made, and that must be
-accepted. An edit of polls has the claim that it refutes, one of those that a file polls_CLAIM.template is for. Its opening has no rounds and
+accepted. Where the edit has a window, the calls are at that window and the rule that is false is the one at every window; where it has none, the
+one in service. A list that is one proposal has the number that it returns, 3, in place of what is committed and written.
+
+An edit of polls has the claim that it refutes, one of those that a file polls_CLAIM.template is for. Its opening has no rounds and
 its steps are turns; it has the answers that the calls give, none where the field is left out, and the number that the last of them returns where
 that is not 0. An edit of which a paper case is false has the case's row in place of the list, as the table has it: the table that holds that row
 alone must be proved false of the changed machine. An edit of a contract names a crate in place of the list, which must still be proved:
@@ -27,11 +33,14 @@ ANSWERS = {"committed": "Commits", "adopted": "Adopts"}
 
 
 def read_edit(path):
-    fields = {}
+    """The fields of an edit; in `changes`, each text with the other one."""
+    fields = {"changes": []}
     for line in path.read_text(encoding="utf-8").splitlines():
         if line and not line.startswith("#"):
             key, _, value = line.partition(": ")
             fields[key] = value
+            if key == "new":
+                fields["changes"].append((fields["old"], value))
     return fields
 
 
@@ -96,6 +105,14 @@ def sheet(edit):
     return header + (8).to_bytes(2, "little") + (6 * len(entries)).to_bytes(2, "little") + b"".join(entries)
 
 
+def claimed(edit, in_service, at_every_window, *numbers):
+    """The window as a function of n, the claim, and what it is applied to, as the templates have them: in service, or at the window of the edit."""
+    given = " ".join(edit[number] for number in numbers)
+    if "window" in edit:
+        return {"w": f"λ m. {edit['window']}", "claim": at_every_window, "of": f"w {given} (omega arith)"}
+    return {"w": "window", "claim": in_service, "of": given}
+
+
 def poll_refutation(edit):
     proposals = edit["proposals"].split()
     answers = [answer.split() for answer in edit["answers"].split(", ")] if "answers" in edit else []
@@ -108,6 +125,7 @@ def poll_refutation(edit):
         "proposals": listed(proposals[::-1]),
         "proposed": proposals[0],
         "longer": "true" if edit["refutes"] == "pass" else "false",
+        **claimed(edit, "PollClaim", "EveryPollWindow", "processes"),
     }
     if given:
         values |= {"first": given[0], "v": answers[0][1], "last": given[-1], "u": answers[-1][1]}
@@ -121,9 +139,12 @@ def refutation(edit):
     crates = "base model model_rule"
     if "contested" in edit:
         return ["contested.template"], crates, {"sheet": listed(sheet(edit)), "contested": edit["contested"], "marked": edit["marked"]}
+    values = {"n": edit["processes"], "L": edit["rounds"], **claimed(edit, "AgreementRule", "EveryWindow", "processes", "rounds")}
+    if "returns" in edit:
+        return ["machine.template"], crates, values | {"v": edit["proposals"], "code": edit["returns"]}
     v, R = re.fullmatch(r"(\d+) in round (\d+)", edit["commits"]).groups()
     u, r, p = re.fullmatch(r"(\d+) in round (\d+) by process (\d+)", edit["writes"]).groups()
-    values = {"moves": listed(moves(edit, "works")), "n": edit["processes"], "L": edit["rounds"], "R": R, "v": v, "p": p, "r": r, "u": u}
+    values |= {"moves": listed(moves(edit, "works")), "R": R, "v": v, "p": p, "r": r, "u": u}
     return ["refuted.template"], crates + " model_rule_cases", values
 
 
@@ -165,9 +186,11 @@ def fault_of(path):
         copy_crates(copy, [edit["check"], edit.get("proved")])
         target = copy / edit["file"]
         text = target.read_text(encoding="utf-8")
-        if text.count(edit["old"]) != 1:
-            return f"'{edit['old']}' stands {text.count(edit['old'])} times in {edit['file']}"
-        target.write_text(text.replace(edit["old"], edit["new"]), encoding="utf-8")
+        for old, new in edit["changes"]:
+            if text.count(old) != 1:
+                return f"'{old}' stands {text.count(old)} times in {edit['file']}"
+            text = text.replace(old, new)
+        target.write_text(text, encoding="utf-8")
         if "proved" in edit and check(copy, edit["proved"]).returncode != 0:
             return f"{edit['proved']} is not proved with it"
         run = check(copy, edit["check"])
