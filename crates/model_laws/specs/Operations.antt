@@ -1,10 +1,10 @@
 -- Each accepted operation of the machine leaves a sound session, and so does each operation, accepted or refused.
-use Rattle.base.specs.Prelude.{ℕ, suc, zero, _≤_, _<_, arith, _≡_, refl, Bool, true, false, _&&_, leb, not-false, leb-true, eqb-false}
+use Rattle.base.specs.Prelude.{ℕ, suc, zero, _≤_, _<_, arith, _≡_, refl, Bool, true, false, _&&_, leb, not-false, leb-true, le-leb, eqb-false}
 use Rattle.model_laws.specs.Types.{Access, Nothing, ReadValue, WriteValue, ReadMark, SetMark, ReadDecision, WriteDecision, Process, Session, Counts, Limits, Waiting, Crashed, Operation, Propose, Step, Learn, Crash, Malformed}
 use Rattle.model.specs.Board.{processAt, opened, maxProcesses, maxRounds}
 use Rattle.model.specs.Step.{access, stored, turn, found}
-use Rattle.model.specs.Refusal.{refusal, stepped, openTestsAt, ownTests, processOf, tests}
-use Rattle.model.specs.Machine.{accessOf, becomes, after, countsAfter, answered, perform}
+use Rattle.model.specs.Refusal.{refusal, changed, stepped, openTestsAt, ownTests, processOf, tests}
+use Rattle.model.specs.Machine.{openWithinAt, accessOf, becomes, after, countsAfter, answered, perform}
 use Rattle.model.specs.Sound.{soundAt, soundProcess, pollRegisters, soundAtAs, soundProcessAs}
 use Rattle.base.specs.Bools.{and-left, and-right}
 use Rattle.model_laws.specs.Every.{every-replicate, every-drop}
@@ -113,3 +113,22 @@ open-accepted most W n L e =
     let b = not-false (leb 1 n && leb n (most .processes)) (a .0) in
     let c = not-false (leb W L && leb L (most .rounds)) (a .1 .0) in
     search (and-left, and-right, leb-true)
+
+-- And an opening whose n and L are so is accepted: what it opens, either way.
+module _ (most : Limits) (W n L : ℕ) where
+  pub opening-accepts : 1 ≤ n → n ≤ most .processes → W ≤ L → L ≤ most .rounds →
+      (openWithinAt most W n L .code ≡ 0) × (openWithinAt most W n L .session ≡ opened n L)
+  unfolding openWithinAt
+  opening-accepts some few wide low =
+      rw (le-leb 1 n some, le-leb n (most .processes) few, le-leb W L wide, le-leb L (most .rounds) low) (refl, refl)
+
+  pub opening-accepted : openWithinAt most W n L .code ≡ 0 →
+      (1 ≤ n) × (n ≤ most .processes) × (W ≤ L) × (L ≤ most .rounds) × (openWithinAt most W n L .session ≡ opened n L)
+  unfolding openWithinAt
+  opening-accepted = go (refusal (openTestsAt most W n L)) refl
+    where
+      go : (k : ℕ) → refusal (openTestsAt most W n L) ≡ k →
+          let a = changed k (opened 0 0) (opened n L) in
+          a .code ≡ 0 → (1 ≤ n) × (n ≤ most .processes) × (W ≤ L) × (L ≤ most .rounds) × (a .session ≡ opened n L)
+      go zero e ok = let a = open-accepted most W n L e in (a .0, a .1, a .2, a .3, refl)
+      go (suc k) e ok = absurd (omega arith)

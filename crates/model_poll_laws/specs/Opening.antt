@@ -3,11 +3,11 @@ use Rattle.base.specs.Prelude.{ℕ, suc, zero, _*_, _+_, _≤_, arith, _≡_, r
 use Rattle.base.specs.Bools.{and-left, and-right, and-both}
 use Rattle.model.specs.Window.{window}
 use Rattle.model.specs.Board.{opened, maxProcesses, maxRounds, serverLimits}
-use Rattle.model.specs.Refusal.{refusal, openTestsAt, openTests, changed}
+use Rattle.model.specs.Refusal.{refusal, openTests, changed}
 use Rattle.model.specs.Machine.{openWithinAt}
 use Rattle.model.specs.Sound.{pollRegisters, soundAtAs}
 use Rattle.model_laws.specs.Windows.{window-low}
-use Rattle.model_laws.specs.Operations.{open-accepted}
+use Rattle.model_laws.specs.Operations.{opening-accepted}
 use Rattle.model_laws.specs.Every.{every-replicate, every-drop}
 use Rattle.model_laws.specs.Sounds.{facts-sound, idle-sound}
 use Rattle.model_poll.specs.Machine.{pollOpeningAt, pollOpening}
@@ -39,13 +39,8 @@ poll-opening-code n = rw (open-first n) (go (leb 1 n && leb n maxProcesses))
 
 -- What an accepted opening at any window knows, and what it opens.
 pub poll-opened : (W n : ℕ) → pollOpeningAt W n .code ≡ 0 → (1 ≤ n) × (n ≤ maxProcesses) × (W ≤ maxRounds) × (pollOpeningAt W n .session ≡ opened n W)
-unfolding pollOpeningAt openWithinAt
-poll-opened W n = go (refusal (openTestsAt serverLimits W n W)) refl
-  where
-    go : (k : ℕ) → refusal (openTestsAt serverLimits W n W) ≡ k → let a = changed k (opened 0 0) (opened n W) in
-        a .code ≡ 0 → (1 ≤ n) × (n ≤ maxProcesses) × (W ≤ maxRounds) × (a .session ≡ opened n W)
-    go zero e ok = let a = open-accepted serverLimits W n W e in (a .0, a .1, a .3, refl)
-    go (suc k) e ok = absurd (omega arith)
+unfolding pollOpeningAt
+poll-opened W n ok = let a = opening-accepted serverLimits W n W ok in (a .0, a .1, a .3, a .4)
 
 -- A poll just opened is sound, at any window that fits.
 pub opened-poll-sound : (W n : ℕ) → 1 ≤ n → n ≤ maxProcesses → W ≤ maxRounds → soundAtAs true W (opened n W) ≡ true

@@ -1,15 +1,14 @@
 -- The agreement rule holds at every window that is wide enough: the calls follow the machine, and the machine's rule holds. The rule in service is an
 -- instance.
-use Rattle.base.specs.Prelude.{ℕ, suc, zero, _*_, _≤_, arith, _≡_, refl, sym, _∙_, ap, subst, false, List, []}
+use Rattle.base.specs.Prelude.{ℕ, _*_, _≤_, arith, _≡_, refl, sym, _∙_, ap, subst, false, List, []}
 use Rattle.model_laws.specs.Types.{Session, Counts, Operation, Propose, Step, Learn, Crash, Malformed, Changed, Stepped}
 use Rattle.model.specs.Window.{window}
-use Rattle.model.specs.Board.{opened, serverLimits}
-use Rattle.model.specs.Refusal.{refusal, openTestsAt, changed}
-use Rattle.model.specs.Machine.{answered, perform, openWithinAt, openingAt}
+use Rattle.model.specs.Board.{serverLimits}
+use Rattle.model.specs.Machine.{answered, perform, openingAt}
 use Rattle.model.specs.Public.{operateAtAs, operate, withCounts, stepAt, learnAt}
 use Rattle.model_laws.specs.Windows.{wide-enough, window-square}
 use Rattle.model_laws.specs.Accepted.{never-three}
-use Rattle.model_laws.specs.Operations.{open-accepted}
+use Rattle.model_laws.specs.Operations.{opening-accepted}
 use Rattle.model_laws.specs.Answers.{stepped-code, operate-sound, propose-counts, crash-counts}
 use Rattle.model_rule.specs.Event.{Event}
 use Rattle.model_rule.specs.Calls.{Input, machine, PromisedAt, Call, RunWith, none, call, inputs}
@@ -57,13 +56,8 @@ followed {w} {n} {L} {start} wide i (call {cs} {s} run c promised) =
 
 -- An accepted opening.
 pub opening-reached : (W n L : ℕ) → openingAt W n L .code ≡ 0 → (1 ≤ n) × Reached W n L (openingAt W n L .session) []
-unfolding openWithinAt
-opening-reached W n L = go (refusal (openTestsAt serverLimits W n L)) refl
-  where
-    go : (k : ℕ) → refusal (openTestsAt serverLimits W n L) ≡ k → changed k (opened 0 0) (opened n L) .code ≡ 0 →
-        (1 ≤ n) × Reached W n L (changed k (opened 0 0) (opened n L) .session) []
-    go zero e ok = let a = open-accepted serverLimits W n L e in (a .0, opened-reached W n L (a .0) (a .1) (a .2) (a .3))
-    go (suc k) e ok = absurd (omega arith)
+opening-reached W n L ok =
+    let a = opening-accepted serverLimits W n L ok in (a .0, rw (a .4) (opened-reached W n L (a .0) (a .1) (a .2) (a .3)))
 
 -- The agreement rule, at every window.
 pub every-window : EveryWindow

@@ -1,10 +1,10 @@
 -- Windows that are too short for polls (document 02, wish 7), and the n for which the least window with W * W ≥ 4n is the least safe one.
-use Rattle.base.specs.Prelude.{ℕ, _+_, _*_, _≤_, arith, _≡_, refl, sym, _∙_, subst, Bool, true, true≢false, _&&_, eqb, eqb-true, le-leb}
+use Rattle.base.specs.Prelude.{ℕ, _+_, _*_, _≤_, arith, _≡_, refl, sym, _∙_, subst, Bool, true, true≢false, _&&_, eqb, eqb-true}
 use Rattle.base.specs.Bools.{and-left, and-right}
 use Rattle.model.specs.declared.Session.{Session}
-use Rattle.model.specs.Board.{opened, processAt, maxProcesses, maxRounds}
-use Rattle.model.specs.Machine.{openWithinAt}
+use Rattle.model.specs.Board.{opened, processAt, maxProcesses, maxRounds, serverLimits}
 use Rattle.model.specs.Sound.{every}
+use Rattle.model_laws.specs.Operations.{opening-accepts}
 use Rattle.model_rule.specs.Safe.{Least}
 use Rattle.model_poll.specs.declared.Answer.{Answer}
 use Rattle.model_poll.specs.declared.Answer.the-variants.{Pending, Commits, Adopts}
@@ -33,8 +33,8 @@ adopted-carries v (Adopts u) t = eqb-true u v t
 
 -- What is opened with n processes and a window that fits.
 opens : (W n : ℕ) → 1 ≤ n → n ≤ maxProcesses → W ≤ maxRounds → (pollOpeningAt W n .code ≡ 0) × (pollOpeningAt W n .session ≡ opened n W)
-unfolding pollOpeningAt openWithinAt
-opens W n some few low = rw (le-leb 1 n some, le-leb n maxProcesses few, le-leb W W (omega arith), le-leb W maxRounds low) (refl, refl)
+unfolding pollOpeningAt
+opens W n some few low = opening-accepts serverLimits W n W some few (omega arith) low
 
 -- A window from 2 to 15 is not safe for polls of as many processes as break it, nor of more.
 pub poll-too-short : (W n : ℕ) → 2 ≤ W → W ≤ 15 → enoughFor W ≤ n → n ≤ maxProcesses → PollSafe W n → ⊥

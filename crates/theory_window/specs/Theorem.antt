@@ -1,16 +1,15 @@
 -- Windows that are too short (document 02, wish 7), and the n for which the least window with W * W ≥ 4n is the least safe one.
-use Rattle.base.specs.Prelude.{ℕ, suc, zero, _+_, _*_, _-_, _≤_, _<_, arith, _≡_, refl, sym, _∙_, subst, ℕ-discrete, Bool, true, false, _&&_, _||_, [], eqb, leb, eqb-true, le-leb, leb-true}
+use Rattle.base.specs.Prelude.{ℕ, suc, zero, _+_, _*_, _-_, _≤_, _<_, arith, _≡_, refl, sym, _∙_, subst, ℕ-discrete, Bool, true, false, _&&_, _||_, [], eqb, leb, eqb-true, leb-true}
 use Rattle.base.specs.Bools.{and-left, and-right}
 use Rattle.base.specs.Squares.{square-le}
 use Rattle.model.specs.declared.Session.{Session}
 use Rattle.model.specs.Window.{rootUp, rootFrom}
 use Rattle.model.specs.Board.{opened, maxProcesses, maxRounds, serverLimits}
-use Rattle.model.specs.Refusal.{refusal, openTestsAt, changed}
-use Rattle.model.specs.Machine.{openWithinAt, openingAt}
+use Rattle.model.specs.Machine.{openingAt}
 use Rattle.model.specs.Sound.{every}
 use Rattle.model.specs.ReadOut.{holds}
 use Rattle.model_laws.specs.Windows.{root-square, root-least, wide-enough}
-use Rattle.model_laws.specs.Operations.{open-accepted}
+use Rattle.model_laws.specs.Operations.{opening-accepts, opening-accepted}
 use Rattle.model_rule.specs.Event.{Event, DecidedOn}
 use Rattle.model_rule.specs.Safe.{Safe, Least, leastWide, undecided, LeastSafeWindows}
 use Rattle.model_rule_cases.specs.Play.{played, breaks-rule}
@@ -22,22 +21,6 @@ use Rattle.theory_window.specs.More.{sized, played-more}
 
 -- ---- a row, with more processes
 
--- What is opened with n processes and a limit that fits.
-opens : (W n L : ℕ) → 1 ≤ n → n ≤ maxProcesses → W ≤ L → L ≤ maxRounds → (openingAt W n L .code ≡ 0) × (openingAt W n L .session ≡ opened n L)
-unfolding openWithinAt
-opens W n L some few wide low =
-    rw (le-leb 1 n some, le-leb n maxProcesses few, le-leb W L wide, le-leb L maxRounds low) (refl, refl)
-
--- An accepted opening.
-opened-by : (W n L : ℕ) → openingAt W n L .code ≡ 0 → (1 ≤ n) × (W ≤ L) × (L ≤ maxRounds) × (openingAt W n L .session ≡ opened n L)
-unfolding openWithinAt
-opened-by W n L = go (refusal (openTestsAt serverLimits W n L)) refl
-  where
-    go : (k : ℕ) → refusal (openTestsAt serverLimits W n L) ≡ k → let a = changed k (opened 0 0) (opened n L) in
-        a .code ≡ 0 → (1 ≤ n) × (W ≤ L) × (L ≤ maxRounds) × (a .session ≡ opened n L)
-    go zero e ok = let a = open-accepted serverLimits W n L e in (a .0, a .2, a .3, refl)
-    go (suc k) e ok = absurd (omega arith)
-
 -- What breaks the rule with n processes breaks it with more.
 pub row-unsafe : (r : Row) → breaks r ≡ true → (n : ℕ) → r .n ≤ n → n ≤ maxProcesses → Safe (r .window) n → ⊥
 unfolding opened
@@ -45,10 +28,10 @@ row-unsafe r t n more few safe =
     let W = r .window in
     let L = r .limit in
     let b = breaks-shows r t in
-    let o = opened-by W (r .n) L (b .opens) in
-    let large = opens W n L (omega (arith, o .0)) few (o .1) (o .2) in
+    let o = opening-accepted serverLimits W (r .n) L (b .opens) in
+    let large = opening-accepts serverLimits W n L (omega (arith, o .0)) few (o .2) (o .3) in
     let same : pastOf r ≡ played W (openingAt W n L .session) [] (r .moves) =
-    rw (o .3, large .1) (sym (played-more W n (r .n) (opened (r .n) L) [] (r .moves) refl more (b .inside))) in
+    rw (o .4, large .1) (sym (played-more W n (r .n) (opened (r .n) L) [] (r .moves) refl more (b .inside))) in
     breaks-rule (λ m. W) n L (r .moves) (large .0)
     (λ s rule.
     b .unlike
