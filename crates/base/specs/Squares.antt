@@ -1,5 +1,5 @@
 -- Squares of natural numbers.
-use Rattle.base.specs.Prelude.{ℕ, suc, zero, _+_, _*_, _≤_, _<_, _≡_, refl, add-one, arith, decLt}
+use Rattle.base.specs.Prelude.{ℕ, suc, zero, _+_, _*_, _≤_, _≡_, refl, add-one, arith}
 
 -- A number is at most its square.
 pub le-square : (n : ℕ) → n ≤ n * n
@@ -27,7 +27,3 @@ pub square-le : (m n : ℕ) → m ≤ n → m * m ≤ n * n
 square-le zero n low = omega arith
 square-le (suc m) zero low = absurd (omega arith)
 square-le (suc m) (suc n) low = omega (arith, square-le m n (omega arith))
-
--- And the smaller square is that of the smaller number.
-pub lt-of-square : (m n : ℕ) → m * m < n * n → m < n
-lt-of-square m n low = elim (decLt m n) [ yes less ↦ less | no not-less ↦ absurd (omega (arith, square-le n m (omega arith))) ]

@@ -3,7 +3,7 @@ use Rattle.base.specs.Prelude.{ℕ, suc, zero, _+_, _≤_, _<_, arith, ℕ-disc
 use Rattle.model_rule.specs.Event.{Event, Written}
 use Rattle.theory_past.specs.Epoch.{Wrote, Held, Passed}
 use Rattle.theory_past.specs.Lawful.{CommitLawful, Lawful, lawful-at}
-use Rattle.theory_past.specs.Past.{past-before, passed-past}
+use Rattle.theory_past.specs.Past.{past-before, passed-past, passed-any}
 use Rattle.theory_past.specs.Registers.{written-in}
 use Rattle.theory_count.specs.TwoValues.{two-values}
 
@@ -12,7 +12,7 @@ pub walked : {W n i r v : ℕ} {h : List Event} → Lawful W n h → Written r v
 walked {r = zero} lawful w low below = absurd (omega arith)
 walked {i} {r = suc r} lawful w low below =
     let past = w .1 .past in
-    let pass = passed-past (past-before past) (lawful-at lawful past .passed r refl (omega arith)) in
+    let pass = passed-past (past-before past) (passed-any (lawful-at lawful past .passed r refl (omega arith))) in
     elim (ℕ-discrete i r) [
       | yes same ↦ rw same pass
       | no other ↦ walked lawful (written-in (pass .written)) low (omega arith)
@@ -29,28 +29,26 @@ pub record Rivals (W n R u v : ℕ) (h : List Event) : Type 0 where
 abbrev pub Cell : (v : ℕ) (h : List Event) (i j p : ℕ) → Type 0
 Cell v h i j p = (w : ℕ) × Wrote p j w i h × (i ≡ j → w ≡ v → ⊥)
 
+-- A value written to register R was held by each register of the window in each epoch from its own up to R, since no round of the window was flagged
+-- before epoch R.
+pub held-at : {W n R u v w : ℕ} {h : List Event} (i j : ℕ) → Rivals W n R u v h → Written R w h → R < j + W → j ≤ i → i < R → Held i j w h
+held-at i j rivals written inside low below =
+    let window = rivals .committed .window in
+    elim (walked {i = i} (rivals .lawful) written (omega arith) below .compared j (omega arith) low (omega arith)) [
+      | inl contested ↦
+          let late = rivals .committed .unflagged j (contested .0) (omega arith) inside (contested .2) in
+          absurd (omega arith)
+      | inr holds ↦ holds
+    ]
+
 -- With two values at register R each register of the window was written to in each epoch from its own up to R.
 pub cell : {W n R u v : ℕ} {h : List Event} (i j : ℕ) → Rivals W n R u v h → R < j + W → j ≤ i → i < R → (p : ℕ) × Cell v h i j p
-cell {W} {R} {u} {v} {h} i j rivals inside low below =
+cell {u = u} i j rivals inside low below =
+    let window = rivals .committed .window in
     elim (ℕ-discrete i j) [
-      | yes same ↦ let w = pass (rivals .written) .written in rw (← same) (w .0, (u, w .1, λ e. rivals .differ))
+      | yes same ↦ let w = walked {i = i} (rivals .lawful) (rivals .written) (omega arith) below .written in rw (← same) (w .0, (u, w .1, λ e. rivals .differ))
       | no apart ↦
-          let w = two-values (held (rivals .written)) (held (rivals .committed .written)) (rivals .differ) in
+          let w =
+          two-values (held-at i j rivals (rivals .written) inside low below) (held-at i j rivals (rivals .committed .written) inside low below) (rivals .differ) in
           (w .0, (w .1, w .2, λ e. absurd (apart e)))
     ]
-  where
-    window : W ≤ R
-    window = rivals .committed .window
-
-    pass : {w : ℕ} → Written R w h → Passed W i w h
-    pass w = walked (rivals .lawful) w (omega arith) below
-
-    -- The value was held by the register in that epoch, since no round of the window was flagged before epoch R.
-    held : {w : ℕ} → Written R w h → Held i j w h
-    held w =
-        elim (pass w .compared j (omega arith) low (omega arith)) [
-          | inl contested ↦
-              let late = rivals .committed .unflagged j (contested .0) (omega arith) inside (contested .2) in
-              absurd (omega arith)
-          | inr holds ↦ holds
-        ]

@@ -54,8 +54,25 @@ Contested i j h = (e : ℕ) × (e ≤ i) × Flagged j e h
 abbrev pub Compared : (i j v : ℕ) → List Event → Type 0
 Compared i j v h = Contested i j h ⊎ Held i j v h
 
+-- At some moment of epoch i register j held v, and what process p wrote until now it had written by that moment.
+pub record HeldBy (p i j v : ℕ) (h : List Event) : Type 0 where
+  pub moment : List Event
+  pub past : Past moment h
+  pub epoch : top moment ≡ i
+  pub holds : last moment j ≡ v
+  pub own : (r w : ℕ) (b : List Event) → Past (write p r w ∷ b) h → Past (write p r w ∷ b) moment
+
+-- Process p compared round j with v in epoch i, after its own writes: it held v, or it was flagged.
+abbrev pub ComparedBy : (p i j v : ℕ) → List Event → Type 0
+ComparedBy p i j v h = Contested i j h ⊎ HeldBy p i j v h
+
 -- Round i was walked with the estimate v while no round above it was written: v was written to register i in epoch i, and
 -- each of the W rounds up to i was compared with v in epoch i.
 pub record Passed (W i v : ℕ) (h : List Event) : Type 0 where
   pub written : WrittenIn i v i h
   pub compared : (j : ℕ) → 1 ≤ j → j ≤ i → i < j + W → Compared i j v h
+
+-- The same of process p, which walked round i after its own writes.
+pub record PassedBy (W p i v : ℕ) (h : List Event) : Type 0 where
+  pub written : WrittenIn i v i h
+  pub compared : (j : ℕ) → 1 ≤ j → j ≤ i → i < j + W → ComparedBy p i j v h

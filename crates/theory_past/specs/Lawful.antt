@@ -3,12 +3,12 @@ use Rattle.base.specs.Prelude.{ℕ, suc, _+_, _≤_, _<_, max, _≡_, List, [],
 use Rattle.base.specs.Bools.{cond-cases}
 use Rattle.model_rule.specs.Event.{Event, proposal, write, flag, commit, decision, Past, Proposed, Written, Committed}
 use Rattle.model_rule.specs.Event.Past.{here, there}
-use Rattle.theory_past.specs.Epoch.{top, last, Wrote, Flagged, Passed}
+use Rattle.theory_past.specs.Epoch.{top, last, Wrote, Flagged, PassedBy}
 use Rattle.theory_past.specs.Past.{past-before, past-total, happened-past, in-cases}
 use Rattle.theory_past.specs.Registers.{top-le, wrote-round}
 
--- What a write of v to register r by process p rests on: p is one of the n, its earlier writes were in epochs below r, and the round
--- before r was passed.
+-- What a write of v to register r by process p rests on: p is one of the n, its earlier writes were in epochs below r, and it
+-- passed the round before r.
 pub record WriteLawful (W n p r v : ℕ) (h : List Event) : Type 0 where
   pub some : 0 < v
   pub reached : r ≤ top h + 1
@@ -16,7 +16,7 @@ pub record WriteLawful (W n p r v : ℕ) (h : List Event) : Type 0 where
   pub round : 1 ≤ r
   pub value : Proposed v h
   pub ordered : (r′ v′ e′ : ℕ) → Wrote p r′ v′ e′ h → e′ < r
-  pub passed : (i : ℕ) → r ≡ suc i → 1 ≤ i → Passed W i v h
+  pub passed : (i : ℕ) → r ≡ suc i → 1 ≤ i → PassedBy W p i v h
 
 -- Of the last m rounds up to r none was flagged before epoch r.
 abbrev pub Unflagged : (m r : ℕ) → List Event → Type 0

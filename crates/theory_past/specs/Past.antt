@@ -1,8 +1,8 @@
 -- Older parts of a past: what was true of one stays true, and what an event on top of it can add.
-use Rattle.base.specs.Prelude.{ℕ, _≡_, refl, List, [], _∷_, _⊎_, inl, inr, ⊎-elim}
-use Rattle.model_rule.specs.Event.{Event, Past, Happened}
+use Rattle.base.specs.Prelude.{ℕ, _≤_, _≡_, refl, List, [], _∷_, _⊎_, inl, inr, ⊎-elim, length, le-refl, arith}
+use Rattle.model_rule.specs.Event.{Event, write, Past, Happened}
 use Rattle.model_rule.specs.Event.Past.{here, there}
-use Rattle.theory_past.specs.Epoch.{top, HappenedIn, Compared, Passed}
+use Rattle.theory_past.specs.Epoch.{top, HappenedIn, Compared, ComparedBy, Passed, PassedBy}
 
 -- A part of a part is a part.
 pub past-trans : {a b c : List Event} → Past a b → Past b c → Past a c
@@ -32,6 +32,14 @@ past-total (there p) (there q) = past-total p q
 pub past-cons : {x : Event} {a h : List Event} → Past a (x ∷ h) → (a ≡ x ∷ h) ⊎ Past a h
 past-cons here = inl refl
 past-cons (there p) = inr p
+
+-- No part is longer than the whole, so that none is a part of what came before it.
+past-length : {a h : List Event} → Past a h → length a ≤ length h
+past-length {h = h} here = le-refl (length h)
+past-length (there q) = omega (arith, past-length q)
+
+pub past-older : {x : Event} {b : List Event} → Past (x ∷ b) b → ⊥
+past-older q = omega (arith, past-length q)
 
 -- ---- what was true of an older part is true of the whole
 
@@ -71,3 +79,39 @@ in-cases x =
     (λ c. inl (cc, cc))
     (λ q. inr (record { before = x .before; past = q; epoch = x .epoch }))
     (past-cons (x .past))
+
+-- ---- what process p compared after its own writes
+
+-- The event is no write of process p.
+abbrev pub NoWrite : (p : ℕ) → Event → Type 0
+NoWrite p x = (r w : ℕ) → x ≡ write p r w → ⊥
+
+-- It stays so while p writes nothing.
+pub compared-event : {p i j v : ℕ} {x : Event} {h : List Event} → NoWrite p x → ComparedBy p i j v h → ComparedBy p i j v (x ∷ h)
+compared-event none (inl c) = inl (c .0, c .1, in-past (there here) (c .2))
+compared-event none (inr c) =
+    inr
+    (record {
+      moment = c .moment;
+      past = there (c .past);
+      epoch = c .epoch;
+      holds = c .holds;
+      own = λ r w b q. c .own r w b (⊎-elim (λ e. absurd (none r w (cc))) (λ z. z) (past-cons q));
+    })
+
+pub passed-event : {W p i v : ℕ} {x : Event} {h : List Event} → NoWrite p x → PassedBy W p i v h → PassedBy W p i v (x ∷ h)
+passed-event none a =
+    record {
+      written = (a .written .0, in-past (there here) (a .written .1));
+      compared = λ j b c d. compared-event none (a .compared j b c d);
+    }
+
+-- Whoever it was.
+pub passed-any : {W p i v : ℕ} {h : List Event} → PassedBy W p i v h → Passed W i v h
+passed-any a =
+    record {
+      written = a .written;
+      compared =
+          λ j b c d.
+          ⊎-elim inl (λ x. inr (record { moment = x .moment; past = x .past; epoch = x .epoch; holds = x .holds })) (a .compared j b c d);
+    }

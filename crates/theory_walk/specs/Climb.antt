@@ -3,7 +3,7 @@ use Rattle.base.specs.Prelude.{ℕ, _+_, _-_, _≤_, _<_, _≡_, _∙_, sym, co
 use Rattle.model_laws.specs.Types.{Phase, Write, Scan, Adopt, Compare, Waiting}
 use Rattle.model.specs.Step.{process}
 use Rattle.model_rule.specs.Event.{Event, Proposed, Written}
-use Rattle.theory_past.specs.Epoch.{top, last, Passed}
+use Rattle.theory_past.specs.Epoch.{top, last, PassedBy}
 use Rattle.theory_past.specs.Lawful.{Lawful, lawful-at, blank-above}
 use Rattle.base.specs.Bools.{cond-cases}
 use Rattle.theory_past.specs.Past.{past-before, happened-past}
@@ -11,7 +11,7 @@ use Rattle.theory_past.specs.Registers.{epoch-top, wrote-round, written-fresh, 
 use Rattle.theory_walk.specs.Place.{Walked, Placed, PlacedAt}
 
 -- A round that is over was passed if no higher round was written.
-walked-passed : {W r v : ℕ} {h : List Event} → Walked W r v h → top h ≡ r → Passed W r v h
+walked-passed : {W p r v : ℕ} {h : List Event} → Walked W p r v h → top h ≡ r → PassedBy W p r v h
 walked-passed x e = record { written = written-fresh (x .written) (omega arith); compared = x .compared e }
 
 -- The next register is blank: the process will write to it.
@@ -49,14 +49,14 @@ scan-placed W L p r v k x h a e =
     (λ t. scan-on W L p r v k x h e (eqb-false x 0 t))
 
 -- A process has walked nothing of a round in which its value was just written or adopted.
-pub walked-none : {r v : ℕ} {h : List Event} → Written r v h → Walked 0 r v h
+pub walked-none : {p r v : ℕ} {h : List Event} → Written r v h → Walked 0 p r v h
 walked-none w = record { written = w; compared = λ e j a b c. absurd (omega arith) }
 
 -- A step that adopts the value of a filled register.
 pub adopt-placed : {W n : ℕ} (p r v k x : ℕ) {h : List Event} → 1 ≤ k → Lawful W n h → Placed W p r v (Adopt k) h → x ≡ last h k →
     PlacedAt W p (process (Compare 0) k (cond (eqb x 0) v x)) h
 adopt-placed p r v k x {h} b l a e =
-    cond-cases (λ (u : ℕ). Proposed u h × Walked 0 k u h) (eqb x 0)
+    cond-cases (λ (u : ℕ). Proposed u h × Walked 0 p k u h) (eqb x 0)
     (λ t. absurd (omega (arith, blank-above l k b (sym e ∙ eqb-true x 0 t))))
     (λ t.
     let some = eqb-false x 0 t in

@@ -3,15 +3,15 @@ use Rattle.base.specs.Prelude.{ℕ, _+_, _-_, _≤_, min, _≡_, _∙_, refl, s
 use Rattle.model_laws.specs.Types.{Phase, Compare, Flag}
 use Rattle.model.specs.Step.{goOn}
 use Rattle.model_rule.specs.Event.{Event, flag}
-use Rattle.theory_past.specs.Epoch.{top, last, Compared}
+use Rattle.theory_past.specs.Epoch.{top, last, ComparedBy}
 use Rattle.model_rule.specs.Event.Past.{here, there}
 use Rattle.base.specs.Bools.{cond-cases}
 use Rattle.theory_walk.specs.Place.{Walked, Placed}
-use Rattle.theory_walk.specs.Stays.{walked-past}
+use Rattle.theory_walk.specs.Stays.{walked-event}
 
 -- One more round compared.
-walked-more : {m r v : ℕ} {h : List Event} → Walked m r v h → (top h ≡ r → Compared r (r - m) v h) → Walked (m + 1) r v h
-walked-more {m} {r} x c =
+walked-more : {m p r v : ℕ} {h : List Event} → Walked m p r v h → (top h ≡ r → ComparedBy p r (r - m) v h) → Walked (m + 1) p r v h
+walked-more {m} {p} {r} x c =
     record {
       written = x .written;
       compared =
@@ -20,11 +20,11 @@ walked-more {m} {r} x c =
     }
 
 -- The whole window compared: the round is over.
-walked-over : {W m r v : ℕ} {h : List Event} → Walked m r v h → min r W ≤ m → Walked W r v h
+walked-over : {W m p r v : ℕ} {h : List Event} → Walked m p r v h → min r W ≤ m → Walked W p r v h
 walked-over x a = record { written = x .written; compared = λ e j b c d. x .compared e j b c (omega arith) }
 
 -- "Go on" after distance i was compared.
-go-on-placed : (W p r v i : ℕ) (h : List Event) → Walked (i + 1) r v h → Placed W p r v (goOn W r i) h
+go-on-placed : (W p r v i : ℕ) (h : List Event) → Walked (i + 1) p r v h → Placed W p r v (goOn W r i) h
 unfolding goOn
 go-on-placed W p r v i h x =
     cond-cases (λ (φ : Phase). Placed W p r v φ h) (ltb (i + 1) (min r W))
@@ -40,11 +40,11 @@ compare-placed W p r v i x h a e =
     cond-cases (λ (φ : Phase). Placed W p r v φ h) (eqb x v)
     (λ t.
     let holds = sym e ∙ eqb-true x v t in
-    go-on-placed W p r v i h (walked-more a (λ c. inr (record { moment = h; past = here; epoch = c; holds = holds }))))
+    go-on-placed W p r v i h (walked-more a (λ c. inr (record { moment = h; past = here; epoch = c; holds = holds; own = λ r′ w b z. z }))))
     (λ t. a)
 
 -- A step that flags.
 pub flag-placed : (W p r v i : ℕ) (h : List Event) → Placed W p r v (Flag i) h → Placed W p r v (goOn W r i) (flag (r - i) ∷ h)
 flag-placed W p r v i h a =
     go-on-placed W p r v i (flag (r - i) ∷ h)
-    (walked-more (walked-past (there here) a) (λ e. inl (top h, omega arith, record { before = h; past = here; epoch = refl })))
+    (walked-more (walked-event (λ r′ w e. let z : _≡_ {A = ℕ} 0 1 = cc in omega arith) a) (λ e. inl (top h, omega arith, record { before = h; past = here; epoch = refl })))

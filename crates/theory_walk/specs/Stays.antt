@@ -4,23 +4,23 @@ use Rattle.model_laws.specs.Types.{Phase, Idle, Waiting, Write, Scan, Adopt, Co
 use Rattle.model_rule.specs.Event.{Event, proposal, write, flag, commit, decision, Past}
 use Rattle.model_rule.specs.Event.Past.{here, there}
 use Rattle.theory_past.specs.Lawful.{Unflagged}
-use Rattle.theory_past.specs.Past.{happened-past, compared-past, passed-past, happened-cases, in-cases}
-use Rattle.theory_past.specs.Registers.{top-event, top-le, wrote-round}
+use Rattle.theory_past.specs.Past.{happened-past, NoWrite, compared-event, passed-event, happened-cases, in-cases}
+use Rattle.theory_past.specs.Registers.{top-event, wrote-round}
 use Rattle.theory_walk.specs.Place.{Walked, Placed, Stands}
 
 -- What was walked stays so: a round that was reached is the highest one only if it was so before.
-pub walked-past : {h h′ : List Event} {m r v : ℕ} → Past h h′ → Walked m r v h → Walked m r v h′
-walked-past q x =
+pub walked-event : {x : Event} {h : List Event} {m p r v : ℕ} → NoWrite p x → Walked m p r v h → Walked m p r v (x ∷ h)
+walked-event {x} {h} none a =
     record {
-      written = (x .written .0, happened-past q (x .written .1));
-      compared = λ e j a b c. compared-past q (x .compared (omega (arith, wrote-round (x .written .1), top-le q)) j a b c);
+      written = (a .written .0, happened-past (there here) (a .written .1));
+      compared = λ e j b c d. compared-event none (a .compared (omega (arith, wrote-round (a .written .1), top-event x h)) j b c d);
     }
 
 -- An event keeps what the checks tell of m rounds up to r: a later flag is of no lower epoch than a round that was reached.
-checked-event : {W r v : ℕ} (m : ℕ) {x : Event} {h : List Event} →
-    Walked W r v h × Unflagged m r h → Walked W r v (x ∷ h) × Unflagged m r (x ∷ h)
-checked-event m a = (
-  walked-past (there here) (a .0),
+checked-event : {W p r v : ℕ} (m : ℕ) {x : Event} {h : List Event} → NoWrite p x →
+    Walked W p r v h × Unflagged m r h → Walked W p r v (x ∷ h) × Unflagged m r (x ∷ h)
+checked-event m none a = (
+  walked-event none (a .0),
   λ j e b c f. ⊎-elim (λ s. omega (arith, s .1, wrote-round (a .0 .written .1))) (a .1 j e b c) (in-cases f),
 )
 
@@ -36,23 +36,26 @@ abbrev pub SpareAll : (o : ℕ) → List Event → Type 0
 SpareAll o [] = Unit {0}
 SpareAll o (x ∷ es) = Spares o x × SpareAll o es
 
+spares-write : (p : ℕ) (x : Event) → Spares p x → NoWrite p x
+spares-write p x n r w e = (rw e at n) refl
+
 -- Such an event keeps what the phase of the process tells.
 placed-event : (W p r v : ℕ) (φ : Phase) (x : Event) (h : List Event) →
     Spares p x → Placed W p r v φ h → Placed W p r v φ (x ∷ h)
 placed-event W p r v Idle x h n a = tt
-placed-event W p r v Waiting x h n a = λ b. walked-past (there here) (a b)
+placed-event W p r v Waiting x h n a = λ b. walked-event (spares-write p x n) (a b)
 placed-event W p r v Write x h n a = (
   omega (arith, top-event x h),
   λ r′ v′ e′ w. ⊎-elim (λ c. absurd ((rw (c .0) at n) refl)) (a .1 r′ v′ e′) (in-cases w),
-  λ i e b. passed-past (there here) (a .2 i e b),
+  λ i e b. passed-event (spares-write p x n) (a .2 i e b),
 )
 placed-event W p r v (Scan k) x h n a = omega (arith, top-event x h)
 placed-event W p r v (Adopt k) x h n a = omega (arith, top-event x h)
-placed-event W p r v (Compare i) x h n a = walked-past (there here) a
-placed-event W p r v (Flag i) x h n a = walked-past (there here) a
-placed-event W p r v (CheckMark i) x h n a = checked-event i a
-placed-event W p r v (CheckValue i) x h n a = checked-event (suc i) a
-placed-event W p r v Commit x h n a = checked-event W a
+placed-event W p r v (Compare i) x h n a = walked-event (spares-write p x n) a
+placed-event W p r v (Flag i) x h n a = walked-event (spares-write p x n) a
+placed-event W p r v (CheckMark i) x h n a = checked-event i (spares-write p x n) a
+placed-event W p r v (CheckValue i) x h n a = checked-event (suc i) (spares-write p x n) a
+placed-event W p r v Commit x h n a = checked-event W (spares-write p x n) a
 placed-event W p r v Exhausted x h n a = tt
 placed-event W p r v Crashed x h n a = tt
 placed-event W p r v Decided x h n a = happened-past (there here) a

