@@ -9,8 +9,8 @@ Each file of tests/theorem-edits names a file, a text of it and another text, or
 file and lemma at which the check must refuse it first. It also has a list of calls: the processes and rounds of the opening, the
 proposals of process 0, 1, .., and the steps, `p*k` for k steps of process p; and what they commit and write, or how many rounds are
 contested and marked after a sheet of them. From these a proof that the rule is false of the changed machine is made, and that must be
-accepted. Where the edit has a window, the calls are at that window and the rule that is false is the one at every window; where it has none, the
-one in service. A list that is one proposal has the number that it returns, 3, in place of what is committed and written.
+accepted. Where the edit has a window, the calls are at that window and the rule that is false is the one at every window, or the claim of Safe.antt that
+it names; where it has none, the one in service. A list that is one proposal has the number that it returns, 3, in place of what is committed and written.
 
 An edit of polls has the claim that it refutes, one of those that a file polls_CLAIM.template is for. Its opening has no rounds and
 its steps are turns; it has the answers that the calls give, none where the field is left out, and the number that the last of them returns where
@@ -109,8 +109,9 @@ def claimed(edit, in_service, at_every_window, *numbers):
     """The window as a function of n, the claim, and what it is applied to, as the templates have them: in service, or at the window of the edit."""
     given = " ".join(edit[number] for number in numbers)
     if "window" in edit:
-        return {"w": f"λ m. {edit['window']}", "claim": at_every_window, "of": f"w {given} (omega arith)"}
-    return {"w": "window", "claim": in_service, "of": given}
+        claim = edit.get("claim", at_every_window)
+        return {"w": f"λ m. {edit['window']}", "claim": claim, "file": "Safe" if "claim" in edit else "Rule", "of": f"w {given} (omega arith)"}
+    return {"w": "window", "claim": in_service, "file": "Rule", "of": given}
 
 
 def poll_refutation(edit):

@@ -1,7 +1,7 @@
 -- The rounded-up root, and the window made of it.
-use Rattle.base.specs.Prelude.{ℕ, suc, zero, _+_, _*_, _≤_, arith, leb, leb-true, leb-false}
+use Rattle.base.specs.Prelude.{ℕ, suc, zero, _+_, _*_, _≤_, arith, leb, leb-true}
 use Rattle.base.specs.Bools.{cond-cases}
-use Rattle.base.specs.Squares.{le-square, lt-of-square}
+use Rattle.base.specs.Squares.{le-square}
 use Rattle.model.specs.Window.{rootFrom, rootUp, window}
 
 -- The number found has a square of at least n, if the last number tried has.
@@ -15,18 +15,6 @@ root-from-square (suc fuel) m n h =
 pub root-square : (n : ℕ) → n ≤ rootUp n * rootUp n
 unfolding rootUp
 root-square n = root-from-square n 0 n (omega (arith, le-square n))
-
--- The number found is the least from m on: it is at most any other whose square is at least n.
-pub root-from-least : (fuel m n k : ℕ) → m ≤ k → n ≤ k * k → rootFrom fuel m n ≤ k
-unfolding rootFrom
-root-from-least zero m n k low square = low
-root-from-least (suc fuel) m n k low square =
-    cond-cases (λ x. x ≤ k) (leb n (m * m)) (λ t. low)
-    (λ t. root-from-least fuel (suc m) n k (lt-of-square m k (omega (arith, leb-false n (m * m) t))) square)
-
-pub root-least : (n k : ℕ) → n ≤ k * k → rootUp n ≤ k
-unfolding rootUp
-root-least n k square = root-from-least n 0 n k (omega arith) square
 
 -- A window whose square is at least 4n is at least 2, where there is a process.
 pub wide-enough : (W n : ℕ) → 1 ≤ n → 4 * n ≤ W * W → 2 ≤ W

@@ -1,9 +1,10 @@
 -- From the invariant to the rule.
-use Rattle.base.specs.Prelude.{ℕ, _*_, _≤_, arith, ℕ-discrete, _≡_, subst, List, _∷_, _⊎_, inl, inr, ⊎-elim}
+use Rattle.base.specs.Prelude.{ℕ, _≤_, _<_, arith, ℕ-discrete, _≡_, subst, List, _∷_, _⊎_, inl, inr, ⊎-elim}
 use Rattle.model_laws.specs.Types.{Phase, Session}
 use Rattle.model.specs.Board.{processAt}
 use Rattle.model_rule.specs.Event.{Event, proposal, write, flag, commit, decision, here, there, Committed}
 use Rattle.model_rule.specs.Rule.{ProposedFirst, Rule}
+use Rattle.model_rule.specs.Safe.{threshold}
 use Rattle.theory_past.specs.Past.{past-none, happened-older}
 use Rattle.theory_past.specs.Lawful.{EventLawful, Lawful, none, also}
 use Rattle.theory_count.specs.Agreed.{agreed, agreed-commits}
@@ -37,8 +38,8 @@ first-commit {W} {n} v (also {x = x} {h = h} l k) =
     (first-commit v l)
 
 -- The rule holds of every session and past with the invariant, where the window is wide enough.
-pub invariant-rule : {W : ℕ} {s : Session} {h : List Event} → Invariant W s h → 2 ≤ W → 4 * s .n ≤ W * W → Rule s h
-invariant-rule {W} {s} {h} i wide square =
+pub invariant-rule : {W : ℕ} {s : Session} {h : List Event} → Invariant W s h → 2 ≤ W → s .n < threshold W → Rule s h
+invariant-rule {W} {s} {h} i wide few =
     let l = i .lawful in
     record {
       holds = λ p v d. i .stands p .decided v d;
@@ -46,10 +47,10 @@ invariant-rule {W} {s} {h} i wide square =
           λ p v d.
           let q = processAt s p in
           rw (← d .1) (subst (λ (φ : Phase). Placed W p (q .round) (q .estimate) φ h) (d .0) (i .stands p .placed (rw (d .0)) .1));
-      agreement = λ p q u v d e. agreed-commits W (s .n) h wide square l (decided-committed l d .1) (decided-committed l e .1);
+      agreement = λ p q u v d e. agreed-commits W (s .n) h wide few l (decided-committed l d .1) (decided-committed l e .1);
       validity =
           λ p v d.
           let c = decided-committed l d in
           ⊎-elim (λ f. f) (λ never. absurd (never (c .0) (c .1))) (first-commit v l);
-      commitment = λ R r u v. agreed W (s .n) h wide square l;
+      commitment = λ R r u v. agreed W (s .n) h wide few l;
     }

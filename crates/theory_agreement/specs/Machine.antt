@@ -1,5 +1,5 @@
--- What the machine at window W comes to, and its rule where 2 ≤ W and 4 * n ≤ W * W.
-use Rattle.base.specs.Prelude.{ℕ, suc, zero, _*_, _≤_, arith, _≡_, refl, _∙_, true, false, List, [], _∷_, _++_}
+-- What the machine at window W comes to, and its rule where n is below the threshold of W.
+use Rattle.base.specs.Prelude.{ℕ, suc, zero, _*_, _≤_, _<_, arith, _≡_, refl, _∙_, true, false, List, [], _∷_, _++_}
 use Rattle.model_laws.specs.Types.{Session, Counts, Operation}
 use Rattle.model.specs.Board.{processAt, opened, maxProcesses, maxRounds}
 use Rattle.model.specs.Refusal.{refusal, tests, processOf, stepped}
@@ -11,6 +11,8 @@ use Rattle.model_laws.specs.Operations.{after-sound, after-same, opened-sound}
 use Rattle.model_rule.specs.Event.{Event, eventsOf}
 use Rattle.model_rule.specs.Calls.{Input, machine, ifAccepted, events, past}
 use Rattle.model_rule.specs.Rule.{Rule}
+use Rattle.model_rule.specs.Safe.{threshold}
+use Rattle.theory_count.specs.Grid.{wide-below}
 use Rattle.theory_board.specs.Invariant.{Invariant}
 use Rattle.theory_board.specs.Operations.{operation-invariant}
 use Rattle.theory_board.specs.Opening.{opened-invariant}
@@ -68,5 +70,8 @@ opened-reached W n L some few wide low =
     }
 
 -- The rule of every session that the machine reached.
+pub reached-below : {W n L : ℕ} {s : Session} {h : List Event} → 2 ≤ W → n < threshold W → Reached W n L s h → Rule s h
+reached-below wide few i = invariant-rule (i .invariant) wide (rw (i .size) few)
+
 pub reached-rule : {W n L : ℕ} {s : Session} {h : List Event} → 2 ≤ W → 4 * n ≤ W * W → Reached W n L s h → Rule s h
-reached-rule wide square i = invariant-rule (i .invariant) wide (rw (i .size) square)
+reached-rule {W} {n} wide square i = reached-below wide (wide-below W n square) i

@@ -6,15 +6,16 @@ use Rattle.model.specs.Window.{window}
 use Rattle.model.specs.Board.{serverLimits}
 use Rattle.model.specs.Machine.{answered, perform, openingAt}
 use Rattle.model.specs.Public.{operateAtAs, operate, withCounts, stepAt, learnAt}
-use Rattle.model_laws.specs.Windows.{wide-enough, window-square}
+use Rattle.model_laws.specs.Windows.{window-square}
 use Rattle.model_laws.specs.Accepted.{never-three}
 use Rattle.model_laws.specs.Operations.{opening-accepted}
 use Rattle.model_laws.specs.Answers.{stepped-code, operate-sound, propose-counts, crash-counts}
 use Rattle.model_rule.specs.Event.{Event}
 use Rattle.model_rule.specs.Calls.{Input, machine, PromisedAt, Call, RunWith, none, call, inputs}
 use Rattle.model_rule.specs.Rule.{EachAsTheMachine, EveryWindow, AgreementRule}
-use Rattle.model_rule.specs.Safe.{Safe}
-use Rattle.theory_agreement.specs.Machine.{Reached, machine-reached, opened-reached, reached-rule}
+use Rattle.model_rule.specs.Safe.{Safe, BelowThreshold}
+use Rattle.theory_count.specs.Grid.{wide-below, below-wide}
+use Rattle.theory_agreement.specs.Machine.{Reached, machine-reached, opened-reached, reached-below}
 
 -- What is promised of a call is what the operation answers: a proposal and a crash leave any counts.
 pub promised-operate : (W : ℕ) (s : Session) (c : Counts) (o : Operation) (a : Changed) (c′ : Counts) → PromisedAt W s c o a c′ →
@@ -59,14 +60,18 @@ pub opening-reached : (W n L : ℕ) → openingAt W n L .code ≡ 0 → (1 ≤ n
 opening-reached W n L ok =
     let a = opening-accepted serverLimits W n L ok in (a .0, rw (a .4) (opened-reached W n L (a .0) (a .1) (a .2) (a .3)))
 
--- The agreement rule, at every window.
-pub every-window : EveryWindow
-every-window w n L square ok cs s run =
+-- The agreement rule, below the threshold of every window.
+pub below-threshold : BelowThreshold
+below-threshold w n L few ok cs s run =
     let o = opening-reached (w n) n L ok in
-    let least : 2 ≤ w n = wide-enough (w n) n (o .0) square in
+    let least : 2 ≤ w n = below-wide (w n) n (o .0) few in
     let wide : 1 ≤ w n = omega arith in
     let f = followed wide (o .1) run in
-    (f .0, f .1, rw (f .1) (reached-rule least square (machine-reached wide (o .1) (inputs cs))))
+    (f .0, f .1, rw (f .1) (reached-below least few (machine-reached wide (o .1) (inputs cs))))
+
+-- Where the square of the window is at least 4n.
+pub every-window : EveryWindow
+every-window w n L square = below-threshold w n L (wide-below (w n) n square)
 
 -- At a window that is one number: "every window W of at least 2 with W times W at least 4n".
 pub wide-safe : (W n : ℕ) → 2 ≤ W → 4 * n ≤ W * W → Safe W n

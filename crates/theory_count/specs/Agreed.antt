@@ -1,12 +1,13 @@
 -- The agreement rule of the past: one value is committed, and no other is written from the round of the commit on.
-use Rattle.base.specs.Prelude.{ℕ, _*_, _≤_, arith, ℕ-discrete, decLe, _≡_, sym, List}
+use Rattle.base.specs.Prelude.{ℕ, _≤_, _<_, arith, ℕ-discrete, decLe, _≡_, sym, List}
 use Rattle.model_rule.specs.Event.{Event, Written, Committed}
+use Rattle.model_rule.specs.Safe.{threshold}
 use Rattle.theory_past.specs.Lawful.{Lawful, commit-lawful}
 use Rattle.theory_past.specs.Registers.{written-in}
 use Rattle.theory_count.specs.Rivals.{Rivals, walked}
 use Rattle.theory_count.specs.Grid.{no-rivals}
 
-module _ (W n : ℕ) (h : List Event) (wide : 2 ≤ W) (few : 4 * n ≤ W * W) (lawful : Lawful W n h) where
+module _ (W n : ℕ) (h : List Event) (wide : 2 ≤ W) (few : n < threshold W) (lawful : Lawful W n h) where
   -- What is written to the register of a commit is the value committed.
   same-register : {R v u : ℕ} → Committed R v h → Written R u h → u ≡ v
   same-register {R} {v} {u} committed written =

@@ -1,11 +1,13 @@
--- The count: two values at the register of a commit take more writes than there are processes.
-use Rattle.base.specs.Prelude.{ℕ, suc, _+_, _*_, _-_, _/_, _%_, _≤_, _<_, arith, ℕ-discrete, mod-lt, div-lt-iff-lt-mul, div-add-mod', _≡_, List}
+-- The count: two values at the register of a commit take more processes than there are below the threshold.
+use Rattle.base.specs.Prelude.{ℕ, suc, zero, max, _+_, _*_, _-_, _/_, _%_, _≤_, _<_, arith, ℕ-discrete, decLe, decLt, mod-lt, div-lt-iff-lt-mul, div-add-mod', _≡_, List}
 use Rattle.model_rule.specs.Event.{Event}
+use Rattle.model_rule.specs.Safe.{threshold}
 use Rattle.theory_past.specs.Epoch.{WrittenIn}
 use Rattle.theory_past.specs.Lawful.{lawful-at}
 use Rattle.theory_count.specs.Pigeon.{spare-hole}
 use Rattle.theory_count.specs.Apart.{same-write}
 use Rattle.theory_count.specs.Rivals.{Rivals, Cell, walked, cell}
+use Rattle.theory_count.specs.Sharp.{sharp}
 
 module _
     {W n R u v : ℕ} {h : List Event} (s k m : ℕ) (rivals : Rivals W n R u v h)
@@ -58,10 +60,34 @@ square s k low high more =
     ]
 
 -- Two values cannot both be written to the register of a round in which one of them was committed.
-pub no-rivals : {W n R u v : ℕ} {h : List Event} → 2 ≤ W → 4 * n ≤ W * W → Rivals W n R u v h → ⊥
+pub no-rivals : {W n R u v : ℕ} {h : List Event} → 2 ≤ W → n < threshold W → Rivals W n R u v h → ⊥
 no-rivals {W} {n} {R} wide few rivals =
     let s = W / 2 in
     let k = W - W / 2 in
     let whole : s + k ≡ W = omega arith in
     let writes : k * s < n = grid s k (R - k) rivals whole (omega arith) (omega arith) (omega arith) in
-    omega (arith, rw whole at (square s k (omega arith) (omega arith) writes))
+    elim (decLe 2 k) [
+      | yes above ↦ omega (arith, writes, sharp s k (R - k) rivals whole (omega (arith, rivals .committed .window)) (omega arith) above)
+      | no below ↦ omega (arith, writes)
+    ]
+
+-- ---- the threshold
+
+-- A window with W * W ≥ 4n is below it.
+pub wide-below : (W n : ℕ) → 4 * n ≤ W * W → n < threshold W
+wide-below W n square-of =
+    elim (decLt n (threshold W)) [
+      | yes below ↦ below
+      | no above ↦
+          let s = W / 2 in
+          let k = W - W / 2 in
+          let whole : s + k ≡ W = omega arith in
+          let more : k * s < n = omega arith in
+          absurd (omega (arith, rw whole at (square s k (omega arith) (omega arith) more)))
+    ]
+
+-- A window whose threshold is above one process is at least 2.
+pub below-wide : (W n : ℕ) → 1 ≤ n → n < threshold W → 2 ≤ W
+below-wide zero n some few = absurd (omega arith)
+below-wide (suc zero) n some few = absurd (omega arith)
+below-wide (suc (suc W)) n some few = omega arith

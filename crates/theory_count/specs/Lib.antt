@@ -2,6 +2,9 @@
 pub mod Pigeon
 pub mod TwoValues
 pub mod Apart
+pub mod Ends
 pub mod Rivals
+pub mod Carriers
+pub mod Sharp
 pub mod Grid
 pub mod Agreed

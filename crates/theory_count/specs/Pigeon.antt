@@ -1,5 +1,5 @@
 -- Pigeonholes: where each pigeon has a hole of its own and one hole is left, there are more holes than pigeons.
-use Rattle.base.specs.Prelude.{ℕ, suc, zero, pred, min, max, _+_, _-_, _<_, _≡_, arith}
+use Rattle.base.specs.Prelude.{ℕ, suc, zero, pred, min, max, _+_, _-_, _≤_, _<_, _≡_, arith}
 
 -- The numbers other than k, moved together: those above k are lowered by one.
 abbrev without : (k x : ℕ) → ℕ
@@ -35,3 +35,13 @@ spare-hole n (suc m) q In low place once never =
     (λ t u y. once t u (restored k y))
     (λ t a. never t (rw (restored-without k q apart) at a)) in
     omega arith
+
+-- As many holes as numbers, at least: where each of m numbers has a hole below n of its own.
+pub holes : (n m : ℕ) (In : ℕ → ℕ → Type 0) → ((t : ℕ) → t < m → (p : ℕ) × (p < n) × In t p) → ((t u p : ℕ) → In t p → In u p → t ≡ u) → m ≤ n
+holes n zero In place once = omega arith
+holes n (suc m) In place once =
+    let last = place m (omega arith) in
+    spare-hole n m (last .0) (λ t p. (t < m) × In t p) (last .1)
+    (λ t l. let hole = place t (omega arith) in (hole .0, hole .1, (l, hole .2)))
+    (λ t u p a b. once t u p (a .1) (b .1))
+    (λ t a. omega (arith, a .0, once t m (last .0) (a .1) (last .2)))

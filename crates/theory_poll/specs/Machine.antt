@@ -8,6 +8,7 @@ use Rattle.model.specs.Sound.{soundPhaseAs, soundAtAs}
 use Rattle.model_laws.specs.Sounds.{sound-process}
 use Rattle.model_rule.specs.Event.{Event, proposal, commit, Happened, Proposed, Written, Committed}
 use Rattle.model_rule.specs.Calls.{ifAccepted}
+use Rattle.model_rule.specs.Safe.{threshold}
 use Rattle.model_poll.specs.declared.Answer.the-variants.{Commits, Adopts}
 use Rattle.model_poll.specs.Turn.{answerAt, answerOf, Carries}
 use Rattle.model_poll.specs.Machine.{PollOperation, proposes, turns, crashes, pollPerform}
@@ -105,7 +106,7 @@ module _ {W n : ℕ} {s : Session} {h : List Event} (i : PollReached W n s h) (p
       (a .0)
 
 -- "If one answer is committed v, every answer carries v", where the window is wide enough.
-pub answers-agree : {W n : ℕ} {s : Session} {h : List Event} → PollReached W n s h → 2 ≤ W → 4 * n ≤ W * W → (p q u v : ℕ) →
+pub answers-agree : {W n : ℕ} {s : Session} {h : List Event} → PollReached W n s h → 2 ≤ W → n < threshold W → (p q u v : ℕ) →
     answerOf (processAt s p) ≡ Commits v → Carries (answerOf (processAt s q)) u → u ≡ v
-answers-agree {W} {n} {s} {h} i wide square p q u v e has =
-    agreed W (s .n) h wide (rw (i .size) square) (i .invariant .lawful) (answer-committed i p v (rw e refl) e) (answer-known i q u has .1) (omega arith)
+answers-agree {W} {n} {s} {h} i wide few p q u v e has =
+    agreed W (s .n) h wide (rw (i .size) few) (i .invariant .lawful) (answer-committed i p v (rw e refl) e) (answer-known i q u has .1) (omega arith)

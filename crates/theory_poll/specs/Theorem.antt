@@ -1,10 +1,13 @@
 -- The rule of polls holds at every window that is wide enough; the rule in service is an instance.
-use Rattle.base.specs.Prelude.{ℕ, _+_, _*_, _≤_, arith, _≡_, refl, sym, _∙_, ap, subst, List, [], ⊎-elim}
+use Rattle.base.specs.Prelude.{ℕ, _+_, _*_, _≤_, _<_, arith, _≡_, refl, sym, _∙_, ap, subst, List, [], ⊎-elim}
 use Rattle.model_laws.specs.Types.{Session, HasCommitted, HasAdopted}
 use Rattle.model.specs.Window.{window}
 use Rattle.model.specs.Board.{processAt, idle, opened, maxProcesses, maxRounds}
-use Rattle.model_laws.specs.Windows.{wide-enough, window-square}
+use Rattle.model_laws.specs.Windows.{window-square}
 use Rattle.model_rule.specs.Event.{Proposed}
+use Rattle.model_rule.specs.Safe.{threshold}
+use Rattle.model_poll_rule.specs.Safe.{PollBelowThreshold}
+use Rattle.theory_count.specs.Grid.{wide-below, below-wide}
 use Rattle.model_poll.specs.declared.Answer.{Answer}
 use Rattle.model_poll.specs.declared.Answer.the-variants.{Commits}
 use Rattle.model_poll.specs.Turn.{answerOf, Carries}
@@ -22,9 +25,9 @@ use Rattle.theory_poll.specs.Passes.{taken-pass, calls-taken}
 turns-of : {p q : ℕ} → turns p ≡ turns q → p ≡ q
 turns-of e = cc
 
--- ---- of the machine, at any window W with 2 ≤ W and 4 * n ≤ W * W
+-- ---- of the machine, at any window W with 2 ≤ W and a threshold above n
 
-module _ {W n : ℕ} {start : Session} (wide : 2 ≤ W) (square : 4 * n ≤ W * W) (i : PollReached W n start []) (fresh : Fresh start) (calm : AllCalm start []) (cs : List PollCall)
+module _ {W n : ℕ} {start : Session} (wide : 2 ≤ W) (few : n < threshold W) (i : PollReached W n start []) (fresh : Fresh start) (calm : AllCalm start []) (cs : List PollCall)
     (each : EachAsThePollMachine W start cs) where
   abbrev m : Session
   m = pollMachine W start (pollInputs cs)
@@ -53,7 +56,7 @@ module _ {W n : ℕ} {start : Session} (wide : 2 ≤ W) (square : 4 * n ≤ W * 
             λ u v one other committed has.
             let a = still v one (rw committed refl) in
             let b = still u other has in
-            answers-agree here wide square (a .0) (b .0) u v (a .2 ∙ committed) (subst (λ (x : Answer). Carries x u) (sym (b .2)) has);
+            answers-agree here wide few (a .0) (b .0) u v (a .2 ∙ committed) (subst (λ (x : Answer). Carries x u) (sym (b .2)) has);
         unanimity =
             λ u v only stood has.
             let a = still u stood has in
@@ -71,16 +74,20 @@ opened-fresh : (W n : ℕ) → Fresh (opened n W)
 unfolding opened
 opened-fresh W n p = same-everywhere maxProcesses p idle
 
--- The rule of polls, at every window.
-pub every-poll-window : EveryPollWindow
-every-poll-window w n square ok cs s run =
+-- The rule of polls, below the threshold of every window.
+pub poll-below-threshold : PollBelowThreshold
+poll-below-threshold w n few ok cs s run =
     let o = poll-opened (w n) n ok in
-    let least : 2 ≤ w n = wide-enough (w n) n (o .0) square in
+    let least : 2 ≤ w n = below-wide (w n) n (o .0) few in
     let wide : 1 ≤ w n = omega arith in
     let reached = opened-poll-reached (w n) n (o .0) (o .1) (o .2) in
     let f = followed wide reached (rw (o .3) at run) in
     rw (o .3)
-    (f .0, f .1, rw (f .1) (calls-rule least square reached (opened-fresh (w n) n) (opened-calm (w n) n) cs (f .0)))
+    (f .0, f .1, rw (f .1) (calls-rule least few reached (opened-fresh (w n) n) (opened-calm (w n) n) cs (f .0)))
+
+-- Where the square of the window is at least 4n.
+pub every-poll-window : EveryPollWindow
+every-poll-window w n square = poll-below-threshold w n (wide-below (w n) n square)
 
 -- At a window that is one number, in the words of 02, wish 7.
 pub poll-rule-at : (W n : ℕ) → 2 ≤ W → 4 * n ≤ W * W → PollClaimWith (λ m. W) n

@@ -11,6 +11,7 @@ use Rattle.model.specs.Refusal.{full}
 use Rattle.model.specs.Machine.{openWithinAt, accessOf, becomes, after, countsAfter, answered, perform}
 use Rattle.model.specs.Sound.{every}
 use Rattle.model_cases.specs.Play.{repeat}
+use Rattle.model_rule.specs.Safe.{threshold}
 use Rattle.model_rule_cases.specs.Play.{Move, proposes, works, looks}
 use Rattle.model_poll.specs.declared.Answer.{Answer}
 use Rattle.model_poll.specs.declared.Answer.the-variants.{Pending, Commits, Adopts}
@@ -18,7 +19,6 @@ use Rattle.model_poll.specs.Turn.{withoutDecision, pollAccess, ending, pollNext
 use Rattle.model_poll.specs.Machine as poll
 use Rattle.model_poll.specs.Machine.{PollOperation, turns, pollOpeningAt, turnAfter, turnCounts, turned, pollPerform}
 use Rattle.theory_window.specs.Construction.{from, written, goesOn, allGoOn, onePass, epochs, atFirst, atLast, withOne, withTwo, commitSteps, lastSteps}
-use Rattle.theory_window.specs.Broken.{enoughFor}
 use Rattle.theory_poll_window.specs.Play.{played}
 use Rattle.theory_poll_window.specs.More.{within}
 
@@ -47,7 +47,7 @@ isAdopted v (Adopts u) = eqb u v
 
 -- The poll after them.
 abbrev pub left : (W : ℕ) → Session
-left W = played W (pollOpeningAt W (enoughFor W) .session) (operations W)
+left W = played W (pollOpeningAt W (threshold W) .session) (operations W)
 
 unfoldable pub answersDiffer : Session → (one other : ℕ) → Bool
 answersDiffer s one other = isCommitted 1 (answerOf (processAt s one)) && isAdopted 2 (answerOf (processAt s other))
@@ -55,7 +55,7 @@ answersDiffer s one other = isCommitted 1 (answerOf (processAt s one)) && isAdop
 -- The list of window W breaks the rule there, with as many processes as break it for sessions.
 unfoldable pub broken : (W : ℕ) → Bool
 broken W =
-    (eqb (pollOpeningAt W (enoughFor W) .code) 0 && every (within (enoughFor W)) (operations W))
+    (eqb (pollOpeningAt W (threshold W) .code) 0 && every (within (threshold W)) (operations W))
     && answersDiffer (left W) (withOne W (atLast W)) (withTwo W (atLast W))
 
 pub all-broken : every broken (from 2 14) ≡ true

@@ -1,22 +1,21 @@
--- Windows that are too short for polls (document 02, wish 7), and the n for which the least window with W * W ≥ 4n is the least safe one.
-use Rattle.base.specs.Prelude.{ℕ, _+_, _*_, _≤_, arith, _≡_, refl, sym, _∙_, subst, Bool, true, true≢false, _&&_, eqb, eqb-true}
+-- Windows that are too short for polls (document 02, wish 7), and which windows are safe for how many processes.
+use Rattle.base.specs.Prelude.{ℕ, _+_, _*_, _≤_, arith, decLe, _≡_, refl, sym, _∙_, subst, Bool, true, true≢false, _&&_, eqb, eqb-true}
 use Rattle.base.specs.Bools.{and-left, and-right}
 use Rattle.model.specs.declared.Session.{Session}
 use Rattle.model.specs.Board.{opened, processAt, maxProcesses, maxRounds, serverLimits}
 use Rattle.model.specs.Sound.{every}
 use Rattle.model_laws.specs.Operations.{opening-accepts}
-use Rattle.model_rule.specs.Safe.{Least}
+use Rattle.model_rule.specs.Safe.{threshold}
 use Rattle.model_poll.specs.declared.Answer.{Answer}
 use Rattle.model_poll.specs.declared.Answer.the-variants.{Pending, Commits, Adopts}
 use Rattle.model_poll.specs.Turn.{answerOf, Carries}
 use Rattle.model_poll.specs.Machine.{pollOpeningAt}
-use Rattle.model_poll_rule.specs.Safe.{PollSafe, LeastSafePollWindows}
+use Rattle.model_poll_rule.specs.Safe.{PollSafe, ExactPollWindows}
 use Rattle.model_poll_laws.specs.Opening.{poll-opened}
 use Rattle.theory_window.specs.Construction.{from, atLast, withOne, withTwo}
-use Rattle.theory_window.specs.Broken.{enoughFor}
 use Rattle.theory_window.specs.More.{sized}
-use Rattle.theory_window.specs.Theorem.{every-from, least-of}
-use Rattle.theory_poll.specs.Theorem.{poll-rule-at}
+use Rattle.theory_window.specs.Theorem.{every-from, high-threshold}
+use Rattle.theory_poll.specs.Theorem.{poll-below-threshold}
 use Rattle.theory_poll_window.specs.Play.{played, breaks-poll-rule}
 use Rattle.theory_poll_window.specs.Broken.{operations, isCommitted, isAdopted, left, answersDiffer, broken, all-broken}
 use Rattle.theory_poll_window.specs.More.{within, played-more}
@@ -36,18 +35,17 @@ opens : (W n : ℕ) → 1 ≤ n → n ≤ maxProcesses → W ≤ maxRounds → (
 unfolding pollOpeningAt
 opens W n some few low = opening-accepts serverLimits W n W some few (omega arith) low
 
--- A window from 2 to 15 is not safe for polls of as many processes as break it, nor of more.
-pub poll-too-short : (W n : ℕ) → 2 ≤ W → W ≤ 15 → enoughFor W ≤ n → n ≤ maxProcesses → PollSafe W n → ⊥
+-- The list of a window from 2 to 15 breaks it, with as many processes as its threshold and with more.
+broken-unsafe : (W n : ℕ) → broken W ≡ true → threshold W ≤ n → n ≤ maxProcesses → PollSafe W n → ⊥
 unfolding broken answersDiffer opened
-poll-too-short W n least most enough few =
-    let e = enoughFor W in
+broken-unsafe W n t enough few =
+    let e = threshold W in
     let os = operations W in
     let one = withOne W (atLast W) in
     let other = withTwo W (atLast W) in
     let a = answerOf (processAt (left W) one) in
     let b = answerOf (processAt (left W) other) in
     let accepted = eqb (pollOpeningAt W e .code) 0 in
-    let t = every-from broken 2 14 W least (omega arith) all-broken in
     let start = and-left (accepted && every (within e) os) (answersDiffer (left W) one other) t in
     let differ = and-right (accepted && every (within e) os) (answersDiffer (left W) one other) t in
     let small = poll-opened W e (eqb-true (pollOpeningAt W e .code) 0 (and-left accepted (every (within e) os) start)) in
@@ -55,12 +53,17 @@ poll-too-short W n least most enough few =
     let same : sized n (left W) ≡ played W (pollOpeningAt W n .session) os =
     rw (small .3, large .1) (sym (played-more W n e (opened e W) os refl enough (and-right accepted (every (within e) os) start))) in
     breaks-poll-rule (λ m. W) n os one other 2 1 (large .0)
-    (subst (λ (s : Session). answerOf (processAt s one) ≡ Commits 1) same
-    (committed-is 1 a (and-left (isCommitted 1 a) (isAdopted 2 b) differ)))
-    (subst (λ (s : Session). Carries (answerOf (processAt s other)) 2) same
-    (adopted-carries 2 b (and-right (isCommitted 1 a) (isAdopted 2 b) differ)))
+    (subst (λ (s : Session). answerOf (processAt s one) ≡ Commits 1) same (committed-is 1 a (and-left (isCommitted 1 a) (isAdopted 2 b) differ)))
+    (subst (λ (s : Session). Carries (answerOf (processAt s other)) 2) same (adopted-carries 2 b (and-right (isCommitted 1 a) (isAdopted 2 b) differ)))
     (λ z. omega arith)
 
-pub least-safe-poll : LeastSafePollWindows
-least-safe-poll n some few other =
-    least-of (λ W. PollSafe W n) n some few other (λ W. poll-rule-at W n) (λ W least most enough. poll-too-short W n least most enough few)
+-- A window is not safe for polls of as many processes as its threshold, nor of more.
+pub poll-too-short : (W n : ℕ) → 2 ≤ W → threshold W ≤ n → n ≤ maxProcesses → PollSafe W n → ⊥
+poll-too-short W n least enough few safe =
+    elim (decLe W 15) [
+      | yes most ↦ broken-unsafe W n (every-from broken 2 14 W least (omega arith) all-broken) enough few safe
+      | no high ↦ omega (arith, high-threshold W (omega arith))
+    ]
+
+pub exact-poll-windows : ExactPollWindows
+exact-poll-windows W n least few = (λ below. poll-below-threshold (λ m. W) n below, λ enough. poll-too-short W n least enough few)

@@ -1,22 +1,20 @@
--- Windows that are too short (document 02, wish 7), and the n for which the least window with W * W ≥ 4n is the least safe one.
-use Rattle.base.specs.Prelude.{ℕ, suc, zero, _+_, _*_, _-_, _≤_, _<_, arith, _≡_, refl, sym, _∙_, subst, ℕ-discrete, Bool, true, false, _&&_, _||_, [], eqb, leb, eqb-true, leb-true}
+-- Windows that are too short (document 02, wish 7), and which windows are safe for how many processes.
+use Rattle.base.specs.Prelude.{ℕ, suc, zero, max, _+_, _*_, _-_, _/_, _≤_, _<_, arith, mul-le-mul, _≡_, refl, sym, _∙_, subst, ℕ-discrete, decLe, Bool, true, cond, _&&_, List, [], _∷_, eqb, leb, ltb, eqb-true}
 use Rattle.base.specs.Bools.{and-left, and-right}
-use Rattle.base.specs.Squares.{square-le}
 use Rattle.model.specs.declared.Session.{Session}
 use Rattle.model.specs.Window.{rootUp, rootFrom}
 use Rattle.model.specs.Board.{opened, maxProcesses, maxRounds, serverLimits}
 use Rattle.model.specs.Machine.{openingAt}
 use Rattle.model.specs.Sound.{every}
 use Rattle.model.specs.ReadOut.{holds}
-use Rattle.model_laws.specs.Windows.{root-square, root-least, wide-enough}
 use Rattle.model_laws.specs.Operations.{opening-accepts, opening-accepted}
 use Rattle.model_rule.specs.Event.{Event, DecidedOn}
-use Rattle.model_rule.specs.Safe.{Safe, Least, leastWide, undecided, LeastSafeWindows}
+use Rattle.model_rule.specs.Safe.{Safe, threshold, ExactWindows}
 use Rattle.model_rule_cases.specs.Play.{played, breaks-rule}
 use Rattle.model_rule_cases.specs.Breaks.{Row, pastOf, breaks, breaks-shows}
-use Rattle.theory_agreement.specs.Theorem.{wide-safe}
+use Rattle.theory_agreement.specs.Theorem.{below-threshold}
 use Rattle.theory_window.specs.Construction.{from, construction}
-use Rattle.theory_window.specs.Broken.{enoughFor, broken, all-broken}
+use Rattle.theory_window.specs.Broken.{broken, all-broken}
 use Rattle.theory_window.specs.More.{sized, played-more}
 
 -- ---- a row, with more processes
@@ -51,44 +49,48 @@ every-from test k (suc length) i low high all =
       | no other ↦ every-from test (suc k) length i (omega arith) (omega arith) (and-right (test k) _ all)
     ]
 
--- A window from 2 to 15 is not safe for as many processes as break it, nor for more.
-pub too-short : (W n : ℕ) → 2 ≤ W → W ≤ 15 → enoughFor W ≤ n → n ≤ maxProcesses → Safe W n → ⊥
+-- A longer one would take more processes than a session has.
+pub high-threshold : (W : ℕ) → 16 ≤ W → maxProcesses < threshold W
+high-threshold W high =
+    let half = W / 2 in
+    let rest = W - half in
+    let one : 8 ≤ rest = omega arith in
+    let other : 8 ≤ half = omega arith in
+    let product : 8 * 8 ≤ rest * half = mul-le-mul one other in
+    omega arith
+
+-- A window is not safe for as many processes as its threshold, nor for more.
+pub too-short : (W n : ℕ) → 2 ≤ W → threshold W ≤ n → n ≤ maxProcesses → Safe W n → ⊥
 unfolding broken
-too-short W n least most enough few safe =
-    let r = construction W in
-    let t = every-from broken 2 14 W least (omega arith) all-broken in
-    let u = and-left (breaks r && eqb (r .n) (enoughFor W)) (eqb (r .window) W) t in
-    let size = eqb-true (r .n) (enoughFor W) (and-right (breaks r) _ u) in
-    let same = eqb-true (r .window) W (and-right (breaks r && eqb (r .n) (enoughFor W)) _ t) in
-    row-unsafe r (and-left (breaks r) _ u) n (omega arith) few (rw same safe)
+too-short W n least enough few safe =
+    elim (decLe W 15) [
+      | yes most ↦
+          let r = construction W in
+          let t = every-from broken 2 14 W least (omega arith) all-broken in
+          let u = and-left (breaks r && eqb (r .n) (threshold W)) (eqb (r .window) W) t in
+          let size = eqb-true (r .n) (threshold W) (and-right (breaks r) _ u) in
+          let same = eqb-true (r .window) W (and-right (breaks r && eqb (r .n) (threshold W)) _ t) in
+          row-unsafe r (and-left (breaks r) _ u) n (omega arith) few (rw same safe)
+      | no high ↦ omega (arith, high-threshold W (omega arith))
+    ]
 
--- ---- the least safe window
+-- ---- from both sides
 
--- Whether n processes break every window from 2 on that is shorter than the least wide one.
-breaksShorter : (n : ℕ) → Bool
-breaksShorter n = every (λ W. leb (enoughFor W) n) (from 2 (leastWide n - 2))
+pub exact-windows : ExactWindows
+exact-windows W n least few = (λ below L. below-threshold (λ m. W) n L below, λ enough. too-short W n least enough few)
 
-decided : (n : ℕ) → Bool
-decided n = holds n undecided || breaksShorter n
+-- The least window with W times W at least 4n.
+abbrev leastWide : (n : ℕ) → ℕ
+leastWide n = rootUp (4 * n)
 
-all-decided : every decided (from 1 64) ≡ true
-unfolding decided breaksShorter rootUp rootFrom
-all-decided = refl
+-- For these n the window that is shorter by one is safe too, and the one before is not; for every other n from 2 to 64 it is not safe.
+abbrev shorterToo : List ℕ
+shorterToo = 13 ∷ 17 ∷ 21 ∷ 26 ∷ 31 ∷ 32 ∷ 37 ∷ 38 ∷ 43 ∷ 44 ∷ 50 ∷ 51 ∷ 57 ∷ 58 ∷ 59 ∷ []
 
--- A sense of safe in which every wide window is, and none that so many processes break: its least window.
-pub least-of : (safe : ℕ → Type 0) (n : ℕ) → 1 ≤ n → n ≤ maxProcesses → holds n undecided ≡ false
-    → ((W : ℕ) → 2 ≤ W → 4 * n ≤ W * W → safe W)
-    → ((W : ℕ) → 2 ≤ W → W ≤ 15 → enoughFor W ≤ n → safe W → ⊥)
-    → Least safe (leastWide n)
-unfolding decided breaksShorter
-least-of safe n some few other wide short =
-    let t : breaksShorter n ≡ true = rw other at (every-from decided 1 64 n some (omega arith) all-decided) in
-    let square = root-square (4 * n) in (
-      λ X long. wide X (omega (arith, wide-enough (leastWide n) n some square)) (omega (arith, square, square-le (leastWide n) X long)),
-      λ X least below.
-          short X least (omega (arith, root-least (4 * n) 16 (omega arith)))
-          (leb-true (enoughFor X) n (every-from (λ W. leb (enoughFor W) n) 2 (leastWide n - 2) X least (omega arith) t)),
-    )
-
-pub least-safe : LeastSafeWindows
-least-safe n some few other = least-of (λ W. Safe W n) n some few other (λ W. wide-safe W n) (λ W least most enough. too-short W n least most enough few)
+pub least-safe : every
+    (λ n.
+    let W = leastWide n in
+    cond (holds n shorterToo) (ltb n (threshold (W - 1)) && leb (threshold (W - 2)) n) (leb (threshold (W - 1)) n))
+    (from 2 63) ≡ true
+unfolding rootUp rootFrom
+least-safe = refl
