@@ -451,9 +451,16 @@ const SAID: [(usize, usize); 15] = [
 /// The largest window whose list a session has the processes for.
 const LARGEST: usize = 15;
 
-/// The n from 2 to 64 for which no list here tells whether the least window within the
-/// bound could be one less.
-const OPEN: [usize; 15] = [13, 17, 21, 26, 31, 32, 37, 38, 43, 44, 50, 51, 57, 58, 59];
+/// The n from 2 to 64 that are too few for the list of the window one less than the
+/// least within the bound: that one is safe too.
+const SAFE: [usize; 15] = [13, 17, 21, 26, 31, 32, 37, 38, 43, 44, 50, 51, 57, 58, 59];
+
+/// The threshold of a window: it is safe for fewer processes alone.
+fn threshold(window: usize) -> usize {
+    let half = window / 2;
+    let rest = window - half;
+    rest * half + (rest / 2).max(1)
+}
 
 /// The bound of 02, wish 7.
 fn within_bound(window: usize, n: usize) -> bool {
@@ -487,6 +494,7 @@ fn check_construction() -> Found<()> {
         };
         let bounds = [window, window + 1].map(|window| within_bound(window, seats));
         same("seats and work turns", (seats, turns), said)
+            .and_then(|()| same("seats", seats, threshold(window)))
             .and_then(|()| same("within the bound, and one more", bounds, [false, true]))
             .map_err(|wrong| format!("W {window}: {wrong}"))?;
         let most = window * window / 4;
@@ -518,18 +526,18 @@ fn check_polls() -> Found<()> {
 /// Whether the least window within the bound can be one less: not where the list for
 /// that one finds the processes it needs, the others staying out.
 fn check_least() -> Found<()> {
-    let (mut sharp, mut open) = (0, Vec::new());
+    let (mut sharp, mut safe) = (0, Vec::new());
     for n in 2..=MAX_PROCESSES {
         let list = session_list(least_window(n) - 1);
         if list.n <= n {
             two_commits(&list, n, [V, U])?;
             sharp += 1;
         } else {
-            open.push(n);
+            safe.push(n);
         }
     }
-    same("open n", &open[..], &OPEN)?;
-    println!("one less than the least W within the bound, n from 2 to {MAX_PROCESSES}: two commits for {sharp}, open for {open:?}");
+    same("too few", &safe[..], &SAFE)?;
+    println!("one less than the least W within the bound, n from 2 to {MAX_PROCESSES}: two commits for {sharp}, too few seats for {safe:?}");
     Ok(())
 }
 
