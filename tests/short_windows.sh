@@ -93,11 +93,11 @@ wrong_machine() { # WHAT FILE EDIT WORDS
     rustc --edition 2021 --crate-type rlib --crate-name janus_reference "$out/src/lib.rs" -o "$out/libjanus_reference.rlib"
     found "a machine that $1" "$4" reference "$out"
 }
-wrong_machine "opens at the window in service" session.rs 's/^        check_opening(window, n, limit)?;/        check_opening(self::window(n).max(window), n, limit)?;/' \
+wrong_machine "opens at the window in service" session.rs 's/check_opening(|_| window, n, limit)?;/check_opening(|n| self::window(n).max(window), n, limit)?;/' \
     'W 2, 2 seats: refused 2'
 wrong_machine "walks at a window one larger" session.rs 's/^            window: window(self.n),/            window: window(self.n) + 1,/' \
     'W 2, 2 seats: call [0-9]+, work 1 yes: left unsound'
-wrong_machine "is sound at a window one larger" sound.rs 's/^        let limit = self.limit;/&\n        let window = window + 1;/' \
+wrong_machine "is sound at a window one larger" sound.rs 's/let (limit, window) = (self.limit, window(self.n));/let (limit, window) = (self.limit, window(self.n) + 1);/' \
     'W 2, 2 seats: call [0-9]+, work 1 yes: left unsound'
 wrong_machine "reads over marks" phase.rs 's/if board.read_mark(self.round - i) {/if board.read_mark(self.round - i) \&\& false {/' \
     'W 2, 2 seats: commits by round \[\(2, 2\)\], not \[\(2, 2\), \(3, 1\)\]'

@@ -3,8 +3,10 @@
 use crate::board::{Access, Board, Counts, Registers};
 use crate::phase::{Bounds, Phase, Process};
 use crate::refusal::Refusal;
-use crate::session::{board, check_opening, present, window, Session, MAX_PROCESSES};
-use crate::sound::{blank_past, record};
+use crate::session::{
+    board, check_opening, check_processes, present, window, Session, MAX_PROCESSES,
+};
+use crate::sound::{blank_past, record, sound};
 
 /// What a process gets from a poll, with its value.
 #[derive(Clone, Copy, PartialEq, Eq, Debug)]
@@ -54,6 +56,7 @@ pub struct Poll {
 impl Poll {
     /// Opens a poll. (Order: 1.)
     pub fn open(n: usize) -> Result<Poll, Refusal> {
+        check_processes(n)?;
         Poll::open_at(window(n), n)
     }
 
@@ -94,12 +97,17 @@ impl Poll {
 
     /// A process takes up a value. (Order: 3, 4, 5, 6.)
     pub fn propose(&mut self, process: usize, value: u32) -> Result<(), Refusal> {
-        self.propose_at(window(self.n), process, value)
+        self.check_sound()?;
+        self.propose_trusted(process, value)
     }
 
     /// A proposal at a window. (02, wish 7; order: 3, 4, 5, 6.)
     pub fn propose_at(&mut self, window: u32, process: usize, value: u32) -> Result<(), Refusal> {
-        self.check_sound_at(window)?;
+        sound(self.is_sound_at(window))?;
+        self.propose_trusted(process, value)
+    }
+
+    fn propose_trusted(&mut self, process: usize, value: u32) -> Result<(), Refusal> {
         let voter = present(&mut self.voters[..self.n], process)?;
         if value == 0 {
             return Err(Refusal::BlankProposal);
@@ -118,7 +126,8 @@ impl Poll {
     /// One step of a process, and the answer if it gives one. (02: a turn; order: 3,
     /// 4, 7, 8, 16.)
     pub fn step(&mut self, process: usize, counts: &mut Counts) -> Result<Option<Answer>, Refusal> {
-        self.step_at(window(self.n), process, counts)
+        self.check_sound()?;
+        self.step_trusted(window(self.n), process, counts)
     }
 
     /// One step at a window. (02, wish 7; order: 3, 4, 7, 8, 16.)
@@ -128,7 +137,16 @@ impl Poll {
         process: usize,
         counts: &mut Counts,
     ) -> Result<Option<Answer>, Refusal> {
-        self.check_sound_at(window)?;
+        sound(self.is_sound_at(window))?;
+        self.step_trusted(window, process, counts)
+    }
+
+    fn step_trusted(
+        &mut self,
+        window: u32,
+        process: usize,
+        counts: &mut Counts,
+    ) -> Result<Option<Answer>, Refusal> {
         let bounds = Bounds {
             limit: self.limit,
             window,
@@ -145,12 +163,17 @@ impl Poll {
 
     /// A process stops for good. (Order: 3, 4, 7, 8.)
     pub fn crash(&mut self, process: usize) -> Result<(), Refusal> {
-        self.crash_at(window(self.n), process)
+        self.check_sound()?;
+        self.crash_trusted(process)
     }
 
     /// A crash at a window. (02, wish 7; order: 3, 4, 7, 8.)
     pub fn crash_at(&mut self, window: u32, process: usize) -> Result<(), Refusal> {
-        self.check_sound_at(window)?;
+        sound(self.is_sound_at(window))?;
+        self.crash_trusted(process)
+    }
+
+    fn crash_trusted(&mut self, process: usize) -> Result<(), Refusal> {
         let voter = present(&mut self.voters[..self.n], process)?;
         working(voter)?.phase = Phase::Crashed;
         Ok(())
@@ -158,37 +181,38 @@ impl Poll {
 
     /// A process. ("Seats are read out as in sessions"; order: 3, 4.)
     pub fn read_process(&self, process: usize) -> Result<Voter, Refusal> {
-        self.check_sound_at(window(self.n))?;
+        self.check_sound()?;
         let seated = &self.voters[..self.n];
         seated.get(process).copied().ok_or(Refusal::NoProcess)
     }
 
-    /// 01, "Numbers returned", 3, at a window.
-    fn check_sound_at(&self, window: u32) -> Result<(), Refusal> {
-        if self.is_sound_at(window) {
-            Ok(())
-        } else {
-            Err(Refusal::Unsound)
-        }
+    /// 01, "Numbers returned", 3.
+    fn check_sound(&self) -> Result<(), Refusal> {
+        sound(self.is_sound())
     }
 
     /// Whether the poll is sound: "A sound poll keeps a session's rules and has L =
     /// W, a blank D, no spent or decided seat, gate only below round W, and answered
     /// seats at round W".
     pub fn is_sound(&self) -> bool {
-        self.is_sound_at(window(self.n))
+        self.is_sound_by(window)
     }
 
     /// Whether the poll is sound at a window. (02, wish 7.)
     pub fn is_sound_at(&self, window: u32) -> bool {
+        self.is_sound_by(|_| window)
+    }
+
+    /// With the window that `window` gives for an n of 1 to 64.
+    fn is_sound_by(&self, window: impl Fn(usize) -> u32) -> bool {
         let limit = self.limit as usize;
-        if check_opening(window, self.n, limit).is_err() || self.limit != window {
+        if check_opening(&window, self.n, limit).is_err() || self.limit != window(self.n) {
             return false;
         }
         let (seated, rest) = self.voters.split_at(self.n);
         self.registers.decision == 0
             && blank_past(&self.registers, limit)
-            && seated.iter().all(|voter| stands(voter, window))
+            && seated.iter().all(|voter| stands(voter, self.limit))
             && rest.iter().all(|voter| *voter == Voter::IDLE)
     }
 }

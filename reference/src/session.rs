@@ -27,15 +27,10 @@ const fn windows() -> [u32; MAX_PROCESSES + 1] {
     table
 }
 
-/// The window in service of n processes, n from 1 to 64. (01: W.) There is none of
-/// more, and 0 stands for it.
+/// The window in service of n processes, n from 1 to 64. (01: W.)
 #[inline]
 pub const fn window(n: usize) -> u32 {
-    if n <= MAX_PROCESSES {
-        WINDOWS[n]
-    } else {
-        0
-    }
+    WINDOWS[n]
 }
 
 /// One agreement. (01: a session.)
@@ -51,14 +46,25 @@ pub struct Session {
     pub processes: [Process; MAX_PROCESSES],
 }
 
-/// 01, "Numbers returned", opening: 1, then 2, at any window. (02, wish 7: "the
-/// window a parameter of the machine".)
+/// 01, "Numbers returned", opening: 1.
 #[inline]
-pub(crate) fn check_opening(window: u32, n: usize, limit: usize) -> Result<(), Refusal> {
+pub(crate) fn check_processes(n: usize) -> Result<(), Refusal> {
     if n == 0 || n > MAX_PROCESSES {
         return Err(Refusal::Processes);
     }
-    if limit < window as usize || limit > MAX_ROUNDS {
+    Ok(())
+}
+
+/// 01, "Numbers returned", opening: 1, then 2, with the window that `window` gives for
+/// an n of 1 to 64. (02, wish 7: "the window a parameter of the machine".)
+#[inline]
+pub(crate) fn check_opening(
+    window: impl FnOnce(usize) -> u32,
+    n: usize,
+    limit: usize,
+) -> Result<(), Refusal> {
+    check_processes(n)?;
+    if limit < window(n) as usize || limit > MAX_ROUNDS {
         return Err(Refusal::Limit);
     }
     Ok(())
@@ -68,14 +74,15 @@ impl Session {
     /// Opens a session. (01, order: 1, 2.)
     #[inline]
     pub fn open(n: usize, limit: usize) -> Result<Session, Refusal> {
-        Session::open_at(window(n), n, limit)
+        check_opening(window, n, limit)?;
+        Ok(Session::blank(n, limit as u32))
     }
 
     /// Opens a session at a window, which the session does not keep: each operation is
     /// told it again. (02, wish 7; order: 1, 2.)
     #[inline]
     pub fn open_at(window: u32, n: usize, limit: usize) -> Result<Session, Refusal> {
-        check_opening(window, n, limit)?;
+        check_opening(|_| window, n, limit)?;
         Ok(Session::blank(n, limit as u32))
     }
 
@@ -103,7 +110,8 @@ impl Session {
         leader: bool,
         counts: &mut Counts,
     ) -> Result<(), Refusal> {
-        self.step_at(window(self.n), process, leader, counts)
+        self.check_sound()?;
+        self.step_trusted(window, process, leader, counts, |_| {})
     }
 
     /// One step at a window. (02, wish 7; order: 3, 4, 7, 8, 9, 16.)

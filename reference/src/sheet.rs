@@ -93,7 +93,7 @@ impl<'a> Sheet<'a> {
         };
         let n = usize::from(n);
         let limit = usize::from(u16::from_le_bytes([limit_low, limit_high]));
-        check_opening(window(n), n, limit)?;
+        check_opening(window, n, limit)?;
         let sheet = Sheet {
             bytes,
             pairs,

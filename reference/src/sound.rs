@@ -9,33 +9,45 @@ use crate::session::{check_opening, window, Session};
 impl Session {
     /// 01, "Numbers returned", 3.
     pub(crate) fn check_sound(&self) -> Result<(), Refusal> {
-        self.check_sound_at(window(self.n))
+        sound(self.is_sound())
     }
 
     /// The same at any window. (02, wish 7.)
     pub(crate) fn check_sound_at(&self, window: u32) -> Result<(), Refusal> {
-        if self.is_sound_at(window) {
-            Ok(())
-        } else {
-            Err(Refusal::Unsound)
-        }
+        sound(self.is_sound_at(window))
     }
 
     /// Whether the session is sound.
     pub fn is_sound(&self) -> bool {
-        self.is_sound_at(window(self.n))
+        self.is_sound_by(window)
     }
 
     /// Whether the session is sound at a window. (02, wish 7.)
     pub fn is_sound_at(&self, window: u32) -> bool {
-        if check_opening(window, self.n, self.limit as usize).is_err() {
+        self.is_sound_by(|_| window)
+    }
+
+    /// With the window that `window` gives for an n of 1 to 64.
+    #[inline]
+    fn is_sound_by(&self, window: impl Fn(usize) -> u32) -> bool {
+        if check_opening(&window, self.n, self.limit as usize).is_err() {
             return false;
         }
-        let limit = self.limit;
+        let (limit, window) = (self.limit, window(self.n));
         let (seated, rest) = self.processes.split_at(self.n);
         blank_past(&self.registers, limit as usize)
             && seated.iter().all(|process| record(process, limit, window))
             && rest.iter().all(|process| *process == Process::IDLE)
+    }
+}
+
+/// Sound, or 3.
+#[inline]
+pub(crate) fn sound(is_sound: bool) -> Result<(), Refusal> {
+    if is_sound {
+        Ok(())
+    } else {
+        Err(Refusal::Unsound)
     }
 }
 

@@ -15,7 +15,7 @@ pub fn write(
     runs: &[usize],
     output: &mut [u8],
 ) -> Result<usize, Refusal> {
-    check_opening(window(n), n, limit)?;
+    check_opening(window, n, limit)?;
     if entries.len() % ENTRY != 0 {
         return Err(Refusal::RunLength);
     }

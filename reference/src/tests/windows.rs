@@ -26,7 +26,7 @@ fn openings() {
 
 #[test]
 fn openings_in_service_are_at_its_window() {
-    for n in 0..=66 {
+    for n in 1..=64 {
         for limit in [0, 2, 3, 5, 6, 16, 17, 256, 257] {
             let at = Session::open_at(window(n), n, limit);
             assert_eq!(Session::open(n, limit), at);
