@@ -1,5 +1,5 @@
 -- Two writes of one process.
-use Rattle.base.specs.Prelude.{ℕ, _≤_, arith, _≡_, List, _∷_, inl, inr}
+use Rattle.base.specs.Prelude.{ℕ, _+_, _-_, _/_, _%_, _≤_, _<_, arith, mod-lt, div-add-mod', _≡_, List, _∷_, inl, inr}
 use Rattle.model_rule.specs.Event.{Event, write, Past}
 use Rattle.theory_past.specs.Epoch.{Wrote}
 use Rattle.theory_past.specs.Lawful.{Lawful, lawful-at}
@@ -24,3 +24,12 @@ same-write lawful a b low low′ =
       | inl older ↦ not-newer lawful a b older low′
       | inr older ↦ let same = not-newer lawful b a older low in (cc, cc, cc)
     ]
+
+-- A grid with s rows, the registers down from m, and the epochs up from m for its columns: a process made the write at one place of it only.
+pub grid-once : {W n p w w′ : ℕ} {h : List Event} → Lawful W n h → (s m : ℕ) → 0 < s → s ≤ m → (t t′ : ℕ) →
+    Wrote p (m - t % s) w (m + t / s) h → Wrote p (m - t′ % s) w′ (m + t′ / s) h → t ≡ t′
+grid-once lawful s m some low t t′ a b =
+    let same = same-write lawful a b (omega arith) (omega arith) in
+    let row : t % s ≡ t′ % s = omega (arith, mod-lt t some, mod-lt t′ some) in
+    let column : t / s ≡ t′ / s = omega arith in
+    cc (div-add-mod' t s, div-add-mod' t′ s)

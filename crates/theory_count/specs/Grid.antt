@@ -1,11 +1,11 @@
 -- The count: two values at the register of a commit take more processes than there are below the threshold.
-use Rattle.base.specs.Prelude.{ℕ, suc, zero, max, _+_, _*_, _-_, _/_, _%_, _≤_, _<_, arith, ℕ-discrete, decLe, decLt, mod-lt, div-lt-iff-lt-mul, div-add-mod', _≡_, List}
+use Rattle.base.specs.Prelude.{ℕ, suc, zero, max, _+_, _*_, _-_, _/_, _%_, _≤_, _<_, arith, ℕ-discrete, decLe, decLt, mod-lt, div-lt-iff-lt-mul, _≡_, List}
 use Rattle.model_rule.specs.Event.{Event}
 use Rattle.model_rule.specs.Safe.{threshold}
 use Rattle.theory_past.specs.Epoch.{WrittenIn}
 use Rattle.theory_past.specs.Lawful.{lawful-at}
 use Rattle.theory_count.specs.Pigeon.{spare-hole}
-use Rattle.theory_count.specs.Apart.{same-write}
+use Rattle.theory_count.specs.Apart.{same-write, grid-once}
 use Rattle.theory_count.specs.Rivals.{Rivals, Cell, walked, cell}
 use Rattle.theory_count.specs.Sharp.{sharp}
 
@@ -31,11 +31,7 @@ module _
 
     -- A process made the write at one place of the grid only.
     mark-once : (t t′ p : ℕ) → Mark t p → Mark t′ p → t ≡ t′
-    mark-once t t′ p a b =
-        let same = same-write (rivals .lawful) (a .1) (b .1) (omega arith) (omega arith) in
-        let row : t % s ≡ t′ % s = omega (arith, window, mod-lt t some, mod-lt t′ some) in
-        let column : t / s ≡ t′ / s = omega arith in
-        cc (div-add-mod' t s, div-add-mod' t′ s)
+    mark-once t t′ p a b = grid-once (rivals .lawful) s m some (omega (arith, window)) t t′ (a .1) (b .1)
 
     -- The process that wrote v to register m in epoch m made no write of the grid.
     mark-other : (w : WrittenIn m v m h) (t : ℕ) → Mark t (w .0) → ⊥

@@ -1,11 +1,11 @@
 -- The sharp count: beside the writes of the grid, the processes that carry one of the two values to the register above it.
-use Rattle.base.specs.Prelude.{ℕ, suc, zero, _+_, _*_, _-_, _/_, _%_, _≤_, _<_, arith, ℕ-discrete, decLe, decLt, mod-lt, div-lt-iff-lt-mul, div-add-mod', _≡_, refl, sym, List, _⊎_, inl, inr}
+use Rattle.base.specs.Prelude.{ℕ, suc, zero, _+_, _*_, _-_, _/_, _%_, _≤_, _<_, arith, ℕ-discrete, decLe, decLt, mod-lt, div-lt-iff-lt-mul, _≡_, refl, sym, List, _⊎_, inl, inr}
 use Rattle.model_rule.specs.Event.{Event, Written}
 use Rattle.theory_past.specs.Epoch.{Wrote}
 use Rattle.theory_past.specs.Lawful.{lawful-at}
 use Rattle.theory_past.specs.Registers.{top-le}
 use Rattle.theory_count.specs.Pigeon.{holes}
-use Rattle.theory_count.specs.Apart.{same-write}
+use Rattle.theory_count.specs.Apart.{same-write, grid-once}
 use Rattle.theory_count.specs.Rivals.{Rivals, walked, cell}
 use Rattle.theory_count.specs.Carriers.{carried-twice, Low, closing, closing-wrote, Carries, carry-one}
 
@@ -70,11 +70,7 @@ module _
             ]
 
         once : (t t′ p : ℕ) → Place t p → Place t′ p → t ≡ t′
-        once t t′ p (inl a) (inl b) =
-            let same = same-write (rivals .lawful) (a .1 .1) (b .1 .1) (omega arith) (omega arith) in
-            let row : t % s ≡ t′ % s = omega (arith, window, mod-lt t some, mod-lt t′ some) in
-            let column : t / s ≡ t′ / s = omega arith in
-            cc (div-add-mod' t s, div-add-mod' t′ s)
+        once t t′ p (inl a) (inl b) = grid-once (rivals .lawful) s m some (omega (arith, window)) t t′ (a .1 .1) (b .1 .1)
         once t t′ p (inl a) (inr b) = absurd (a .1 .2 (b .1 .0) (b .1 .4))
         once t t′ p (inr a) (inl b) = absurd (b .1 .2 (a .1 .0) (a .1 .4))
         once t t′ p (inr a) (inr b) =
