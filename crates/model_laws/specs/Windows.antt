@@ -1,5 +1,5 @@
 -- The rounded-up root, and the window made of it.
-use Rattle.base.specs.Prelude.{ℕ, suc, zero, _+_, _*_, _≤_, arith, leb, leb-true}
+use Rattle.base.specs.Prelude.{ℕ, suc, zero, _+_, _*_, _≤_, arith, leb, leb-true, leb-false}
 use Rattle.base.specs.Bools.{cond-cases}
 use Rattle.base.specs.Squares.{le-square}
 use Rattle.model.specs.Window.{rootFrom, rootUp, window}
@@ -31,14 +31,20 @@ window-square n = omega (arith, root-square n)
 pub window-least : (n : ℕ) → 1 ≤ n → 2 ≤ window n
 window-least n some = wide-enough (window n) n some (window-square n)
 
--- The number found is at most the last number tried.
-root-from-low : (fuel m n : ℕ) → rootFrom fuel m n ≤ m + fuel
+-- The number found is at most m + k, if it is tried and its square is at least n.
+root-from-smallest : (fuel m k n : ℕ) → n ≤ (m + k) * (m + k) → rootFrom fuel m n ≤ m + k
 unfolding rootFrom
-root-from-low zero m n = omega arith
-root-from-low (suc fuel) m n =
-    cond-cases (λ k. k ≤ m + suc fuel) (leb n (m * m)) (λ t. omega arith) (λ t. omega (arith, root-from-low fuel (suc m) n))
+root-from-smallest zero m k n h = omega arith
+root-from-smallest (suc fuel) m zero n h = cond-cases (λ x. x ≤ m + 0) (leb n (m * m)) (λ t. omega arith) (λ t. absurd (omega (arith, leb-false n (m * m) t)))
+root-from-smallest (suc fuel) m (suc k) n h =
+    cond-cases (λ x. x ≤ m + suc k) (leb n (m * m)) (λ t. omega arith) (λ t. omega (arith, root-from-smallest fuel (suc m) k n (omega arith)))
+
+-- No smaller number than the rounded-up root of n has a square of at least n.
+pub root-smallest : (m n : ℕ) → n ≤ m * m → rootUp n ≤ m
+unfolding rootUp
+root-smallest m n h = omega (arith, root-from-smallest n 0 m n (omega arith))
 
 -- The window is at most twice the number of processes and one: no more than the rounds that a session holds.
 pub window-low : (n : ℕ) → window n ≤ 2 * n + 1
-unfolding window rootUp
-window-low n = omega (arith, root-from-low n 0 n)
+unfolding window
+window-low n = omega (arith, root-smallest n n (le-square n))
