@@ -27,7 +27,7 @@ const OPERATIONS: [&str; 11] = [
     "process_record",
     "decision",
     "standing_values",
-    "turn of a poll, L 7",
+    "turn of a poll, L 6",
 ];
 
 /// A session in which all processes but the last have proposed.
@@ -86,13 +86,13 @@ fn turned(count: u32) -> u32 {
     }
     let record = poll.voters[0];
     for i in 0..count {
-        poll.registers.values[(i % 7) as usize] = 1 + i % 8;
+        poll.registers.values[(i % 6) as usize] = 1 + i % 8;
         let mut counts = Counts::default();
         black_box(black_box(&mut poll).step(0, &mut counts).expect(ACCEPTED));
         black_box(counts);
         poll.voters[0] = record;
     }
-    poll.registers.values[(count % 7) as usize]
+    poll.registers.values[(count % 6) as usize]
 }
 
 /// The separate program's side: standard input to standard output.

@@ -17,7 +17,7 @@ instructions() { # the words of `bench count`
     valgrind --tool=callgrind --callgrind-out-file=/dev/null "$out/bench" count "$@" 2>&1 | sed -n 's/.*Collected : //p'
 }
 entries=10921
-for size in "8 256" "1 3" "8 256 waiting"; do
+for size in "8 256" "1 2" "8 256 waiting"; do
     for which in proved separate; do
         read -r n limit waiting <<<"$size"
         one=$(instructions "$which" "$n" "$limit" "$entries" 1 $waiting)

@@ -4,7 +4,7 @@
 usage: sheet.py [LIST [SHEET]]      standard input and standard output where left out, or where the name is -
 
     n 2                # seats
-    L 5                # the round limit
+    L 3                # the round limit
     propose 0 7        # SEAT VALUE
     work 0 yes         # SEAT HINT, yes or no
     look 0             # SEAT

@@ -43,8 +43,8 @@
 #include <stdint.h>
 
 #define JANUS_VERSION_MAJOR 1
-#define JANUS_VERSION_MINOR 2
-#define JANUS_VERSION "1.2"
+#define JANUS_VERSION_MINOR 3
+#define JANUS_VERSION "1.3"
 
 #define JANUS_SEATS_MAX 64
 #define JANUS_ROUNDS_MAX 256
@@ -200,12 +200,16 @@ static inline const char *janus_result_text(uint32_t number)
  *   To get a decision, give one seat work turns with hint yes, and the others none, until that seat has committed; then let every
  *   seat look. A seat that works alone from an empty board commits with this work turn, whatever L is:
  *
- *   seats n          1    2-4    5-9  10-16  17-25  26-36  37-49  50-64
- *   window W         3      5      7      9     11     13     15     17
- *   work turns      19     36     57     82    111    144    181    222
+ *   seats n          1      2    3-4    5-6    7-9  10-12  13-16  17-20  21-25  26-30  31-36  37-42  43-49  50-56  57-64
+ *   window W         2      3      4      5      6      7      8      9     10     11     12     13     14     15     16
+ *   work turns      12     19     27     36     46     57     69     82     96    111    127    144    162    181    201
  *
- *   These are W rounds with a read, a write and 1, 2, .. W comparisons, then two checks for each of the W rounds, then the commit:
- *   W (W + 9) / 2 + 1. In examples/run_sheet.c n is 2, so W is 5 and the turns are 36.
+ *   W is the smallest whole number with W times W at least 4n (up to version 1.2: 2 times the root of n, rounded up, plus 1). No
+ *   window has grown, so an L that was large enough still is. In the same sheet a seat may commit earlier and so be decided by an
+ *   earlier look, and its turns after that are refused with 8.
+ *
+ *   The turns are W rounds with a read, a write and 1, 2, .. W comparisons, then two checks for each of the W rounds, then the
+ *   commit: W (W + 9) / 2 + 1. In examples/run_sheet.c n is 2, so W is 3 and the turns are 19.
  *
  *   On a board in use, with h as its highest filled round, a seat that works alone commits in round h + W or before, within
  *   (W + 2) (4W + 4) + h work turns, if L is h + W or more. So L = W is enough for a seat that is alone from the start, and every
@@ -221,13 +225,14 @@ static inline const char *janus_result_text(uint32_t number)
  */
 static inline unsigned janus_window(unsigned seats)
 {
-    unsigned root = 1, square = 1, odd = 3; /* 1 + 3 + 5 + ..: the sum of the first m odd numbers is m times m */
-    while (root < 8 && square < seats) {
+    const unsigned once = seats < JANUS_SEATS_MAX ? seats : JANUS_SEATS_MAX, twice = once + once, end = twice + twice;
+    unsigned root = 0, square = 0, odd = 1; /* 1 + 3 + 5 + ..: the sum of the first m odd numbers is m times m */
+    while (square < end) {
         square += odd;
         odd += 2;
         root++;
     }
-    return root + root + 1;
+    return root;
 }
 
 /* The work turns that a seat alone takes from an empty board to its commit. */

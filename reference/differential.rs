@@ -26,7 +26,8 @@ use std::process::{Command, ExitCode, Stdio};
 use std::time::{Duration, Instant};
 
 use harness::{
-    ends, raw, same_bytes, size, Comparison, Entry, Random, Reached, GUARD, MOST_ENTRIES,
+    ends, least_limit, raw, same_bytes, shorter, size, ByN, Comparison, Entry, Random, Reached,
+    GUARD, MOST_ENTRIES, ONE_SEAT,
 };
 use janus_reference::runner::BUFFER;
 use janus_reference::sheet::MAX_BYTES;
@@ -369,7 +370,8 @@ fn composed(random: &mut Random, most: usize) -> Vec<u8> {
 
 /// A sheet of few entries, many of them refused.
 fn short(random: &mut Random) -> Vec<u8> {
-    let (n, limit) = (random.between(1, 3), 5 + random.below(3));
+    let n = random.between(1, 3);
+    let limit = window(n) as usize + random.below(3);
     let mut composer = Composer::new(random, n, limit);
     if !composer.random.once_in(3) {
         composer.proposals();
@@ -424,7 +426,7 @@ fn noise(random: &mut Random) -> Vec<u8> {
     let likely = [
         random.between(1, 4) as u8,
         random.below(18) as u8,
-        random.between(3, 12) as u8,
+        random.between(2, 12) as u8,
         0,
     ];
     for (byte, likely) in sheet.iter_mut().zip(likely) {
@@ -604,6 +606,12 @@ events! {
     LookBlank: "look, D blank",
     LookSame: "look, D has the own value",
     LookOther: "look, D has another value",
+    Shorter: "opened, L below 01's window" at least 10_000,
+    ShorterCommit: "commit, L below 01's window" at least 5_000,
+    ShorterLook: "look, D filled, L below 01's window" at least 5_000,
+    OneSeat: "opened, n = 1, L = 2" at least 1_000,
+    OneSeatCommit: "commit, n = 1, L = 2" at least 100,
+    OneSeatLook: "look, D filled, n = 1, L = 2" at least 100,
     NoSeats: "1: no seats",
     ManySeats: "1: over 64 seats",
     OneFirst: "1 where 2 would follow",
@@ -709,11 +717,19 @@ struct AtStance {
 struct Coverage {
     reached: Reached,
     stances: [AtStance; STANCES.len()],
-    /// By n: commits, sheets with L = W, and refusals of L = W - 1.
-    commits: [u64; 65],
-    least: [u64; 65],
-    below: [u64; 65],
+    commits: ByN,
+    least: ByN,
+    below: ByN,
+    shorter: Shorter,
     entries: u64,
+}
+
+/// Sheets with an L from W up to below 01's window, refused with 2 before 02, wish 8:
+/// opened, run on to a commit, and to a look that decides.
+struct Shorter {
+    opened: ByN,
+    commits: ByN,
+    looks: ByN,
 }
 
 impl Coverage {
@@ -721,9 +737,14 @@ impl Coverage {
         Coverage {
             reached: Reached::none_of(EVENTS),
             stances: [AtStance::default(); STANCES.len()],
-            commits: [0; 65],
-            least: [0; 65],
-            below: [0; 65],
+            commits: ByN::none_of("a commit"),
+            least: ByN::none_of("L = W opened"),
+            below: ByN::none_of("L = W - 1 refused"),
+            shorter: Shorter {
+                opened: ByN::none_of("L below 01's window opened"),
+                commits: ByN::none_of("L below 01's window and a commit"),
+                looks: ByN::none_of("L below 01's window and a decision"),
+            },
             entries: 0,
         }
     }
@@ -753,8 +774,7 @@ impl Coverage {
             seen: [0; 64],
             spent_by_no: [false; 64],
         };
-        let least = observer.session.limit == window(observer.session.n);
-        self.least[observer.session.n] += u64::from(least);
+        self.opened(&observer.session);
         let (mut done, total) = (0, sheet.entries().count() as u64);
         for entry in sheet.entries() {
             if done == budget {
@@ -775,6 +795,40 @@ impl Coverage {
             self.note_if(done == 0, Event::FinishedEmpty);
         }
         self.left(observer)
+    }
+
+    /// Notes the size of a session that a sheet opened.
+    fn opened(&mut self, session: &Session) {
+        let (n, limit) = (session.n, session.limit as usize);
+        self.least.note_if(limit == least_limit(n), n);
+        self.sized(session, |s| &mut s.opened, [Event::Shorter, Event::OneSeat]);
+    }
+
+    /// Notes a commit.
+    fn committed(&mut self, session: &Session) {
+        self.commits.note(session.n);
+        let events = [Event::ShorterCommit, Event::OneSeatCommit];
+        self.sized(session, |s| &mut s.commits, events);
+    }
+
+    /// Notes a look that decides.
+    fn decided(&mut self, session: &Session) {
+        let events = [Event::ShorterLook, Event::OneSeatLook];
+        self.sized(session, |s| &mut s.looks, events);
+    }
+
+    /// Notes what was reached with an L below 01's window, and with one seat and L = 2.
+    fn sized(
+        &mut self,
+        session: &Session,
+        by_n: fn(&mut Shorter) -> &mut ByN,
+        [below, one]: [Event; 2],
+    ) {
+        let (n, limit) = (session.n, session.limit as usize);
+        let shorter = shorter(n, limit);
+        by_n(&mut self.shorter).note_if(shorter, n);
+        self.note_if(shorter, below);
+        self.note_if((n, limit) == ONE_SEAT, one);
     }
 
     /// Notes how a run left its session. Contested must be the number of marked
@@ -807,8 +861,9 @@ impl Coverage {
                     0 => Event::NoSeats,
                     _ => Event::ManySeats,
                 });
-                let limit = u16::from_le_bytes([sheet[2], sheet[3]]);
-                self.note_if(limit < 3 || limit > 256, Event::OneFirst);
+                // Below the least L of any n, or too high.
+                let limit = usize::from(u16::from_le_bytes([sheet[2], sheet[3]]));
+                self.note_if(limit < least_limit(1) || limit > 256, Event::OneFirst);
             }
             Refusal::Limit => self.two(sheet),
             Refusal::Pairs => self.eleven(sheet),
@@ -832,13 +887,13 @@ impl Coverage {
 
     fn two(&mut self, sheet: &[u8]) {
         let n = usize::from(sheet[0]);
-        let limit = u32::from(u16::from_le_bytes([sheet[2], sheet[3]]));
-        self.note(if limit < window(n) {
+        let limit = usize::from(u16::from_le_bytes([sheet[2], sheet[3]]));
+        self.note(if limit < least_limit(n) {
             Event::LimitLow
         } else {
             Event::LimitHigh
         });
-        self.below[n] += u64::from(limit + 1 == window(n));
+        self.below.note_if(limit + 1 == least_limit(n), n);
         let mut opened = sheet.to_vec();
         opened[2..4].copy_from_slice(&256u16.to_le_bytes());
         let next = Sheet::read(&opened).err();
@@ -945,19 +1000,12 @@ impl Observer {
             self.later(operation, refusal, coverage);
             return false;
         }
-        if let Some(Access::Marked(round)) = access {
-            self.flags.push((round, number));
-        }
         let after = self.session.processes[number];
         let at = &mut coverage.stances[stance(before.phase)];
         match operation {
             Operation::Propose { .. } => coverage.note(Event::Proposed),
             Operation::Crash { .. } => at.crashes += 1,
-            Operation::Learn { .. } => {
-                look(before, after, coverage);
-                let spent = before.phase == Phase::Exhausted;
-                coverage.note_if(spent && self.spent_by_no[number], Event::SpentLook);
-            }
+            Operation::Learn { .. } => self.look(number, before, after, coverage),
             Operation::Step { leader, .. } => {
                 at.works += 1;
                 let event = match self.step(number, before, after, access, overwritten) {
@@ -970,6 +1018,24 @@ impl Observer {
             }
         }
         true
+    }
+
+    /// Notes a look.
+    fn look(&self, number: usize, before: Process, after: Process, coverage: &mut Coverage) {
+        let spent = before.phase == Phase::Exhausted;
+        coverage.note_if(spent && self.spent_by_no[number], Event::SpentLook);
+        let at = &mut coverage.stances[stance(before.phase)];
+        if after.phase != Phase::Decided {
+            at.blank += 1;
+            return coverage.note(Event::LookBlank);
+        }
+        at.filled += 1;
+        coverage.note(if before.estimate == after.estimate {
+            Event::LookSame
+        } else {
+            Event::LookOther
+        });
+        coverage.decided(&self.session);
     }
 
     /// Notes a 9 after the process was spent by a turn with hint no.
@@ -1035,8 +1101,9 @@ impl Observer {
             (Phase::Waiting | Phase::Scan(_), Some(Access::ValueRead(_, value))) if value != 0 => {
                 self.seen[number] = value;
             }
+            (_, Some(Access::Marked(round))) => self.flags.push((round, number)),
             (Phase::Adopt(_), _) => coverage.note_if(after.round > before.round, Event::TakeAhead),
-            (Phase::Commit, _) => coverage.commits[self.session.n] += 1,
+            (Phase::Commit, _) => coverage.committed(&self.session),
             _ => {}
         }
     }
@@ -1068,20 +1135,6 @@ fn later_step(before: Process, after: Process, overwritten: u32) -> Event {
     }
 }
 
-fn look(before: Process, after: Process, coverage: &mut Coverage) {
-    let at = &mut coverage.stances[stance(before.phase)];
-    if after.phase != Phase::Decided {
-        at.blank += 1;
-        return coverage.note(Event::LookBlank);
-    }
-    at.filled += 1;
-    coverage.note(if before.estimate == after.estimate {
-        Event::LookSame
-    } else {
-        Event::LookOther
-    });
-}
-
 // ---------------------------------------------------------------- the table
 
 impl Coverage {
@@ -1089,16 +1142,20 @@ impl Coverage {
     fn print(&self) -> Vec<String> {
         let mut missing = self.reached.print();
         self.print_stances(&mut missing);
-        for (name, by_n) in [
-            ("a commit", &self.commits),
-            ("L = W opened", &self.least),
-            ("L = W - 1 refused", &self.below),
+        let Shorter {
+            opened,
+            commits,
+            looks,
+        } = &self.shorter;
+        for by_n in [
+            &self.commits,
+            &self.least,
+            &self.below,
+            opened,
+            commits,
+            looks,
         ] {
-            let reached = by_n[1..].iter().filter(|times| **times > 0).count();
-            println!("n with {name}: {reached} of 64");
-            if reached < 64 {
-                missing.push(format!("{name} for every n"));
-            }
+            by_n.print(&mut missing);
         }
         missing
     }

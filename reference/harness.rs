@@ -8,6 +8,7 @@ use std::sync::mpsc::{channel, Receiver, RecvTimeoutError};
 use std::time::{Duration, SystemTime, UNIX_EPOCH};
 
 pub use janus_reference::random::Random;
+use janus_reference::session::MAX_PROCESSES;
 use janus_reference::window;
 
 // ---------------------------------------------------------------- parts of sheets
@@ -38,6 +39,27 @@ pub fn size(random: &mut Random) -> (usize, usize) {
     };
     (n, limit)
 }
+
+/// The smallest number whose square is at least that.
+fn root_up(square: usize) -> usize {
+    let root = (1..).find(|root| root * root >= square);
+    root.expect("squares grow")
+}
+
+/// The least L of n processes in the words of 02, wish 8, by which coverage is counted:
+/// "the smallest whole number with W times W at least 4n".
+pub fn least_limit(n: usize) -> usize {
+    root_up(4 * n)
+}
+
+/// Whether L is below 01's window, "2 times (the root of n, rounded up to a whole
+/// number) + 1": before 02, wish 8, it was refused with 2.
+pub fn shorter(n: usize, limit: usize) -> bool {
+    limit < 2 * root_up(n) + 1
+}
+
+/// n and L in the paper case of one seat. (02, wish 8.)
+pub const ONE_SEAT: (usize, usize) = (1, 2);
 
 /// Where so many runs of the entries end: anywhere but for the last one.
 pub fn ends(random: &mut Random, entries: usize, runs: usize) -> Vec<usize> {
@@ -97,6 +119,41 @@ impl Reached {
             }
         }
         missing
+    }
+}
+
+/// How often something was reached with each number of processes.
+pub struct ByN {
+    name: &'static str,
+    times: [u64; MAX_PROCESSES + 1],
+}
+
+impl ByN {
+    pub fn none_of(name: &'static str) -> ByN {
+        let times = [0; MAX_PROCESSES + 1];
+        ByN { name, times }
+    }
+
+    pub fn note(&mut self, n: usize) {
+        self.times[n] += 1;
+    }
+
+    pub fn note_if(&mut self, happened: bool, n: usize) {
+        if happened {
+            self.note(n);
+        }
+    }
+
+    /// Prints for how many n it was reached, and how often for the n with the fewest
+    /// times; each n from 1 to 64 is expected, or it is missing.
+    pub fn print(&self, missing: &mut Vec<String>) {
+        let (name, times) = (self.name, &self.times[1..]);
+        let reached = times.iter().filter(|times| **times > 0).count();
+        let fewest = times.iter().min().expect("an n of 1 or more");
+        println!("n with {name}: {reached} of {MAX_PROCESSES}, each {fewest} times or more");
+        if reached < MAX_PROCESSES {
+            missing.push(format!("{name} for every n"));
+        }
     }
 }
 

@@ -28,7 +28,7 @@ use std::process::{Child, Command, ExitCode, Stdio};
 use std::sync::mpsc::{channel, Receiver};
 use std::time::{Duration, Instant};
 
-use harness::{raw, Entry, Reached};
+use harness::{raw, shorter, ByN, Entry, Reached, ONE_SEAT};
 use janus_reference::random::Random;
 use janus_reference::{
     poll_bytes, polls, window, Answer, Call, Counts, Phase, Poll, Process, Refusal, Voter,
@@ -147,9 +147,9 @@ fn composed(random: &mut Random) -> (u8, Vec<Entry>) {
 fn seats(random: &mut Random) -> usize {
     match random.below(64) {
         0..=3 => 1,
-        4..=41 => random.between(2, 4),
-        42..=58 => random.between(5, 8),
-        59..=62 => random.between(9, 63),
+        4..=36 => random.between(2, 4),
+        37..=50 => random.between(5, 8),
+        51..=62 => random.between(9, 63),
         _ => 64,
     }
 }
@@ -419,6 +419,9 @@ events! {
     CommittedOther: "committed, another seat's proposal" at least 500,
     AdoptedOwn: "adopted, the own proposal" at least 1_000,
     AdoptedOther: "adopted, another seat's proposal" at least 500,
+    CommittedShorter: "committed in a round below 01's window" at least 2_000,
+    AdoptedShorter: "adopted in a round below 01's window" at least 1_000,
+    CommittedOneSeat: "committed, n = 1, in round 2" at least 50,
     CrashGate: "crash at gate" at least 100,
     CrashPut: "crash at put" at least 50,
     CrashSeek: "crash at seek" at least 50,
@@ -473,6 +476,7 @@ impl Longest {
 
 struct Coverage {
     reached: Reached,
+    answers: ByN,
     longest: Longest,
     calls: u64,
 }
@@ -481,6 +485,7 @@ impl Coverage {
     fn new() -> Coverage {
         Coverage {
             reached: Reached::none_of(EVENTS),
+            answers: ByN::none_of("an answer"),
             longest: Longest {
                 turns: 0,
                 bound: 1,
@@ -525,7 +530,8 @@ impl Coverage {
     }
 
     fn print(&self) -> Vec<String> {
-        let missing = self.reached.print();
+        let mut missing = self.reached.print();
+        self.answers.print(&mut missing);
         let Longest { turns, bound, n } = self.longest;
         let ratio = self.longest.ratio();
         println!("most turns before an answer: {turns} of {bound} (n {n}), ratio {ratio:.3}");
@@ -614,6 +620,7 @@ impl Observer {
             (Answer::Adopted(_), false) => Event::AdoptedOther,
         });
         self.answers.push((number, answer));
+        self.answer_round(number, coverage);
         let longest = Longest {
             turns: self.turns[number],
             bound: bound(self.poll.n),
@@ -627,6 +634,20 @@ impl Observer {
         } else {
             Err(format!("seat {number} {answer}, which none proposed"))
         }
+    }
+
+    /// Notes the round of an answer: by 02, wish 8, it is below 01's window.
+    fn answer_round(&self, number: usize, coverage: &mut Coverage) {
+        let Voter::Answered(answer, round) = self.poll.voters[number] else {
+            return;
+        };
+        let (n, round) = (self.poll.n, round as usize);
+        let (shorter, committed) = (shorter(n, round), matches!(answer, Answer::Committed(_)));
+        coverage.answers.note(n);
+        coverage.note_if(shorter && committed, Event::CommittedShorter);
+        coverage.note_if(shorter && !committed, Event::AdoptedShorter);
+        let one_seat = (n, round) == ONE_SEAT;
+        coverage.note_if(one_seat && committed, Event::CommittedOneSeat);
     }
 
     /// What the register holds that a process is about to use: T[r], T[k], T[r - i] or

@@ -32,7 +32,7 @@ use std::process::ExitCode;
 
 use janus_reference::random::Random;
 use janus_reference::session::MAX_PROCESSES;
-use janus_reference::{Answer, Counts, Operation, Phase, Poll, Refusal, Session};
+use janus_reference::{window, Answer, Counts, Operation, Phase, Poll, Refusal, Session};
 
 /// What is found, or what is not as said.
 type Found<T> = Result<T, String>;
@@ -523,6 +523,16 @@ fn check_polls() -> Found<()> {
     Ok(())
 }
 
+/// The least window within the bound is the one in service. (02, wish 8.)
+fn check_service() -> Found<()> {
+    for n in 1..=MAX_PROCESSES {
+        same("in service", window(n) as usize, least_window(n))
+            .map_err(|wrong| format!("n {n}: {wrong}"))?;
+    }
+    println!("in service, n from 1 to {MAX_PROCESSES}: the least W within the bound");
+    Ok(())
+}
+
 /// Whether the least window within the bound can be one less: not where the list for
 /// that one finds the processes it needs, the others staying out.
 fn check_least() -> Found<()> {
@@ -677,6 +687,7 @@ fn check() -> Found<()> {
     check_construction()?;
     check_searched()?;
     check_polls()?;
+    check_service()?;
     check_least()?;
     check_controls()
 }

@@ -1,7 +1,7 @@
-//! Compares every window of the library with the reference's. (01, "The board and
-//! the seats"; 02, wish 4.) The function by itself, `window_alone`, for n from 1 to
-//! 64; and, in service, the answer to each sheet of a header alone, for every n that
-//! a byte can hold and L from 0 to 300: 1, or 2 below the window, or 0.
+//! Compares every window of the library with the reference's. (01, "The board and the
+//! seats"; 02, wishes 4 and 8.) The function by itself, `window_alone`, for n from 1 to
+//! 64; and, in service, the answer to each sheet of a header alone, for every n that a
+//! byte can hold and L from 0 to 300: 1, or 2 below the window, or 0.
 //!
 //! It ends with 1 after telling the first difference.
 

@@ -20,7 +20,8 @@ mod library;
 use std::process::ExitCode;
 
 use harness::{
-    ends, raw, same_bytes, size, Comparison, Entry, Random, Reached, GUARD, MOST_ENTRIES,
+    ends, least_limit, raw, same_bytes, shorter, size, ByN, Comparison, Entry, Random, Reached,
+    GUARD, MOST_ENTRIES, ONE_SEAT,
 };
 use janus_reference::runner::BUFFER;
 use janus_reference::sheet::{ENTRY, MAX_BYTES};
@@ -86,9 +87,23 @@ fn some_entry(random: &mut Random, process: usize) -> Entry {
     }
 }
 
+/// One process alone, so many entries: it proposes, then works and looks by turns, and so
+/// is decided right after its commit.
+fn alone(count: usize) -> Vec<u8> {
+    let entry = |place| match place {
+        0 => raw(0, 0, 7),
+        _ if place % 2 == 1 => raw(1, 0, 1),
+        _ => raw(2, 0, 0),
+    };
+    (0..count).flat_map(entry).collect()
+}
+
 /// So many well-formed entries. Mostly all propose first, so that many sheets are
 /// not refused at once when they are run, and now and then one works alone.
 fn some_entries(random: &mut Random, n: usize, count: usize) -> Vec<u8> {
+    if random.once_in(10) {
+        return alone(count);
+    }
     let proposals = if random.once_in(5) { 0 } else { n };
     let turns = if random.once_in(3) { 1 } else { n };
     let entry = |place| {
@@ -114,6 +129,13 @@ fn malformed(random: &mut Random) -> Entry {
     }
 }
 
+/// Any n, with the least L or one less.
+fn border(random: &mut Random) -> (usize, usize) {
+    let n = random.between(1, 64);
+    let least = window(n) as usize;
+    (n, random.pick(&[least - 1, least]))
+}
+
 /// One of the wrong numbers, or one that is right but for an upper bit.
 fn wrong_number(random: &mut Random, right: usize, bits: &[u32], wrong: &[usize]) -> usize {
     match random.below(3) {
@@ -124,7 +146,10 @@ fn wrong_number(random: &mut Random, right: usize, bits: &[u32], wrong: &[usize]
 
 impl Call {
     fn of(random: &mut Random) -> Call {
-        let (n, limit) = size(random);
+        let (n, limit) = match random.below(20) {
+            0 => border(random),
+            _ => size(random),
+        };
         let runs = some_runs(random);
         let entries = some_entries(random, n, runs.iter().sum());
         let room = 0;
@@ -226,7 +251,7 @@ impl Call {
         }
     }
 
-    /// The call without the fault that a refusal names.
+    /// The call without the fault that a refusal names, which is not 15.
     fn mended(&self, refusal: Refusal) -> Call {
         let mut call = self.clone();
         match refusal {
@@ -237,8 +262,7 @@ impl Call {
                 call.entries.truncate(ENTRY * MOST_ENTRIES);
                 call.runs = vec![call.entries.len() / ENTRY];
             }
-            Refusal::Entry => call.entries.fill(0),
-            _ => call.room = call.size(),
+            _ => call.entries.fill(0),
         }
         call
     }
@@ -317,11 +341,15 @@ events! {
     Largest: "written: 65,534 bytes, the most there are" at least 10,
     LargestOneRun: "written: 10,921 entries" at least 10,
     LeastLimit: "written: L = W" at least 100,
+    Shorter: "written: L below 01's window" at least 10_000,
+    OneSeat: "written: n = 1, L = 2" at least 1_000,
     MostLimit: "written: L = 256" at least 100,
     MostSeats: "written: 64 seats" at least 10,
     RunFinished: "run to its end" at least 1_000,
     RunRefused: "run to a refused entry" at least 1_000,
     RunDecided: "run to a decision" at least 100,
+    RunShorter: "run to a decision, L below 01's window" at least 200,
+    RunOneSeat: "run to a decision, n = 1, L = 2" at least 50,
 }
 
 /// The order of the refusals: which is told where the other would follow.
@@ -343,15 +371,26 @@ const ORDER: [(u32, u32, Event); 15] = [
     (13, 15, Event::ThirteenFifteen),
 ];
 
+/// What the calls reached.
+struct Coverage {
+    reached: Reached,
+    /// Sheets with L = W, refusals of L = W - 1, and sheets with an L from W up to below
+    /// 01's window, refused with 2 before 02, wish 8.
+    least: ByN,
+    below: ByN,
+    shorter: ByN,
+}
+
 /// Notes why a call was refused, and what would have been told next.
-fn note_refused(call: &Call, refusal: Refusal, reached: &mut Reached) {
+fn note_refused(call: &Call, refusal: Refusal, coverage: &mut Coverage) {
+    let Coverage { reached, below, .. } = coverage;
     match refusal {
         Refusal::Processes => reached.note(match call.n {
             0 => Event::NoSeats,
             n if n > 255 && (1..=64).contains(&(n as u8)) => Event::SeatsCut,
             _ => Event::ManySeats,
         }),
-        Refusal::Limit => note_limit(call, reached),
+        Refusal::Limit => note_limit(call, reached, below),
         Refusal::RunLength => reached.note(match call.entries.len() % ENTRY {
             1 => Event::Ragged1,
             5 => Event::Ragged5,
@@ -365,6 +404,10 @@ fn note_refused(call: &Call, refusal: Refusal, reached: &mut Reached) {
             _ => Event::Short,
         }),
     }
+    if refusal == Refusal::Buffer {
+        // The last to be tested.
+        return;
+    }
     let mended = call.mended(refusal);
     if let Err(next) = mended.write(&mut vec![0; mended.room]) {
         let codes = (refusal.code(), next.code());
@@ -373,15 +416,17 @@ fn note_refused(call: &Call, refusal: Refusal, reached: &mut Reached) {
     }
 }
 
-fn note_limit(call: &Call, reached: &mut Reached) {
-    let least = window(call.n) as usize;
+fn note_limit(call: &Call, reached: &mut Reached, below: &mut ByN) {
+    let least = least_limit(call.n);
     let cut = usize::from(call.limit as u16);
     reached.note(match call.limit {
         limit if limit < least => Event::LimitLow,
         limit if limit > 65_535 && (1..=256).contains(&cut) => Event::LimitCut,
         _ => Event::LimitHigh,
     });
-    reached.note_if(call.limit == least - 1, Event::LimitLast);
+    let last = call.limit == least - 1;
+    reached.note_if(last, Event::LimitLast);
+    below.note_if(last, call.n);
 }
 
 fn note_cuts(call: &Call, reached: &mut Reached) {
@@ -427,6 +472,20 @@ fn note_entry(call: &Call, reached: &mut Reached) {
     });
 }
 
+/// Notes n and L of a sheet that was written.
+fn note_size(call: &Call, coverage: &mut Coverage) {
+    let (n, limit) = (call.n, call.limit);
+    let (least, shorter) = (limit == least_limit(n), shorter(n, limit));
+    coverage.least.note_if(least, n);
+    coverage.shorter.note_if(shorter, n);
+    let reached = &mut coverage.reached;
+    reached.note_if(least, Event::LeastLimit);
+    reached.note_if(shorter, Event::Shorter);
+    reached.note_if((n, limit) == ONE_SEAT, Event::OneSeat);
+    reached.note_if(limit == 256, Event::MostLimit);
+    reached.note_if(n == 64, Event::MostSeats);
+}
+
 fn note_written(call: &Call, reached: &mut Reached) {
     let (runs, size) = (call.runs.as_slice(), call.size());
     let fit = if call.room == size {
@@ -449,9 +508,6 @@ fn note_written(call: &Call, reached: &mut Reached) {
     reached.note_if(runs.len() == MOST_RUNS, Event::SixteenRuns);
     reached.note_if(size == MAX_BYTES - 1, Event::Largest);
     reached.note_if(runs == [MOST_ENTRIES], Event::LargestOneRun);
-    reached.note_if(call.limit == window(call.n) as usize, Event::LeastLimit);
-    reached.note_if(call.limit == 256, Event::MostLimit);
-    reached.note_if(call.n == 64, Event::MostSeats);
 }
 
 // ---------------------------------------------------------------- the comparison
@@ -522,8 +578,8 @@ fn round_trip(call: &Call, sheet: &[u8], fill: u8) -> Result<(), String> {
     }
 }
 
-/// Both sides run a sheet.
-fn run_both(sheet: &[u8], fill: u8, reached: &mut Reached) -> Result<(), String> {
+/// Both sides run the sheet of a call.
+fn run_both(call: &Call, sheet: &[u8], fill: u8, reached: &mut Reached) -> Result<(), String> {
     let mut ours = [fill; GUARD + BUFFER + GUARD];
     let mut theirs = ours;
     let lent = GUARD..GUARD + BUFFER;
@@ -537,25 +593,30 @@ fn run_both(sheet: &[u8], fill: u8, reached: &mut Reached) -> Result<(), String>
         0 => Event::RunFinished,
         _ => Event::RunRefused,
     });
-    reached.note_if(ours[lent].iter().any(|byte| *byte != 0), Event::RunDecided);
+    let (n, limit) = (call.n, call.limit);
+    let decided = ours[lent].iter().any(|byte| *byte != 0);
+    reached.note_if(decided, Event::RunDecided);
+    reached.note_if(decided && shorter(n, limit), Event::RunShorter);
+    reached.note_if(decided && (n, limit) == ONE_SEAT, Event::RunOneSeat);
     Ok(())
 }
 
 /// Random calls of the writer.
 struct Writes {
-    reached: Reached,
+    coverage: Coverage,
     bytes: usize,
 }
 
 impl Writes {
     fn check(&mut self, call: &Call, fill: u8) -> Result<(), String> {
         match compare(call, fill)? {
-            Err(refusal) => note_refused(call, refusal, &mut self.reached),
+            Err(refusal) => note_refused(call, refusal, &mut self.coverage),
             Ok(sheet) => {
                 self.bytes += sheet.len();
-                note_written(call, &mut self.reached);
+                note_size(call, &mut self.coverage);
+                note_written(call, &mut self.coverage.reached);
                 round_trip(call, &sheet, fill)?;
-                run_both(&sheet, fill, &mut self.reached)?;
+                run_both(call, &sheet, fill, &mut self.coverage.reached)?;
             }
         }
         Ok(())
@@ -571,7 +632,12 @@ impl Comparison for Writes {
 
     fn new() -> Writes {
         Writes {
-            reached: Reached::none_of(EVENTS),
+            coverage: Coverage {
+                reached: Reached::none_of(EVENTS),
+                least: ByN::none_of("L = W written"),
+                below: ByN::none_of("L = W - 1 refused"),
+                shorter: ByN::none_of("L below 01's window written"),
+            },
             bytes: 0,
         }
     }
@@ -586,7 +652,16 @@ impl Comparison for Writes {
     }
 
     fn print(&self, _: u64) -> Vec<String> {
-        let missing = self.reached.print();
+        let Coverage {
+            reached,
+            least,
+            below,
+            shorter,
+        } = &self.coverage;
+        let mut missing = reached.print();
+        for by_n in [least, below, shorter] {
+            by_n.print(&mut missing);
+        }
         println!("{} bytes of sheets written", self.bytes);
         missing
     }

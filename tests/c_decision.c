@@ -52,6 +52,15 @@ static void windows(void)
         check(unled((uint8_t)n, w + 1, janus_turns_alone(n), 99) == JANUS_FINISHED, "L = W + 1, hint no", "waits");
     }
     check(janus_window(65) == janus_window(64) && janus_window(UINT32_MAX) == janus_window(64), "over 64 seats", "ends");
+    check(janus_window(1u << 30) == janus_window(64), "seats whose fourfold is 0 in 32 bits", "ends");
+}
+
+/* The windows that 02, wish 8, names. */
+static void named_windows(void)
+{
+    const unsigned named[][2] = {{1, 2}, {2, 3}, {4, 4}, {5, 5}, {9, 6}, {16, 8}, {64, 16}};
+    for (size_t i = 0; i < sizeof named / sizeof *named; i++)
+        check(janus_window(named[i][0]) == named[i][1], "the window of a number of seats", "is the wish's");
 }
 
 /* The rows of the table in janus.h: a column for each window. */
@@ -117,6 +126,7 @@ int main(void)
 {
     unsigned decisions = 0;
     windows();
+    named_windows();
     for (int i = 0; i < 500; i++)
         used_board();
     for (int i = 0; i < 2000; i++)

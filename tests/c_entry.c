@@ -17,12 +17,12 @@ static void start(uint8_t n, uint16_t limit)
     begin(n, limit);
 }
 
-/* One seat, three rounds: the seat commits 7 with its 19th turn and stands at the gate with no round left. */
+/* One seat, two rounds: the seat commits 7 with its 12th turn and stands at the gate with no round left. */
 static void start_solo(void)
 {
-    start(1, 3);
+    start(1, 2);
     add(JANUS_PROPOSE, 0, 7);
-    work(0, 19);
+    work(0, 12);
 }
 
 /* Runs the sheet; nothing beside the lent buffer may be written. */
@@ -64,22 +64,23 @@ static void opened(const char *what, uint8_t n, uint16_t limit, uint32_t code)
 /* The paper's unstarred cases, and the bounds of an opening. */
 static void openings(void)
 {
-    header(1, 0, 3, 0);
+    header(1, 0, 2, 0);
     unchanged("an empty sheet", JANUS_BAD_SHEET, LENGTH);
     opened("bytes 1, 0, 3, 0", 1, 3, JANUS_FINISHED);
+    opened("bytes 1, 0, 2, 0", 1, 2, JANUS_FINISHED);
     opened("L = 256", 1, JANUS_ROUNDS_MAX, JANUS_FINISHED);
     opened("L = 257", 1, JANUS_ROUNDS_MAX + 1, JANUS_BAD_ROUND_LIMIT);
-    opened("L below the window", 1, 2, JANUS_BAD_ROUND_LIMIT);
-    opened("64 seats, L = 16", 64, 16, JANUS_BAD_ROUND_LIMIT);
-    opened("64 seats, L = 17", 64, 17, JANUS_FINISHED);
-    opened("no seat", 0, 3, JANUS_BAD_SEAT_COUNT);
+    opened("L below the window", 1, 1, JANUS_BAD_ROUND_LIMIT);
+    opened("64 seats, L = 15", 64, 15, JANUS_BAD_ROUND_LIMIT);
+    opened("64 seats, L = 16", 64, 16, JANUS_FINISHED);
+    opened("no seat", 0, 2, JANUS_BAD_SEAT_COUNT);
     opened("65 seats", 65, JANUS_ROUNDS_MAX, JANUS_BAD_SEAT_COUNT);
 }
 
 /* The budget beside the entries: as many as it allows are tried, and no other. */
 static void budgets(void)
 {
-    start(1, 3);
+    start(1, 2);
     written("budget 0 and no entry", JANUS_FINISHED, 0);
     add(JANUS_PROPOSE, 0, 7);
     written("budget 0 and one entry", JANUS_BUDGET_ENDED, 0);
@@ -95,7 +96,7 @@ static void budgets(void)
 /* The most entries that a sheet has room for. */
 static void full_sheet(void)
 {
-    start(1, 3);
+    start(1, 2);
     add(JANUS_PROPOSE, 0, 7);
     for (unsigned i = 1; i < JANUS_ENTRIES_MAX; i++)
         add(JANUS_WORK, 0, JANUS_HINT_NO);
@@ -107,21 +108,21 @@ static void full_sheet(void)
 
 static void lengths(void)
 {
-    header(1, 0, 3, JANUS_SHEET_MIN - 1);
+    header(1, 0, 2, JANUS_SHEET_MIN - 1);
     unchanged("3 bytes", JANUS_BAD_SHEET, LENGTH);
-    header(1, 1, 3, HEADER - 1);
+    header(1, 1, 2, HEADER - 1);
     unchanged("too short for its pair", JANUS_BAD_SHEET, LENGTH);
-    header(1, JANUS_PAIRS_MAX + 1, 3, 4 + 4 * (JANUS_PAIRS_MAX + 1));
+    header(1, JANUS_PAIRS_MAX + 1, 2, 4 + 4 * (JANUS_PAIRS_MAX + 1));
     unchanged("17 pairs", JANUS_BAD_SHEET, LENGTH);
-    header(1, 0, 3, JANUS_SHEET_MAX + 1);
+    header(1, 0, 2, JANUS_SHEET_MAX + 1);
     unchanged("65,536 bytes", JANUS_BAD_SHEET, LENGTH);
-    header(1, 0, 3, JANUS_SHEET_MAX);
+    header(1, 0, 2, JANUS_SHEET_MAX);
     written("65,535 bytes", JANUS_FINISHED, ALL);
 }
 
 static void buffers(void)
 {
-    begin(1, 3);
+    begin(1, 2);
     unchanged("a buffer of 255 bytes", JANUS_BAD_BUFFER, LENGTH - 1);
     unchanged("a buffer of 257 bytes", JANUS_BAD_BUFFER, LENGTH + 1);
     unchanged("a buffer of no byte", JANUS_BAD_BUFFER, 0);
@@ -140,7 +141,7 @@ static void nulls(void)
 /* A sheet with two pairs, which end at byte 12; each entry is a proposal of 0. */
 static void pairs(uint16_t from, uint16_t size, uint16_t next, uint16_t next_size, size_t length)
 {
-    header(1, 2, 3, length);
+    header(1, 2, 2, length);
     put(4, from, 2);
     put(6, size, 2);
     put(8, next, 2);
@@ -181,7 +182,7 @@ static void order(void)
     unchanged("n, L, pairs, a run, an entry", JANUS_BAD_SEAT_COUNT, LENGTH);
     sheet[0] = 1;
     unchanged("L, pairs, a run, an entry", JANUS_BAD_ROUND_LIMIT, LENGTH);
-    sheet[2] = 3;
+    sheet[2] = 2;
     unchanged("pairs, a run, an entry", JANUS_BAD_PAIRS, LENGTH);
     put(8, 19, 2);
     sheet_length = 25;
@@ -201,7 +202,7 @@ static void refused(const char *what, uint32_t code, uint8_t kind, uint8_t seat,
 
 static void malformed(void)
 {
-    start(1, 3);
+    start(1, 2);
     refused("an unknown kind", JANUS_BAD_ENTRY, 4, 0, 0);
     refused("an unknown kind of a seat that is not there", JANUS_BAD_ENTRY, 4, 9, 0);
     refused("a hint of 2", JANUS_BAD_ENTRY, JANUS_WORK, 0, 2);
@@ -212,7 +213,7 @@ static void malformed(void)
 
 static void proposals(void)
 {
-    start(2, 5);
+    start(2, 3);
     refused("a proposal by seat n", JANUS_NO_SUCH_SEAT, JANUS_PROPOSE, 2, 7);
     refused("a proposal of 0 by seat n", JANUS_NO_SUCH_SEAT, JANUS_PROPOSE, 2, 0);
     refused("a work turn of seat n", JANUS_NO_SUCH_SEAT, JANUS_WORK, 2, JANUS_HINT_YES);
@@ -242,15 +243,15 @@ static void spent(uint32_t hint)
     refused("a work turn of a spent seat", JANUS_SEAT_SPENT, JANUS_WORK, 0, JANUS_HINT_YES);
     refused("a work turn of a spent seat, hint no", JANUS_SEAT_SPENT, JANUS_WORK, 0, JANUS_HINT_NO);
     add(JANUS_LOOK, 0, 0);
-    written("the look, one entry short", JANUS_BUDGET_ENDED, 21);
+    written("the look, one entry short", JANUS_BUDGET_ENDED, 14);
     decided[0] = 7;
-    written("the look of a spent seat", JANUS_FINISHED, 22);
+    written("the look of a spent seat", JANUS_FINISHED, 15);
 }
 
 static void walks(void)
 {
     start_solo();
-    written("19 turns and no look", JANUS_FINISHED, ALL);
+    written("12 turns and no look", JANUS_FINISHED, ALL);
     add(JANUS_CRASH, 0, 0);
     gone("a crashed seat");
     spent(JANUS_HINT_NO);
@@ -268,7 +269,7 @@ static void fresh_boards(void)
     decided[0] = 7;
     written("a decision", JANUS_FINISHED, ALL);
     written("the same sheet again", JANUS_FINISHED, ALL);
-    start(1, 3);
+    start(1, 2);
     add(JANUS_PROPOSE, 0, 8);
     add(JANUS_LOOK, 0, 0);
     written("a look at an empty board, after a decision", JANUS_FINISHED, ALL);

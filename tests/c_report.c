@@ -32,21 +32,22 @@ static void lines(const char *what, const char *expected)
     check(size > JANUS_BAD_BUFFER, what, "no text has a size of 15");
 }
 
-/* The sheet of the scope document: one seat decides, 21 entries. */
+/* The sheet of 02, wish 8: one seat decides, 14 entries, 92 bytes. */
 static void decision(void)
 {
-    begin(1, 3);
+    begin(1, 2);
     add(JANUS_PROPOSE, 0, 7);
-    work(0, 19);
+    work(0, 12);
     add(JANUS_LOOK, 0, 0);
-    lines("a decision", "outcome finished 21\ntally 16 4 0\nboard 3 7\nseat 0 decided 7\n");
+    check(sheet_length == 92, "a decision", "92 bytes");
+    lines("a decision", "outcome finished 14\ntally 10 3 0\nboard 2 7\nseat 0 decided 7\n");
 }
 
 static void refused_sheets(void)
 {
-    header(1, 0, 3, 0);
+    header(1, 0, 2, 0);
     lines("an empty sheet", "sheet refused 10\n");
-    header(65, 0, 3, 4);
+    header(65, 0, 2, 4);
     lines("65 seats", "sheet refused 1\n");
     check(janus_report(NULL, 0, text, JANUS_REPORT_LENGTH) == strlen("sheet refused 10\n"), "NULL, a sheet of no byte", "refused");
     check(janus_report(sheet, 4, NULL, 0) == JANUS_BAD_BUFFER, "NULL, a buffer of no byte", "refused");
@@ -55,7 +56,7 @@ static void refused_sheets(void)
 /* The number and the index, counted from 0, of the entry that stops the sheet. */
 static void refused_entries(void)
 {
-    begin(2, 5);
+    begin(2, 3);
     add(JANUS_PROPOSE, 0, 4294967295u);
     add(JANUS_PROPOSE, 0, 5);
     lines("a second proposal", "outcome refused 6 1\ntally 0 0 0\nboard 0 0\nseat 0 working 0 4294967295\nseat 1 out\n");
@@ -66,7 +67,7 @@ static void refused_entries(void)
 /* Both seats mark round 1, as in examples/flag_twice.txt: two register writes, one contested round. */
 static void marks(void)
 {
-    begin(2, 5);
+    begin(2, 3);
     add(JANUS_PROPOSE, 0, 3);
     add(JANUS_PROPOSE, 1, 8);
     work(0, 1);
@@ -88,28 +89,28 @@ static void marks(void)
 /* Every word that a seat can get. */
 static void standings(void)
 {
-    begin(5, 7);
+    begin(5, 5);
     for (uint8_t seat = 0; seat < 4; seat++)
         add(JANUS_PROPOSE, seat, 10u + seat);
     work(0, janus_turns_alone(5) + 1);
     work(1, 1);
     add(JANUS_CRASH, 2, 0);
     add(JANUS_LOOK, 3, 0);
-    lines("five seats", "outcome finished 65\ntally 51 8 0\nboard 7 10\n"
+    lines("five seats", "outcome finished 44\ntally 32 6 0\nboard 5 10\n"
                         "seat 0 spent 10\nseat 1 working 1 11\nseat 2 crashed\nseat 3 decided 10\nseat 4 out\n");
 }
 
 /* At the gate in round L a turn with hint no makes the seat spent: no register is touched, nothing is counted. */
 static void last_round(void)
 {
-    begin(1, 3);
+    begin(1, 2);
     add(JANUS_PROPOSE, 0, 7);
-    work(0, 19);
-    lines("the gate in round L", "outcome finished 20\ntally 15 4 0\nboard 3 7\nseat 0 working 3 7\n");
+    work(0, 12);
+    lines("the gate in round L", "outcome finished 13\ntally 9 3 0\nboard 2 7\nseat 0 working 2 7\n");
     add(JANUS_WORK, 0, JANUS_HINT_NO);
-    lines("hint no in round L", "outcome finished 21\ntally 15 4 0\nboard 3 7\nseat 0 spent 7\n");
+    lines("hint no in round L", "outcome finished 14\ntally 9 3 0\nboard 2 7\nseat 0 spent 7\n");
     add(JANUS_WORK, 0, JANUS_HINT_NO);
-    lines("a turn after it", "outcome refused 9 21\ntally 15 4 0\nboard 3 7\nseat 0 spent 7\n");
+    lines("a turn after it", "outcome refused 9 14\ntally 9 3 0\nboard 2 7\nseat 0 spent 7\n");
 }
 
 /* A long report: 64 seats with the largest numbers. JANUS_REPORT_LENGTH has room for it. */

@@ -143,9 +143,9 @@ static void written(const char *what)
 /* The bytes of two small sheets, by the numbers. */
 static void bytes(void)
 {
-    const uint8_t empty[] = {1, 0, 3, 0};
+    const uint8_t empty[] = {1, 0, 2, 0};
     const uint8_t two[] = {5, 2, 0, 1, 12, 0, 6, 0, 18, 0, 12, 0, 0, 4, 1, 2, 3, 4, 1, 3, 1, 0, 0, 0, 2, 9, 0, 0, 0, 0};
-    start(1, 3);
+    start(1, 2);
     written("no runs and no entries");
     check(sheet_length == sizeof empty && memcmp(sheet, empty, sizeof empty) == 0, "no runs and no entries", "4 bytes");
     start(5, 256);
@@ -160,7 +160,7 @@ static void bytes(void)
 
 static void cuts(void)
 {
-    start(2, 5);
+    start(2, 3);
     run(0);
     written("one run of no entry");
     run(3);
@@ -169,7 +169,7 @@ static void cuts(void)
     run(1);
     run(0);
     written("runs of no entry between others");
-    start(64, 17);
+    start(64, 16);
     for (int i = 0; i < JANUS_PAIRS_MAX; i++)
         run((size_t)i);
     written("16 runs");
@@ -191,7 +191,7 @@ static void largest(void)
     add_entries(1);
     runs[0]++;
     refused("10,922 entries in one run", JANUS_BAD_CUTS);
-    start(1, 3);
+    start(1, 2);
     add_entries(10919);
     cut(10917);
     cut(1);
@@ -201,7 +201,7 @@ static void largest(void)
     runs[2]++;
     check(JANUS_SHEET_SIZE(run_count, 10920) == JANUS_SHEET_MAX + 1, "10,920 entries in three runs", "65,536 bytes");
     refused("10,920 entries in three runs", JANUS_BAD_CUTS);
-    start(1, 3);
+    start(1, 2);
     add_entries(10911);
     for (int i = 1; i < JANUS_PAIRS_MAX; i++)
         cut(700);
@@ -215,7 +215,7 @@ static void largest(void)
 /* Three entries, cut into two runs. */
 static void sum(const char *what, size_t first, size_t second, uint32_t code)
 {
-    start(1, 3);
+    start(1, 2);
     add_entries(3);
     cut(first);
     cut(second);
@@ -239,11 +239,11 @@ static void sums(void)
     sum("bytes that are right in 64 bits", half + 2, 1, JANUS_BAD_CUTS);
     sum("right in 32 bits", ((size_t)1 << 32) + 2, 1, JANUS_BAD_CUTS);
     sum("bytes that are right in 16 bits", 32768 + 2, 1, JANUS_BAD_CUTS);
-    start(1, 3);
+    start(1, 2);
     cut(SIZE_MAX);
     cut(1);
     refused("a sum of 2^64 and no entry", JANUS_BAD_CUTS);
-    start(1, 3);
+    start(1, 2);
     add_entries(1);
     refused("an entry and no run", JANUS_BAD_CUTS);
 }
@@ -251,7 +251,7 @@ static void sums(void)
 static void sizes(void)
 {
     const size_t counts[] = {0, 65, 66, 256, 257, 65537, ((size_t)1 << 32) + 1, SIZE_MAX};
-    const size_t limits[] = {0, 4, 257, 512, 65536 + 5, ((size_t)1 << 32) + 5, SIZE_MAX};
+    const size_t limits[] = {0, 2, 257, 512, 65536 + 3, ((size_t)1 << 32) + 3, SIZE_MAX};
     for (size_t i = 0; i < sizeof counts / sizeof *counts; i++) {
         start(counts[i], 256);
         refused("seats", JANUS_BAD_SEAT_COUNT);
@@ -269,7 +269,7 @@ static void sizes(void)
         written("L = 256");
     }
     for (size_t length = 0; length < 3 * JANUS_ENTRY_LENGTH; length++) {
-        start(1, 3);
+        start(1, 2);
         add_entries(3);
         cut(length / JANUS_ENTRY_LENGTH);
         entries_length = length;
@@ -286,7 +286,7 @@ static void malformed(void)
         {4, 0}, {255, 0}, {JANUS_WORK, 2}, {JANUS_WORK, 256}, {JANUS_LOOK, 1}, {JANUS_CRASH, 1}, {JANUS_CRASH, 1u << 31}};
     for (size_t i = 0; i < sizeof wrong / sizeof *wrong; i++) {
         for (size_t place = 0; place < 5; place++) {
-            start(1, 3);
+            start(1, 2);
             run(2);
             run(3);
             const size_t length = entries_length;
@@ -296,7 +296,7 @@ static void malformed(void)
             refused("a malformed entry", JANUS_BAD_ENTRY);
         }
     }
-    start(1, 3);
+    start(1, 2);
     entry(JANUS_PROPOSE, 255, 0);
     entry(JANUS_PROPOSE, 0, UINT32_MAX);
     entry(JANUS_WORK, 64, JANUS_HINT_NO);
@@ -307,7 +307,7 @@ static void malformed(void)
 /* Everything is wrong at first. Each fault is mended when it has been named, and the next one is named. */
 static void order(void)
 {
-    start(0, 2);
+    start(0, 1);
     entry(9, 0, 0);
     entry(9, 0, 0);
     cut(3);
@@ -315,7 +315,7 @@ static void order(void)
     answers("every fault", 0, JANUS_BAD_SEAT_COUNT);
     seats = 1;
     answers("L, the length of the entries, cuts, an entry, the output", 0, JANUS_BAD_ROUND_LIMIT);
-    limit = 3;
+    limit = 2;
     answers("the length of the entries, cuts, an entry, the output", 0, JANUS_BAD_RUN);
     entries_length++;
     answers("cuts, an entry, the output", 0, JANUS_BAD_CUTS);

@@ -7,9 +7,10 @@
 A table stands between `<!-- NAME -->` and `<!-- end -->`. `rules`, `turns`, `refusals`, `counts`, `windows`, `poll-rules` and
 `poll-refusals` are made of paper_rules.py; `case NAME` has the turns of examples/NAME.sheet, played by those rules, and each of its
 lines must be the trace's; `form` is the same table with nothing in it; `poll NAME` has the turns of examples/NAME.poll, played by
-the rules of a poll. The text of each examples/NAME.poll as it is played, answers, counts, registers and seats, stands in
-examples/NAME.out and must be the separately written program's. In docs/walk.svg a box is an element with data-stance, an arrow one
-with data-from and data-to; boxes, arrows and their words must be those of the rules.
+the rules of a poll. What stands at `turns-alone` is written and held by turns.py, and here left alone. The text of each
+examples/NAME.poll as it is played, answers, counts, registers and seats, stands in examples/NAME.out and must be the separately
+written program's. In docs/walk.svg a box is an element with data-stance, an arrow one with data-from and data-to; boxes, arrows and
+their words must be those of the rules.
 """
 import re
 import sys
@@ -192,6 +193,8 @@ TABLES = {
     "poll-refusals": lambda: refusals_table(POLL),
     "poll": poll_table,
 }
+# What another program writes.
+ELSEWHERE = {"turns-alone"}
 
 
 # ---------------------------------------------------------------- the picture
@@ -242,7 +245,7 @@ def check_picture():
 def main():
     page = PAGE.read_text(encoding="utf-8")
     names = [name for _, name, _, _ in MARKED.findall(page)]
-    new = MARKED.sub(lambda m: m[1] + "\n" + made(m[2]) + "\n" + m[4], page)
+    new = MARKED.sub(lambda m: m[0] if m[2] in ELSEWHERE else m[1] + "\n" + made(m[2]) + "\n" + m[4], page)
     texts = {PAGE: new, **poll_outs()}
     if sys.argv[1:] == ["write"]:
         for path, text in texts.items():
@@ -251,15 +254,15 @@ def main():
         if not path.exists() or path.read_text(encoding="utf-8") != text:
             sys.exit(f"paper cases: {path.relative_to(ROOT)} differs from the rules or the trace; `tests/paper_cases.py write` writes it anew")
     kinds = [name.split()[0] for name in names]
-    missing = set(TABLES) - set(kinds)
+    missing = {*TABLES, *ELSEWHERE} - set(kinds)
     if missing:
         sys.exit(f"paper cases: the page lacks {', '.join(missing)}")
     for random in f"{LISTS:,} random lists", f"{POLLS:,} random polls":
         if random not in page:
             sys.exit(f"paper cases: the page does not speak of {random}")
-    cases, polls = kinds.count("case"), kinds.count("poll")
+    cases, polls, others = kinds.count("case"), kinds.count("poll"), sum(map(kinds.count, ELSEWHERE))
     print(f"paper cases: {cases} cases are the trace's, {polls} of a poll and {len(texts) - 1} polls' texts the program's, "
-          f"{len(kinds) - cases - polls} tables and {check_picture()} arrows the rules'")
+          f"{len(kinds) - cases - polls - others} tables and {check_picture()} arrows the rules'")
 
 
 if __name__ == "__main__":

@@ -101,13 +101,13 @@ COUNTS = [
 ]
 
 MOST_SEATS = 64
-WINDOW = "2 times the root of n, rounded up to a whole number, plus 1"
+# 02, wish 8. 01 had 2 times the root of n, rounded up to a whole number, plus 1.
+WINDOW = "the smallest whole number that, multiplied by itself, gives 4 times n or more"
 
 
 def window(n):
     """W for n seats, as WINDOW says it."""
-    root = next(root for root in range(n + 1) if root * root >= n)
-    return 2 * root + 1
+    return next(number for number in range(4 * n + 1) if number * number >= 4 * n)
 
 
 # ---------------------------------------------------------------- polls

@@ -1,7 +1,8 @@
 #!/usr/bin/env bash
 # The program use_poll beside the separately written one on random polls in close contention (02, wish 6): no difference may be found, the
 # claims of the wish and the bound on turns must hold of every poll, and in a run of 4,000 polls or more every answer, by each of its
-# reasons, every refusal and every kind of turn must be reached. Then that wrong programs are found.
+# reasons, every refusal and every kind of turn must be reached, and answers for every n, in rounds below 01's window (02, wish 8). Then that
+# wrong programs are found.
 #
 # usage: tests/polls.sh [POLLS [SEED]]      as long as one likes; 4,000 polls from seed 1, and the wrong programs, in the gate
 set -euo pipefail
@@ -60,6 +61,10 @@ wrong "answers adopted with the first proposal" poll.rs '
     'proved turn [0-9]+ 0 adopted [0-9]+, reference turn [0-9]+ 0 adopted [0-9]+$'
 wrong "writes D at commit" poll.rs 's/^        return Some(Answer::Committed(process.estimate));/        board.write_decision(process.estimate);\n&/' \
     'proved tally ([0-9]+) [0-9]+ 0, reference tally \2 [0-9]+ 0$'
+wrong "has 01's window" session.rs 's/smallest \* smallest < 4 \* n/smallest * smallest < n/; s/= smallest as u32;/= 2 * smallest as u32 + 1;/' \
+    'proved (turn [0-9]+ 0 (committed|adopted) [0-9]+, reference turn [0-9]+ 0 none|seat 0 [a-z0-9 ]+, reference round [0-9]+ [0-9]+ (un)?marked)$'
+wrong "has a window one less than the smallest" session.rs 's/= smallest as u32;/= (smallest as u32).saturating_sub(1);/' \
+    'proved (turn [0-9]+ 0 none, reference turn [0-9]+ 0 (committed|adopted) [0-9]+|round [0-9]+ [0-9]+ (un)?marked, reference seat 0 [a-z0-9 ]+)$'
 
 # On both sides, where nothing differs, the claims find it.
 untrue() { # WHAT EDIT CLAIM

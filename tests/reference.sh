@@ -32,13 +32,13 @@ for name in differential writes; do
     echo "$name: a library that always answers 0 is found in 200 cases"
 done
 
-# And a wrong program, here a copy of the separate one beside the library.
+# And a wrong program, here a copy of the separate one beside the library. It goes on where a number of it is too large.
 wrong() { # NAME FILE WHAT EDIT DIFFERENCE: the copy, its file edited by sed, differs in those words
     rm -rf "$out/src"
     cp -r reference/src "$out"
     sed -i "$4" "$out/src/$2"
     if cmp -s "reference/src/$2" "$out/src/$2"; then echo "reference: nothing to edit: $4" && exit 1; fi
-    rustc --edition 2021 --crate-type rlib --crate-name janus_reference "$out/src/lib.rs" -o "$out/libjanus_reference.rlib"
+    rustc --edition 2021 -C overflow-checks=off --crate-type rlib --crate-name janus_reference "$out/src/lib.rs" -o "$out/libjanus_reference.rlib"
     harness "$1" --extern janus_reference="$out/libjanus_reference.rlib" -L native=target/staticlib -l static=janus
     differs ".*: $5"
     echo "$1: a program that $3 is found in 200 cases"
@@ -60,3 +60,11 @@ miswrites "adds run lengths up in 64 bits" 's/sum.checked_add(\*run)/Some(sum.wr
 miswrites "leaves a gap of one byte" 's/let mut offset = header.len();/let mut offset = header.len() + 1;/' 'code 0, output byte [0-9]*: '
 miswrites "returns the size without the header" '/copy_from_slice(entries)/{n;s/size/size - HEADER/}' 'code 0, size: library [0-9]*, reference [0-9]*$'
 miswrites "returns 15 at an exact fit" 's/output.len() < size/output.len() <= size/' 'code: library 0, reference 15$'
+# The windows that 02, wish 8, shuts out.
+miswindows() { # WHAT EDIT: other sheets are refused with 2, or a seat commits earlier or later
+    wrong differential session.rs "has $1 for its window" "$2" '\(code: library [0-9]*, reference [0-9]*\|report: library\)$'
+    wrong writes session.rs "has $1 for its window" "$2" 'code: library \(2, reference [0-9]*\|[0-9]*, reference 2\)$'
+}
+miswindows "2 times the rounded-up root of n, plus 1," 's/smallest \* smallest < 4 \* n/smallest * smallest < n/; s/= smallest as u32;/= 2 * smallest as u32 + 1;/'
+miswindows "one less than the smallest" 's/= smallest as u32;/= (smallest as u32).saturating_sub(1);/'
+miswindows "the root of 4n, rounded down," 's/while smallest \* smallest < 4 \* n {/while (smallest + 1) * (smallest + 1) <= 4 * n {/'

@@ -1,6 +1,6 @@
 #!/usr/bin/env bash
-# The board report's program beside the separately written one: the sample that README runs first, the sample sheets, and the unstarred
-# cases on sheets.
+# The board report's program beside the separately written one: the sample that README runs first, the sample sheets, the unstarred
+# cases on sheets, and the least L of one seat and of 64.
 set -euo pipefail
 cd "$(dirname "$0")/.."
 crate=use_report
@@ -27,8 +27,17 @@ for sheet in examples/*.sheet; do
 done
 same "an empty sheet" </dev/null
 [[ $(cat "$out/ours.txt") == "sheet refused 10" ]]
+opens() { # the report that has just been made is of a session with no entries
+    [[ $(head -n 1 "$out/ours.txt") == "outcome finished 0" ]]
+}
 same "no entries" < <(printf '\1\0\3\0')
-[[ $(head -n 1 "$out/ours.txt") == "outcome finished 0" ]]
+opens
+same "no entries, L at its least" < <(printf '\1\0\2\0')
+opens
+same "64 seats, L = 15" < <(printf '\100\0\17\0')
+[[ $(cat "$out/ours.txt") == "sheet refused 2" ]]
+same "64 seats, L = 16" < <(printf '\100\0\20\0')
+opens
 same "a sheet of 65,536 bytes" < <(head -c 65536 /dev/zero)
 [[ $(cat "$out/ours.txt") == "sheet refused 10" ]]
 (head -c 60 examples/solo.sheet; sleep 0.2; tail -c +61 examples/solo.sheet) | "$program" | cmp - "crates/$crate/stdout"

@@ -11,11 +11,13 @@ Ends with 1 at the first difference, or where the cases reach too little.
 
 import collections
 import glob
-import math
 import random
 import struct
 import subprocess
 import sys
+
+sys.dont_write_bytecode = True
+from paper_rules import window
 
 PROVED, SEPARATE = sys.argv[1:]
 SEED = 1
@@ -78,7 +80,7 @@ def sheet(rng):
     data = entries(rng, n)
     cut = rng.randint(0, len(data))
     runs = [data] if rng.random() < 0.5 else [data[:cut], data[cut:]]
-    made = bytearray(joined(n, rng.choice([2 * n + 1, 20, 256]), runs))
+    made = bytearray(joined(n, rng.choice([window(n), 20, 256]), runs))
     if rng.random() < 0.2:
         made[rng.randrange(min(12, len(made)))] = rng.randrange(256)
     return bytes(made)
@@ -90,16 +92,15 @@ def sheet(rng):
 def board(values):
     """A sheet that leaves these values in the registers of the first rounds: all seats walk on side by side, seat s stays behind where it
     is about to write round s + 1, and in the end each writes. With hint no a seat goes on until it stands at gate, and there it waits."""
-    n = len(values)
-    window = 2 * math.ceil(math.sqrt(n)) + 1
+    n, w = len(values), window(len(values))
     walk = [(0, seat, value) for seat, value in enumerate(values)]
     walk += [(1, seat, 1) for seat in range(n)]
     for behind in range(1, n):
-        most = 1 + 2 * min(behind, window) + (2 * window + 1 if behind >= window else 0)
+        most = 1 + 2 * min(behind, w) + (2 * w + 1 if behind >= w else 0)
         for seat in range(behind, n):
             walk += [(1, seat, 0)] * most + [(1, seat, 1)]
     walk += [(1, seat, 0) for seat in range(n)]
-    return joined(n, max(window, n + 1), [walk])
+    return joined(n, max(w, n + 1), [walk])
 
 
 def drawn(rng):
@@ -143,7 +144,7 @@ def boards(rng):
 
 
 def main():
-    one = bytes([1, 1, 3, 0, 8, 0, 6, 0, 0, 0, 1, 0, 0, 0])
+    one = joined(1, window(1), [[(0, 0, 1)]])
     if same("one entry", one, 0) != ["100 0 0 0 0", "0 0"] or same("one entry", one, 1, 1) != ["0 1 0 0 0", f"0 0 {MARKER}"]:
         sys.exit("run: a sheet of one entry does not end as document 01 has it")
     count = 2

@@ -44,9 +44,9 @@ same "$out/named.sheet" "$made"
 "$sheet" --help >"$out/help"
 grep -q '^usage: sheet.py \[LIST \[SHEET\]\]' "$out/help"
 
-# WORDS LINES: the list of those lines after n 2 and L 5 is wrong for that reason.
+# WORDS LINES: the list of those lines after n 2 and L 3 is wrong for that reason.
 wrong() {
-    printf 'n 2\nL 5\n%b\n' "$2" >"$out/wrong.txt"
+    printf 'n 2\nL 3\n%b\n' "$2" >"$out/wrong.txt"
     told 1 "$out/wrong.txt: $1" "$sheet" "$out/wrong.txt" "$out/never.sheet"
     [[ ! -e $out/never.sheet ]]
 }
@@ -58,7 +58,7 @@ wrong 'line 3: seat ٣ is not a whole number from 0 to 255' 'look ٣'
 wrong 'line 3: seat -1 is not a whole number' 'look -1'
 wrong "line 3: value $(printf '9%.0s' {1..5000}) is out of range" "propose 0 $(printf '9%.0s' {1..5000})"
 wrong 'line 3: n is given twice' 'n 2'
-wrong 'line 4: L is given twice' 'look 0\nL 5'
+wrong 'line 4: L is given twice' 'look 0\nL 3'
 wrong 'line 3: hint maybe is neither yes nor no' 'work 0 maybe'
 wrong 'line 3: work takes SEAT HINT, not 0' 'work 0'
 wrong 'line 3: look takes SEAT, not 0 1' 'look 0 1'
@@ -67,7 +67,7 @@ wrong '256 runs are too many' "$(printf 'run\\n%.0s' {1..256})"
 told 1 'n 256 is out of range: it must be a whole number from 0 to 255' "$sheet" <(echo n 256)
 told 1 'L 65536 is out of range: it must be a whole number from 0 to 65535' "$sheet" <(echo L 65536)
 told 1 'there is no line L' "$sheet" <(echo n 2)
-told 1 'no text in UTF-8' "$sheet" <(printf 'n 2\nL 5\n\377')
+told 1 'no text in UTF-8' "$sheet" <(printf 'n 2\nL 3\n\377')
 cp "$made" "$out/kept.sheet"
 told 1 'line 1' "$sheet" <(echo nonsense) "$out/kept.sheet"
 same "$out/kept.sheet" "$made"
@@ -89,7 +89,7 @@ same <(printf 'n 2\npropose 1 258\nturn 1 # a remark\ncrash 0\n' | "$poll") <(pr
 "$poll" --help >"$out/help"
 grep -q '^usage: poll.py \[POLL \[BYTES\]\]' "$out/help"
 told 1 'line 2: turn takes SEAT, not 0 yes' "$poll" <(printf 'n 2\nturn 0 yes\n')
-told 1 'L is none of n, propose, turn, crash' "$poll" <(printf 'n 2\nL 5\n')
+told 1 'L is none of n, propose, turn, crash' "$poll" <(printf 'n 2\nL 3\n')
 told 1 'there is no line n' "$poll" <(echo turn 0)
 told 1 'n 256 is out of range' "$poll" <(echo n 256)
 told 1 '10923 operations are too many' "$poll" <(echo n 1; yes turn 0 | head -n 10923)

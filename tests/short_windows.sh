@@ -1,7 +1,7 @@
 #!/usr/bin/env bash
 # Windows below the bound of 02, wish 7, W times W at least 4n, on the separately written program: for every W from 2 to 15 a list of calls in
-# which two turns commit different numbers, and polls with two answers; within the bound, no such thing. Then lists as sheets, with their
-# traces, and that wrong lists and wrong machines are found.
+# which two turns commit different numbers, and polls with two answers; within the bound, no such thing. The window in service is the least one
+# within it (02, wish 8). Then lists as sheets, with their traces, and that wrong lists and wrong machines are found.
 set -euo pipefail
 cd "$(dirname "$0")/.."
 ./build.sh reference
@@ -16,23 +16,26 @@ fail() {
     exit 1
 }
 
-# A list as it is printed makes a sheet. In service nothing commits in it; at its window two turns write D, and two seats are decided.
-traced() { # KIND W ENTRIES
+# A list as it is printed makes a sheet. In service, where its seats have the window W + 1, it is opened too: nothing commits in it, and in the
+# end a seat is spent and takes a further turn. At its window two turns write D, and two seats are decided.
+traced() { # KIND W ENTRIES SERVED: those carried out in service
     local sheet=$out/$1-$2.sheet
     "$short_windows" "$1" "$2" | examples/sheet.py - "$sheet"
     target/reference/reference trace <"$sheet" >"$out/service"
+    target/reference/reference trace "$(($2 + 1))" <"$sheet" | cmp - "$out/service" || fail "$1 $2: the window in service is not $(($2 + 1))"
     if grep ' D written ' "$out/service"; then fail "$1 $2 commits in service"; fi
+    [[ $(tail -n 1 "$out/service") =~ ^\ *$4\ .*\ refused\ 9$ ]] || fail "$1 $2 ends otherwise in service: $(tail -n 1 "$out/service")"
     target/reference/reference trace "$2" <"$sheet" >"$out/trace"
     [[ $(wc -l <"$out/trace") == "$3" ]] || fail "$1 $2: $(wc -l <"$out/trace") entries, not $3"
     [[ $(grep -c ' D written ' "$out/trace") == 2 ]] || fail "$1 $2: not two commits: $(grep ' D written ' "$out/trace")"
     [[ $(sed -n 's/.*| look .*| decided .* value \([12]\) .*/\1/p' "$out/trace" | sort) == $'1\n2' ]] || fail "$1 $2: $(grep '| look ' "$out/trace")"
-    echo "short_windows: $1 $2: $3 entries; at window $2 two seats are decided, with 1 and with 2, and none in service"
+    echo "short_windows: $1 $2: $3 entries; at window $2 two seats are decided, with 1 and with 2; in service none in $4, and the next is refused"
 }
-traced list 2 36
-traced list 15 2366
-traced short 2 36
-traced short 3 66
-traced short 4 109
+traced list 2 36 33
+traced list 15 2366 2273
+traced short 2 36 31
+traced short 3 66 61
+traced short 4 109 104
 # The list that docs/AGREEMENT.md goes through register by register: the trace, without the tally.
 page=$(grep -E '^ *[0-9]+ \| (propose|work|look) ' docs/AGREEMENT.md | sed 's/^ *//')
 trace=$(target/reference/reference trace 2 <"$out/list-2.sheet" | cut -d'|' -f1-4 | sed -E 's/ *\| */ | /g; s/^ *//; s/ *$//')
@@ -94,7 +97,7 @@ wrong_machine() { # WHAT FILE EDIT WORDS
     found "a machine that $1" "$4" reference "$out"
 }
 wrong_machine "opens at the window in service" session.rs 's/check_opening(|_| window, n, limit)?;/check_opening(|n| self::window(n).max(window), n, limit)?;/' \
-    'W 2, 2 seats: refused 2'
+    'W 2, poll of 2 seats: refused 2'
 wrong_machine "walks at a window one larger" session.rs 's/^            window: window(self.n),/            window: window(self.n) + 1,/' \
     'W 2, 2 seats: call [0-9]+, work 1 yes: left unsound'
 wrong_machine "is sound at a window one larger" sound.rs 's/let (limit, window) = (self.limit, window(self.n));/let (limit, window) = (self.limit, window(self.n) + 1);/' \
@@ -103,3 +106,5 @@ wrong_machine "reads over marks" phase.rs 's/if board.read_mark(self.round - i) 
     'W 2, 2 seats: commits by round \[\(2, 2\)\], not \[\(2, 2\), \(3, 1\)\]'
 wrong_machine "answers committed where a check fails" poll.rs 's/then_some(Answer::Adopted/then_some(Answer::Committed/' \
     'W 2, poll of 2 seats: answers \[Committed\(2\), Committed\(1\)\], not \[Committed\(2\), Adopted\(1\)\]'
+wrong_machine "has 01's window in service" session.rs 's/smallest \* smallest < 4 \* n/smallest * smallest < n/; s/= smallest as u32;/= 2 * smallest as u32 + 1;/' \
+    'n 1: in service 3, not 2'

@@ -3,7 +3,7 @@
 case is false, of the two rules' bound on the window, and of contracts on which they rest.
 
     theorem_edits.py             tries every edit
-    theorem_edits.py PATTERN     tries those whose file name matches, as 'short*.edit': for work on one
+    theorem_edits.py PATTERN     tries those whose file name matches, as 'root*.edit': for work on one
 
 Each file of tests/theorem-edits names a file, a text of it and another text, or several such pairs, the crate to check after the change, and the
 file and lemma at which the check must refuse it first. It also has a list of calls: the processes and rounds of the opening, the

@@ -1,6 +1,8 @@
 #!/usr/bin/env bash
-# The window without a product (02, wish 4): the function's source; its compiled code, seen by itself, and that of the header's; every window
-# beside the separate program's. Each look is tried on what it must find: a window by a product, and two that add up the wrong numbers.
+# The window, the smallest whole number with W times W at least 4n, without a product (02, wishes 4 and 8): the function's source; its compiled
+# code, seen by itself, and that of the header's; every window beside the separate program's. Each look is tried on what it must find: a window
+# by a product, two that add up the wrong numbers, and the three that wish 8 shuts out: 01's, one less than the smallest, and the root of 4n
+# rounded down.
 set -euo pipefail
 cd "$(dirname "$0")/.."
 ./build.sh archive window reference
@@ -52,7 +54,7 @@ in_c() {
 without_product target/staticlib/libuse_window.a
 in_c header <<<'return janus_window(n);'
 without_product "$out/header.o"
-in_c product <<<'size_t m = 0; while (m * m < n) m++; return 2 * m + 1;'
+in_c product <<<'size_t m = 0, end = n; end += end; end += end; while (m * m < end) m++; return m;'
 [[ $(multiplies "$out/product.o") =~ imul ]] || fail "the look at the code finds no multiplication: $(code "$out/product.o")"
 [[ -n $(products_of_two "$out/product.o" window_alone) ]] || fail "the look at the archive finds no product: $(code "$out/product.o")"
 
@@ -71,12 +73,21 @@ compare() {
 }
 compare target/staticlib/libuse_window.a
 compare "$out/header.o"
-# FIRST N: odd numbers that start there give another window of n processes first.
+
+# The same in C, and with one thing wrong. WHAT N BODY: that function multiplies nowhere either, and gives another window of n processes first.
+four='size_t root = 0, square = 0, odd = 1, end = n; end += end; end += end;'
+climb='while (square < end) { square += odd; odd += 2; root++; }'
+in_c right <<<"$four $climb return root;"
+compare "$out/right.o"
 wrong() {
-    in_c wrong <<<"size_t root = 0, square = 0, odd = $1; while (square < n) { square += odd; odd += 2; root++; } return root + root + 1;"
-    said=$(! compare "$out/wrong.o") || fail "no difference with numbers from $1 on"
-    [[ $said == "difference: n $2: "* ]] || fail "numbers from $1 on: $said"
-    echo "window: numbers from $1 on for odd ones: $said"
+    in_c wrong <<<"$3"
+    [[ -z $(multiplies "$out/wrong.o") ]] || fail "$1: $(multiplies "$out/wrong.o")"
+    said=$(! compare "$out/wrong.o") || fail "no difference with $1"
+    [[ $said == "difference: n $2: "* ]] || fail "$1: $said"
+    echo "window: $1: $said"
 }
-wrong 0 1
-wrong 2 2
+wrong "numbers from 0 on for odd ones" 1 "$four odd = 0; $climb return root;"
+wrong "numbers from 2 on for odd ones" 3 "$four odd = 2; $climb return root;"
+wrong "01's, 2 times the rounded-up root of n, plus 1" 1 "size_t root = 0, square = 0, odd = 1, end = n; $climb return root + root + 1;"
+wrong "one less than the smallest" 1 "$four $climb return root - 1;"
+wrong "the root of 4n, rounded down" 2 "$four while (square + odd <= end) { square += odd; odd += 2; root++; } return root;"

@@ -72,12 +72,12 @@ def main():
     rng = random.Random(SEED)
     for index in range(LISTS):
         same(f"random list {index} of seed {SEED}", text_of(rng, index % (MOST_RUNS + 1)))
-    same("the largest list", "n 1\nL 3\n" + "look 0\n" * MOST_ENTRIES)
+    same("the largest list", "n 1\nL 2\n" + "look 0\n" * MOST_ENTRIES)
     refused(1, "n 65\nL 256")
-    refused(2, "n 64\nL 16")
-    refused(13, "n 1\nL 3\nlook 0\nentry 4 0 0")
-    refused(17, "n 1\nL 3\n" + "run\n" * (MOST_RUNS + 1))
-    refused(17, "n 1\nL 3\n" + "look 0\n" * (MOST_ENTRIES + 1))
+    refused(2, "n 64\nL 15")
+    refused(13, "n 1\nL 2\nlook 0\nentry 4 0 0")
+    refused(17, "n 1\nL 2\n" + "run\n" * (MOST_RUNS + 1))
+    refused(17, "n 1\nL 2\n" + "look 0\n" * (MOST_ENTRIES + 1))
     print(f"written sheets: {len(samples)} sample lists, {LISTS} random ones and the largest as janus_write has them; 5 are refused")
 
 

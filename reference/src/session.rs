@@ -11,23 +11,24 @@ pub const MAX_PROCESSES: usize = 64;
 /// The most rounds of a session. (01: round limit L, at most 256.)
 pub const MAX_ROUNDS: usize = 256;
 
-/// W for each n. (01: 2 times the root of n, rounded up, plus 1.)
+/// W for each n. (02, wish 8: "the smallest whole number with W times W at least 4n".
+/// 01 had 2 times the root of n, rounded up, plus 1.)
 const WINDOWS: [u32; MAX_PROCESSES + 1] = windows();
 
 const fn windows() -> [u32; MAX_PROCESSES + 1] {
     let mut table = [0; MAX_PROCESSES + 1];
-    let (mut n, mut root) = (0, 0);
+    let (mut n, mut smallest) = (0, 0);
     while n <= MAX_PROCESSES {
-        while root * root < n {
-            root += 1;
+        while smallest * smallest < 4 * n {
+            smallest += 1;
         }
-        table[n] = 2 * root as u32 + 1;
+        table[n] = smallest as u32;
         n += 1;
     }
     table
 }
 
-/// The window in service of n processes, n from 1 to 64. (01: W.)
+/// The window in service of n processes, n from 1 to 64. (01: W, by 02, wish 8.)
 #[inline]
 pub const fn window(n: usize) -> u32 {
     WINDOWS[n]

@@ -57,15 +57,15 @@ impl Case {
 
     /// One seat alone at gate in round L, after its commit.
     fn at_last_gate() -> Case {
-        let mut case = Case::open(1, 3);
+        let mut case = Case::open(1, 2);
         case.propose(0, 7);
-        case.work(&[0; 19]);
+        case.work(&[0; 12]);
         case
     }
 
     /// The contested case of two seats, as far as its first seven turns.
     fn contested() -> Case {
-        let mut case = Case::open(2, 5);
+        let mut case = Case::open(2, 3);
         case.propose(0, 3);
         case.propose(1, 8);
         case.work(&[0, 1, 0, 1, 0, 0, 1]);
@@ -109,10 +109,20 @@ fn header(n: u8, limit: u16, pairs: &[(u16, u16)]) -> Vec<u8> {
 
 const YES: u32 = 1;
 
-/// The sheet of 134 bytes in 01, "The board report".
-fn report_sheet() -> Vec<u8> {
+/// One seat alone: its proposal, so many turns with hint yes, and a look.
+fn alone_sheet(limit: u16, turns: usize) -> Vec<u8> {
     let mut entries = vec![raw(0, 0, 7)];
-    entries.extend([raw(1, 0, YES); 19]);
+    entries.extend(vec![raw(1, 0, YES); turns]);
     entries.push(raw(2, 0, 0));
-    sheet(1, 3, &entries)
+    sheet(1, limit, &entries)
+}
+
+/// The sheet of 92 bytes in 02, wish 8.
+fn report_sheet() -> Vec<u8> {
+    alone_sheet(2, 12)
+}
+
+/// The sheet of 134 bytes in 01, "The board report".
+fn report_sheet_before() -> Vec<u8> {
+    alone_sheet(3, 19)
 }

@@ -8,11 +8,12 @@ unfoldable pub rootFrom : ℕ → ℕ → ℕ → ℕ
 rootFrom zero m n = m
 rootFrom (suc fuel) m n = cond (leb n (m * m)) m (rootFrom fuel (suc m) n)
 
--- "The root of n, rounded up to a whole number": the least m with n ≤ m · m.
+-- "The root of n, rounded up to a whole number": the smallest m with m · m at least n.
 unfoldable pub rootUp : ℕ → ℕ
 rootUp n = rootFrom n 0 n
 
--- "Window W = 2 times (the root of n, rounded up to a whole number) + 1." Document 02, wish 4, has it worked out "by adding odd numbers, without a
--- product; every window and answer is the same": the code and its proof (`part_window`) do, and the definition stays.
+-- 01 had "Window W = 2 times (the root of n, rounded up to a whole number) + 1." Document 02, wish 8: "W becomes the smallest whole number with W
+-- times W at least 4n: n = 1, 2, 4, 5, 9, 16, 64 give 2, 3, 4, 5, 6, 8, 16." That is the root of 4n, rounded up. Wish 4 has a root worked out "by
+-- adding odd numbers, without a product": the code and its proof (`part_window`) do.
 unfoldable pub window : ℕ → ℕ
-window n = 2 * rootUp n + 1
+window n = rootUp (4 * n)

@@ -15,16 +15,16 @@ use Rattle.model.specs.Sound.{every}
 use Rattle.model_cases.specs.Play.{Case, holds, repeat}
 use Rattle.model_cases.specs.Play.Shows.{answers, hasWindow, register, marked, decision, stands, counts}
 
--- n = 1, L = 3, proposal 7, hints yes.
+-- n = 1, L = 2, proposal 7, hints yes.
 solo : ℕ → List Operation
 solo turns = Propose 0 7 ∷ repeat turns (Step 0 true)
 
 -- From its commit on, at gate in round L: hints no.
 unled : ℕ → List Operation
 unfolding solo
-unled turns = solo 19 ++ repeat turns (Step 0 false)
+unled turns = solo 12 ++ repeat turns (Step 0 false)
 
--- n = 2, L = 5: seat 0 proposes 3, seat 1 proposes 8; hints yes; work 0, 1, 0, 1, 0, 0, 1.
+-- n = 2, L = 3: seat 0 proposes 3, seat 1 proposes 8; hints yes; work 0, 1, 0, 1, 0, 0, 1.
 contended : List Operation
 contended =
     Propose 0 3
@@ -47,43 +47,47 @@ pub table : List Case
 unfolding solo unled contended continued
 table =
     -- opening
-    record { n = 0; limit = 17; operations = []; shows = answers 1 ∷ [] }
+    record { n = 0; limit = 16; operations = []; shows = answers 1 ∷ [] }
     ∷ record { n = 65; limit = 256; operations = []; shows = answers 1 ∷ [] }
-    ∷ record { n = 64; limit = 16; operations = []; shows = answers 2 ∷ [] }
-    ∷ record { n = 64; limit = 17; operations = []; shows = answers 0 ∷ hasWindow 17 ∷ [] }
-    -- the windows for n = 2, 16 and 17
-    ∷ record { n = 2; limit = 5; operations = []; shows = answers 0 ∷ hasWindow 5 ∷ [] }
-    ∷ record { n = 16; limit = 9; operations = []; shows = answers 0 ∷ hasWindow 9 ∷ [] }
-    ∷ record { n = 17; limit = 11; operations = []; shows = answers 0 ∷ hasWindow 11 ∷ [] }
-    -- one process: round 1 is over after 3 turns; commit and a blank D after 18; D is 7 after 19
-    ∷ record { n = 1; limit = 3; operations = solo 3; shows = answers 0 ∷ stands 0 Waiting 1 7 ∷ [] }
-    ∷ record { n = 1; limit = 3; operations = solo 18; shows = stands 0 Commit 3 7 ∷ decision 0 ∷ [] }
-    ∷ record { n = 1; limit = 3; operations = solo 19; shows = decision 7 ∷ counts 15 4 0 ∷ [] }
-    -- the same with 19 hints of no
+    ∷ record { n = 64; limit = 15; operations = []; shows = answers 2 ∷ [] }
+    ∷ record { n = 64; limit = 16; operations = []; shows = answers 0 ∷ hasWindow 16 ∷ [] }
+    -- the windows for n = 2, 16 and 17; then those of 02, wish 8, for 1, 4, 5 and 9
+    ∷ record { n = 2; limit = 3; operations = []; shows = answers 0 ∷ hasWindow 3 ∷ [] }
+    ∷ record { n = 16; limit = 8; operations = []; shows = answers 0 ∷ hasWindow 8 ∷ [] }
+    ∷ record { n = 17; limit = 9; operations = []; shows = answers 0 ∷ hasWindow 9 ∷ [] }
+    ∷ record { n = 1; limit = 2; operations = []; shows = answers 0 ∷ hasWindow 2 ∷ [] }
+    ∷ record { n = 4; limit = 4; operations = []; shows = answers 0 ∷ hasWindow 4 ∷ [] }
+    ∷ record { n = 5; limit = 5; operations = []; shows = answers 0 ∷ hasWindow 5 ∷ [] }
+    ∷ record { n = 9; limit = 6; operations = []; shows = answers 0 ∷ hasWindow 6 ∷ [] }
+    -- one process: round 1 is over after 3 turns; commit and a blank D after 11; D is 7 after 12
+    ∷ record { n = 1; limit = 2; operations = solo 3; shows = answers 0 ∷ stands 0 Waiting 1 7 ∷ [] }
+    ∷ record { n = 1; limit = 2; operations = solo 11; shows = stands 0 Commit 2 7 ∷ decision 0 ∷ [] }
+    ∷ record { n = 1; limit = 2; operations = solo 12; shows = decision 7 ∷ counts 9 3 0 ∷ [] }
+    -- the same with hints of no, 19 of them as in 01
     ∷ record {
       n = 1;
-      limit = 3;
+      limit = 2;
       operations = Propose 0 7 ∷ repeat 19 (Step 0 false);
       shows = answers 0 ∷ stands 0 Waiting 0 7 ∷ counts 0 0 0 ∷ [];
     }
     -- two processes
-    ∷ record { n = 2; limit = 5; operations = contended; shows = register 1 8 ∷ marked 1 ∷ counts 4 3 1 ∷ [] }
+    ∷ record { n = 2; limit = 3; operations = contended; shows = register 1 8 ∷ marked 1 ∷ counts 4 3 1 ∷ [] }
     ∷ record {
       n = 2;
-      limit = 5;
+      limit = 3;
       operations = continued;
       shows = register 2 3 ∷ stands 1 (Compare 0) 2 3 ∷ counts 8 4 1 ∷ [];
     }
     -- at gate with round L, where 01 has "hint no, gate; hint yes, spent" and 02, wish 5, spent for both: hint no; hint yes; a further work turn after
     -- either; a look
-    ∷ record { n = 1; limit = 3; operations = unled 1; shows = answers 0 ∷ stands 0 Exhausted 3 7 ∷ counts 15 4 0 ∷ [] }
-    ∷ record { n = 1; limit = 3; operations = solo 20; shows = answers 0 ∷ stands 0 Exhausted 3 7 ∷ counts 15 4 0 ∷ [] }
-    ∷ record { n = 1; limit = 3; operations = unled 2; shows = answers 9 ∷ stands 0 Exhausted 3 7 ∷ counts 15 4 0 ∷ [] }
-    ∷ record { n = 1; limit = 3; operations = solo 21; shows = answers 9 ∷ stands 0 Exhausted 3 7 ∷ counts 15 4 0 ∷ [] }
-    ∷ record { n = 1; limit = 3; operations = unled 2 ++ (Learn 0 ∷ []); shows = answers 0 ∷ stands 0 Decided 3 7 ∷ counts 16 4 0 ∷ [] }
+    ∷ record { n = 1; limit = 2; operations = unled 1; shows = answers 0 ∷ stands 0 Exhausted 2 7 ∷ counts 9 3 0 ∷ [] }
+    ∷ record { n = 1; limit = 2; operations = solo 13; shows = answers 0 ∷ stands 0 Exhausted 2 7 ∷ counts 9 3 0 ∷ [] }
+    ∷ record { n = 1; limit = 2; operations = unled 2; shows = answers 9 ∷ stands 0 Exhausted 2 7 ∷ counts 9 3 0 ∷ [] }
+    ∷ record { n = 1; limit = 2; operations = solo 14; shows = answers 9 ∷ stands 0 Exhausted 2 7 ∷ counts 9 3 0 ∷ [] }
+    ∷ record { n = 1; limit = 2; operations = unled 2 ++ (Learn 0 ∷ []); shows = answers 0 ∷ stands 0 Decided 2 7 ∷ counts 10 3 0 ∷ [] }
     -- a second proposal
-    ∷ record { n = 1; limit = 3; operations = Propose 0 5 ∷ Propose 0 5 ∷ []; shows = answers 6 ∷ [] }
-    ∷ record { n = 1; limit = 3; operations = Propose 0 5 ∷ Propose 0 0 ∷ []; shows = answers 5 ∷ [] }
+    ∷ record { n = 1; limit = 2; operations = Propose 0 5 ∷ Propose 0 5 ∷ []; shows = answers 6 ∷ [] }
+    ∷ record { n = 1; limit = 2; operations = Propose 0 5 ∷ Propose 0 0 ∷ []; shows = answers 5 ∷ [] }
     ∷ []
 
 -- Every row holds of the machine.

@@ -25,13 +25,13 @@ wide-enough (suc (suc W)) n some square = omega arith
 -- The window's square is at least 4n: all that the agreement rule asks of a window.
 pub window-square : (n : ℕ) → 4 * n ≤ window n * window n
 unfolding window
-window-square n = omega (arith, root-square n)
+window-square n = root-square (4 * n)
 
 -- The window of one process or more is at least 2.
 pub window-least : (n : ℕ) → 1 ≤ n → 2 ≤ window n
 window-least n some = wide-enough (window n) n some (window-square n)
 
--- The number found is at most m + k, if it is tried and its square is at least n.
+-- The number found is at most m + k, if the square of m + k is at least n.
 root-from-smallest : (fuel m k n : ℕ) → n ≤ (m + k) * (m + k) → rootFrom fuel m n ≤ m + k
 unfolding rootFrom
 root-from-smallest zero m k n h = omega arith
@@ -44,7 +44,11 @@ pub root-smallest : (m n : ℕ) → n ≤ m * m → rootUp n ≤ m
 unfolding rootUp
 root-smallest m n h = omega (arith, root-from-smallest n 0 m n (omega arith))
 
+-- And no smaller number than the window has such a square: 02, wish 8, "the smallest whole number with W times W at least 4n".
+pub window-smallest : (W n : ℕ) → 4 * n ≤ W * W → window n ≤ W
+unfolding window
+window-smallest W n wide = root-smallest W (4 * n) wide
+
 -- The window is at most twice the number of processes and one: no more than the rounds that a session holds.
 pub window-low : (n : ℕ) → window n ≤ 2 * n + 1
-unfolding window
-window-low n = omega (arith, root-smallest n n (le-square n))
+window-low n = window-smallest (2 * n + 1) n (omega arith)

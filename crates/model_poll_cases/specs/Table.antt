@@ -29,12 +29,12 @@ stalled k = proposes 0 3 ∷ proposes 1 8 ∷ turns 1 ∷ repeat k (turns 0)
 -- Process 0 has its answer; then process 1 takes k turns more.
 resumed : ℕ → List PollOperation
 unfolding stalled
-resumed k = stalled 36 ++ repeat k (turns 1)
+resumed k = stalled 19 ++ repeat k (turns 1)
 
 -- Process 0 has seen that C[1] is unmarked; process 1 writes 8 to T[1], which process 0 then reads.
 overwritten : List PollOperation
 unfolding stalled
-overwritten = stalled 34 ++ (turns 1 ∷ turns 0 ∷ [])
+overwritten = stalled 17 ++ (turns 1 ∷ turns 0 ∷ [])
 
 pub table : List PollCase
 unfolding solo stalled resumed overwritten
@@ -42,38 +42,38 @@ table =
     -- opening
     record { n = 0; operations = []; gives = Pending; keeps = []; shows = answers 1 ∷ [] }
     ∷ record { n = 65; operations = []; gives = Pending; keeps = []; shows = answers 1 ∷ [] }
-    ∷ record { n = 64; operations = []; gives = Pending; keeps = []; shows = answers 0 ∷ hasWindow 17 ∷ hasLimit 17 ∷ [] }
-    -- one process: at commit after 18 turns; the 19th answers committed, touches no register and leaves D blank
+    ∷ record { n = 64; operations = []; gives = Pending; keeps = []; shows = answers 0 ∷ hasWindow 16 ∷ hasLimit 16 ∷ [] }
+    -- one process: at commit after 11 turns; the 12th answers committed, touches no register and leaves D blank
     ∷ record {
       n = 1;
-      operations = solo 18;
+      operations = solo 11;
       gives = Pending;
       keeps = Pending ∷ [];
-      shows = answers 0 ∷ stands 0 Commit 3 7 ∷ decision 0 ∷ counts 15 3 0 ∷ [];
+      shows = answers 0 ∷ stands 0 Commit 2 7 ∷ decision 0 ∷ counts 9 2 0 ∷ [];
     }
     ∷ record {
       n = 1;
-      operations = solo 19;
+      operations = solo 12;
       gives = Commits 7;
       keeps = Commits 7 ∷ [];
-      shows = answers 0 ∷ stands 0 HasCommitted 3 7 ∷ decision 0 ∷ counts 15 3 0 ∷ [];
+      shows = answers 0 ∷ stands 0 HasCommitted 2 7 ∷ decision 0 ∷ counts 9 2 0 ∷ [];
     }
     -- answered, it takes no turn, no crash and no second proposal
     ∷ record {
       n = 1;
-      operations = solo 20;
+      operations = solo 13;
       gives = Pending;
       keeps = Commits 7 ∷ [];
-      shows = answers 8 ∷ stands 0 HasCommitted 3 7 ∷ counts 15 3 0 ∷ [];
+      shows = answers 8 ∷ stands 0 HasCommitted 2 7 ∷ counts 9 2 0 ∷ [];
     }
     ∷ record {
       n = 1;
-      operations = solo 19 ++ (crashes 0 ∷ []);
+      operations = solo 12 ++ (crashes 0 ∷ []);
       gives = Pending;
       keeps = Commits 7 ∷ [];
-      shows = answers 8 ∷ stands 0 HasCommitted 3 7 ∷ [];
+      shows = answers 8 ∷ stands 0 HasCommitted 2 7 ∷ [];
     }
-    ∷ record { n = 1; operations = solo 19 ++ (proposes 0 7 ∷ []); gives = Pending; keeps = Commits 7 ∷ []; shows = answers 6 ∷ [] }
+    ∷ record { n = 1; operations = solo 12 ++ (proposes 0 7 ∷ []); gives = Pending; keeps = Commits 7 ∷ []; shows = answers 6 ∷ [] }
     -- a turn and a crash before the proposal; of no process; a proposal of 0
     ∷ record { n = 1; operations = turns 0 ∷ []; gives = Pending; keeps = Pending ∷ []; shows = answers 7 ∷ [] }
     ∷ record { n = 1; operations = crashes 0 ∷ []; gives = Pending; keeps = Pending ∷ []; shows = answers 7 ∷ [] }
@@ -83,68 +83,66 @@ table =
     -- two processes: one answers committed, the other adopted, with the same value (examples/two_answers.poll)
     ∷ record {
       n = 2;
-      operations = stalled 35;
+      operations = stalled 18;
       gives = Pending;
       keeps = Pending ∷ Pending ∷ [];
-      shows = stands 0 Commit 5 3 ∷ stands 1 Write 1 8 ∷ counts 31 5 0 ∷ [];
+      shows = stands 0 Commit 3 3 ∷ stands 1 Write 1 8 ∷ counts 16 3 0 ∷ [];
     }
     ∷ record {
       n = 2;
-      operations = stalled 36;
+      operations = stalled 19;
       gives = Commits 3;
       keeps = Commits 3 ∷ Pending ∷ [];
-      shows = answers 0 ∷ stands 0 HasCommitted 5 3 ∷ decision 0 ∷ counts 31 5 0 ∷ [];
+      shows = answers 0 ∷ stands 0 HasCommitted 3 3 ∷ decision 0 ∷ counts 16 3 0 ∷ [];
     }
     ∷ record {
       n = 2;
-      operations = resumed 21;
+      operations = resumed 13;
       gives = Pending;
       keeps = Commits 3 ∷ Pending ∷ [];
-      shows = stands 1 (CheckMark 4) 5 3 ∷ counts 50 7 1 ∷ [];
+      shows = stands 1 (CheckMark 2) 3 3 ∷ counts 27 5 1 ∷ [];
     }
     ∷ record {
       n = 2;
-      operations = resumed 22;
+      operations = resumed 14;
       gives = Adopts 3;
       keeps = Commits 3 ∷ Adopts 3 ∷ [];
       shows =
           answers 0
-          ∷ stands 1 HasAdopted 5 3
+          ∷ stands 1 HasAdopted 3 3
           ∷ register 1 8
           ∷ register 2 3
           ∷ register 3 3
-          ∷ register 4 3
-          ∷ register 5 3
           ∷ marked 1
           ∷ decision 0
-          ∷ counts 51 7 1
+          ∷ counts 28 5 1
           ∷ [];
     }
     -- neither takes a further turn or crash
     ∷ record {
       n = 2;
-      operations = resumed 22 ++ (turns 0 ∷ []);
+      operations = resumed 14 ++ (turns 0 ∷ []);
       gives = Pending;
       keeps = Commits 3 ∷ Adopts 3 ∷ [];
-      shows = answers 8 ∷ counts 51 7 1 ∷ [];
+      shows = answers 8 ∷ counts 28 5 1 ∷ [];
     }
     ∷ record {
       n = 2;
-      operations = resumed 22 ++ (crashes 0 ∷ []);
+      operations = resumed 14 ++ (crashes 0 ∷ []);
       gives = Pending;
       keeps = Commits 3 ∷ Adopts 3 ∷ [];
       shows = answers 8 ∷ [];
     }
     ∷ record {
       n = 2;
-      operations = resumed 22 ++ (turns 1 ∷ []);
+      operations = resumed 14 ++ (turns 1 ∷ []);
       gives = Pending;
       keeps = Commits 3 ∷ Adopts 3 ∷ [];
-      shows = answers 8 ∷ counts 51 7 1 ∷ [];
+      shows = answers 8 ∷ counts 28 5 1 ∷ [];
     }
     ∷ record {
       n = 2;
-      operations = resumed 22 ++ (crashes 1 ∷ []);
+      operations = resumed 14 ++ (crashes 1 ∷ []);
       gives = Pending;
       keeps = Commits 3 ∷ Adopts 3 ∷ [];
       shows = answers 8 ∷ [];
@@ -152,24 +150,24 @@ table =
     -- a check fails by the value, and no round is marked; the other process crashes (examples/adopted_by_value.poll)
     ∷ record {
       n = 2;
-      operations = stalled 34;
+      operations = stalled 17;
       gives = Pending;
       keeps = Pending ∷ Pending ∷ [];
-      shows = stands 0 (CheckValue 4) 5 3 ∷ counts 30 5 0 ∷ [];
+      shows = stands 0 (CheckValue 2) 3 3 ∷ counts 15 3 0 ∷ [];
     }
     ∷ record {
       n = 2;
       operations = overwritten;
       gives = Adopts 3;
       keeps = Adopts 3 ∷ Pending ∷ [];
-      shows = answers 0 ∷ stands 0 HasAdopted 5 3 ∷ register 1 8 ∷ decision 0 ∷ counts 31 6 0 ∷ [];
+      shows = answers 0 ∷ stands 0 HasAdopted 3 3 ∷ register 1 8 ∷ decision 0 ∷ counts 16 4 0 ∷ [];
     }
     ∷ record {
       n = 2;
       operations = overwritten ++ (crashes 1 ∷ []);
       gives = Pending;
       keeps = Adopts 3 ∷ Pending ∷ [];
-      shows = answers 0 ∷ stands 1 Crashed 1 8 ∷ counts 31 6 0 ∷ [];
+      shows = answers 0 ∷ stands 1 Crashed 1 8 ∷ counts 16 4 0 ∷ [];
     }
     ∷ []
 

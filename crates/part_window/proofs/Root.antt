@@ -9,8 +9,8 @@ unfolding rootFrom
 root-found zero m sum h = refl
 root-found (suc fuel) m {s} {n} sum h = simp (le-leb n (m * m) (omega (arith, sum, odd-sum-square m)))
 
--- Where it does not, m is below n,
-pub root-below : (m : ℕ) {s n : ℕ} → s ≡ oddSum m → s < n → m < n
+-- Where it does not, m + 1 is at most n,
+pub root-below : (m : ℕ) {s n : ℕ} → s ≡ oddSum m → s < n → m + 1 ≤ n
 root-below m sum h = omega (arith, sum, odd-sum-square m, le-square m)
 
 -- and the search goes on at m + 1.

@@ -2,7 +2,7 @@
 use Rattle.base.specs.Prelude.{ℕ, suc, zero, max, _+_, _*_, _-_, _/_, _≤_, _<_, arith, mul-le-mul, _≡_, refl, sym, _∙_, subst, ℕ-discrete, decLe, Bool, true, cond, _&&_, List, [], _∷_, eqb, leb, ltb, eqb-true}
 use Rattle.base.specs.Bools.{and-left, and-right}
 use Rattle.model.specs.declared.Session.{Session}
-use Rattle.model.specs.Window.{rootUp, rootFrom}
+use Rattle.model.specs.Window.{window, rootUp, rootFrom}
 use Rattle.model.specs.Board.{opened, maxProcesses, maxRounds, serverLimits}
 use Rattle.model.specs.Machine.{openingAt}
 use Rattle.model.specs.Sound.{every}
@@ -79,18 +79,15 @@ too-short W n least enough few safe =
 pub exact-windows : ExactWindows
 exact-windows W n least few = (λ below L. below-threshold (λ m. W) n L below, λ enough. too-short W n least enough few)
 
--- The least window with W times W at least 4n.
-abbrev leastWide : (n : ℕ) → ℕ
-leastWide n = rootUp (4 * n)
-
--- For these n the window that is shorter by one is safe too, and the one before is not; for every other n from 2 to 64 it is not safe.
+-- For these n the window that is shorter than the one in service by one is safe too, and the one before is not; for every other n from 2 to 64 it is
+-- not safe.
 abbrev shorterToo : List ℕ
 shorterToo = 13 ∷ 17 ∷ 21 ∷ 26 ∷ 31 ∷ 32 ∷ 37 ∷ 38 ∷ 43 ∷ 44 ∷ 50 ∷ 51 ∷ 57 ∷ 58 ∷ 59 ∷ []
 
 pub least-safe : every
     (λ n.
-    let W = leastWide n in
+    let W = window n in
     cond (holds n shorterToo) (ltb n (threshold (W - 1)) && leb (threshold (W - 2)) n) (leb (threshold (W - 1)) n))
     (from 2 63) ≡ true
-unfolding rootUp rootFrom
+unfolding window rootUp rootFrom
 least-safe = refl

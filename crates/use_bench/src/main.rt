@@ -93,7 +93,7 @@ fn told(operation: u8, count: u32, start: Session) -> u32 {
     wrapping_add_u32(sum, buffer[7])
 }
 
-// Operation 10, a turn of a poll with the counts by value. Its 7 rounds alone may be filled.
+// Operation 10, a turn of a poll with the counts by value. Its 6 rounds alone may be filled.
 fn turned(count: u32) -> u32 {
     let mut s = proposed(true);
     let mut after = s;
@@ -103,10 +103,10 @@ fn turned(count: u32) -> u32 {
         contested: 0,
     };
     for i in 0..count {
-        s.values[(i % 7) as usize] = 1 + i % 8;
+        s.values[(i % 6) as usize] = 1 + i % 8;
         after = poll_turn::turn(s, 0, c).session;
     }
-    after.values[(count % 7) as usize]
+    after.values[(count % 6) as usize]
 }
 
 fn main() {

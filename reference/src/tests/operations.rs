@@ -37,7 +37,7 @@ const FULL: Counts = Counts {
 #[test]
 fn a_seat_that_is_not_there() {
     for process in [2, 63, 64, 255, usize::MAX] {
-        let mut case = Case::open(2, 5);
+        let mut case = Case::open(2, 3);
         case.counts = FULL;
         all_refused(&mut case, process, 4);
         refused(&mut case, 4, |s, _| s.propose(process, 7));
@@ -49,7 +49,7 @@ fn a_seat_that_is_not_there() {
 
 #[test]
 fn a_seat_that_is_out() {
-    let mut case = Case::open(2, 5);
+    let mut case = Case::open(2, 3);
     case.counts = FULL;
     all_refused(&mut case, 1, 7);
     refused(&mut case, 5, |s, _| s.propose(1, 0));
@@ -86,7 +86,7 @@ fn a_spent_seat() {
     refused(&mut case, 16, |s, c| s.learn(0, c));
     refused(&mut case, 6, |s, _| s.propose(0, 7));
     assert_eq!(case.session.crash(0), Ok(()));
-    assert_eq!(case.process(0).to_string(), "crashed round 3 value 7");
+    assert_eq!(case.process(0).to_string(), "crashed round 2 value 7");
 }
 
 #[test]
@@ -111,12 +111,12 @@ fn a_full_tally_at_the_gate_in_the_last_round() {
     let mut case = Case::at_last_gate();
     case.counts = FULL;
     step_refused(&mut case, 0, 16);
-    assert_eq!(case.process(0).to_string(), "gate round 3 value 7");
+    assert_eq!(case.process(0).to_string(), "gate round 2 value 7");
 }
 
 #[test]
 fn a_tally_filled_by_its_last_turn() {
-    let mut case = Case::open(1, 3);
+    let mut case = Case::open(1, 2);
     case.propose(0, 7);
     case.counts.reads = u32::MAX - 1;
     case.work(&[0]);
@@ -127,10 +127,10 @@ fn a_tally_filled_by_its_last_turn() {
 #[test]
 fn a_round_that_is_not_there() {
     let case = Case::contested();
-    for round in [0, 6, 256, 257, usize::MAX] {
+    for round in [0, 4, 256, 257, usize::MAX] {
         assert_eq!(case.session.read_round(round), Err(Refusal::NoRound));
     }
-    assert_eq!(case.session.read_round(5), Ok((0, false)));
+    assert_eq!(case.session.read_round(3), Ok((0, false)));
     let widest = Case::open(64, 256);
     assert_eq!(widest.session.read_round(256), Ok((0, false)));
     assert_eq!(widest.session.read_round(257), Err(Refusal::NoRound));
@@ -177,7 +177,7 @@ fn standing_values_of_all_rounds() {
 
 #[test]
 fn take_reads_again() {
-    let mut late = Case::open(3, 5);
+    let mut late = Case::open(3, 4);
     late.propose(0, 3);
     late.propose(1, 8);
     late.propose(2, 5);
@@ -190,26 +190,26 @@ fn take_reads_again() {
 
 #[test]
 fn take_of_a_blank_keeps_the_value() {
-    let mut case = Case::open(2, 5);
+    let mut case = Case::open(2, 3);
     case.propose(0, 3);
-    case.session.processes[0].phase = Phase::Adopt(4);
-    case.session.processes[0].round = 2;
+    case.session.processes[0].phase = Phase::Adopt(3);
+    case.session.processes[0].round = 1;
     assert_eq!(case.step(0, true), Ok(()));
-    assert_eq!(case.process(0).to_string(), "compare 0 round 4 value 3");
+    assert_eq!(case.process(0).to_string(), "compare 0 round 3 value 3");
 }
 
 #[test]
 fn last_round_filled_at_gate_and_in_seek() {
     let mut case = Case::at_last_gate();
-    case.session.processes[0].round = 2;
-    case.work(&[0]);
-    assert_eq!(case.process(0).to_string(), "take 3 round 3 value 7");
-    case.session.processes[0].phase = Phase::Waiting;
     case.session.processes[0].round = 1;
-    case.work(&[0, 0]);
-    assert_eq!(case.process(0).to_string(), "take 3 round 2 value 7");
     case.work(&[0]);
-    assert_eq!(case.process(0).to_string(), "compare 0 round 3 value 7");
+    assert_eq!(case.process(0).to_string(), "take 2 round 2 value 7");
+    case.session.processes[0].phase = Phase::Waiting;
+    case.session.processes[0].round = 0;
+    case.work(&[0, 0]);
+    assert_eq!(case.process(0).to_string(), "take 2 round 1 value 7");
+    case.work(&[0]);
+    assert_eq!(case.process(0).to_string(), "compare 0 round 2 value 7");
 }
 
 #[test]
@@ -224,7 +224,7 @@ fn flag_marks_the_round_that_differs() {
 
 /// Seats 0 and 1 at flag 0 in round 1, which is unmarked: seat 2 wrote last.
 fn two_at_flag() -> Case {
-    let mut case = Case::open(3, 5);
+    let mut case = Case::open(3, 4);
     case.propose(0, 3);
     case.propose(1, 8);
     case.propose(2, 5);
@@ -277,15 +277,20 @@ fn a_full_contested_refuses_either_flag() {
 
 #[test]
 fn first_failed_check_leads_to_gate() {
-    let mut case = Case::at_last_gate();
-    case.session.processes[0].phase = Phase::CheckMark(1);
-    case.session.registers.marks[1] = true;
-    assert_eq!(case.step(0, true), Ok(()));
-    assert_eq!(case.process(0).to_string(), "gate round 3 value 7");
-    case.session.processes[0].phase = Phase::CheckValue(1);
-    case.session.registers.values[1] = 8;
-    assert_eq!(case.step(0, true), Ok(()));
-    assert_eq!(case.process(0).to_string(), "gate round 3 value 7");
+    // Seat 0 of two, alone, after its commit in round 3; the window is 3.
+    for i in 0..3 {
+        let mut case = Case::open(2, 3);
+        case.propose(0, 7);
+        case.work(&[0; 19]);
+        case.session.processes[0].phase = Phase::CheckMark(i);
+        case.session.registers.marks[2 - i as usize] = true;
+        assert_eq!(case.step(0, true), Ok(()));
+        assert_eq!(case.process(0).to_string(), "gate round 3 value 7");
+        case.session.processes[0].phase = Phase::CheckValue(i);
+        case.session.registers.values[2 - i as usize] = 8;
+        assert_eq!(case.step(0, true), Ok(()));
+        assert_eq!(case.process(0).to_string(), "gate round 3 value 7");
+    }
 }
 
 #[test]
@@ -293,20 +298,20 @@ fn looks_in_each_working_stance_and_spent() {
     let working = [
         Phase::Waiting,
         Phase::Write,
-        Phase::Scan(6),
-        Phase::Adopt(5),
-        Phase::Compare(4),
-        Phase::Flag(4),
-        Phase::CheckMark(4),
-        Phase::CheckValue(4),
+        Phase::Scan(4),
+        Phase::Adopt(3),
+        Phase::Compare(2),
+        Phase::Flag(2),
+        Phase::CheckMark(2),
+        Phase::CheckValue(2),
         Phase::Commit,
     ];
     for (phase, round) in working
-        .map(|p| (p, 5))
+        .map(|p| (p, 3))
         .into_iter()
-        .chain([(Phase::Exhausted, 6)])
+        .chain([(Phase::Exhausted, 4)])
     {
-        let mut case = Case::open(2, 6);
+        let mut case = Case::open(2, 4);
         case.propose(0, 3);
         case.session.processes[0].phase = phase;
         case.session.processes[0].round = round;

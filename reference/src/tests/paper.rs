@@ -1,5 +1,6 @@
-//! The paper cases of 01, starred and not, that at gate in round L as 02, wish 5,
-//! has it, and the one of 02, wish 2: two seats mark one round.
+//! The paper cases of 01, starred and not, worked again by the windows of 02, wish 8;
+//! that at gate in round L as 02, wish 5, has it; and the one of 02, wish 2: two seats
+//! mark one round.
 
 use super::*;
 use crate::{entry, report, window, Phase};
@@ -7,10 +8,10 @@ use crate::{entry, report, window, Phase};
 #[test]
 fn openings() {
     let refused = |n, limit| Session::open(n, limit).err().map(Refusal::code);
-    assert_eq!(refused(0, 3), Some(1));
+    assert_eq!(refused(0, 2), Some(1));
     assert_eq!(refused(65, 256), Some(1));
-    assert_eq!(refused(64, 16), Some(2));
-    assert_eq!(refused(64, 17), None);
+    assert_eq!(refused(64, 15), Some(2));
+    assert_eq!(refused(64, 16), None);
     assert_eq!(refused(64, 256), None);
     assert_eq!(refused(64, 257), Some(2));
     assert_eq!(refused(1, 256), None);
@@ -23,48 +24,62 @@ fn opening_one_before_two() {
     assert_eq!(refused(0, 0), Some(1));
     assert_eq!(refused(65, 257), Some(1));
     assert_eq!(refused(usize::MAX, usize::MAX), Some(1));
-    assert_eq!(refused(1, 2), Some(2));
-    assert_eq!(refused(1, 65_536 + 3), Some(2));
+    assert_eq!(refused(1, 1), Some(2));
+    assert_eq!(refused(1, 2), None);
+    assert_eq!(refused(1, 65_536 + 2), Some(2));
 }
 
 #[test]
-fn the_nine_windows() {
-    let listed = [1, 2, 4, 5, 9, 10, 16, 17, 64];
-    assert_eq!(listed.map(window), [3, 5, 5, 7, 7, 9, 9, 11, 17]);
+fn the_seven_windows() {
+    let listed = [1, 2, 4, 5, 9, 16, 64];
+    assert_eq!(listed.map(window), [2, 3, 4, 5, 6, 8, 16]);
+    // And of the other n that 01 lists.
+    assert_eq!([10, 17].map(window), [7, 9]);
 }
 
 #[test]
-fn every_window_is_twice_the_root_rounded_up_plus_one() {
+fn every_window_is_the_smallest() {
     for n in 1..=64 {
-        let root = (window(n) as usize - 1) / 2;
-        assert!(root * root >= n && (root - 1) * (root - 1) < n, "n = {n}");
-        assert!(window(n) % 2 == 1, "n = {n}");
-        assert!(Session::open(n, window(n) as usize).is_ok());
-        assert!(Session::open(n, window(n) as usize - 1).is_err());
+        let w = window(n) as usize;
+        assert!(w * w >= 4 * n && (w - 1) * (w - 1) < 4 * n, "n = {n}");
+        assert!(Session::open(n, w).is_ok());
+        assert_eq!(Session::open(n, w - 1), Err(Refusal::Limit));
+    }
+}
+
+#[test]
+fn the_least_limit_falls_for_every_n() {
+    for n in 1..=64 {
+        let root = (1..).find(|root| root * root >= n).expect("squares grow");
+        let before = 2 * root + 1;
+        assert!((window(n) as usize) < before, "n = {n}");
+        for limit in window(n) as usize..=before {
+            assert!(Session::open(n, limit).is_ok(), "n = {n}, L = {limit}");
+        }
     }
 }
 
 #[test]
 fn one_seat_alone() {
-    let mut case = Case::open(1, 3);
+    let mut case = Case::open(1, 2);
     case.propose(0, 7);
     case.work(&[0; 3]);
     assert_eq!(case.process(0).to_string(), "gate round 1 value 7");
     assert_eq!(case.session.read_round(1), Ok((7, false)));
-    case.work(&[0; 15]);
+    case.work(&[0; 8]);
     assert_eq!(case.process(0).phase, Phase::Commit);
     assert_eq!(case.session.read_decision(), Ok(0));
     case.work(&[0]);
     assert_eq!(case.session.read_decision(), Ok(7));
-    assert_eq!(case.process(0).to_string(), "gate round 3 value 7");
-    assert_eq!(case.tally(), (15, 4, 0));
+    assert_eq!(case.process(0).to_string(), "gate round 2 value 7");
+    assert_eq!(case.tally(), (9, 3, 0));
 }
 
 #[test]
 fn one_seat_alone_without_hints() {
-    let mut case = Case::open(1, 3);
+    let mut case = Case::open(1, 2);
     case.propose(0, 7);
-    for _ in 0..19 {
+    for _ in 0..12 {
         assert_eq!(case.step(0, false), Ok(()));
     }
     assert_eq!(case.process(0).to_string(), "gate round 0 value 7");
@@ -104,33 +119,33 @@ fn the_gate_in_the_last_round() {
     for leader in [false, true] {
         let mut case = Case::at_last_gate();
         assert_eq!(case.step(0, leader), Ok(()));
-        assert_eq!(case.process(0).to_string(), "spent round 3 value 7");
-        assert_eq!(case.tally(), (15, 4, 0));
+        assert_eq!(case.process(0).to_string(), "spent round 2 value 7");
+        assert_eq!(case.tally(), (9, 3, 0));
         assert_eq!(case.step(0, leader), Err(Refusal::Exhausted));
         assert_eq!(case.step(0, !leader), Err(Refusal::Exhausted));
         assert_eq!(case.learn(0), Ok(()));
-        assert_eq!(case.process(0).to_string(), "decided round 3 value 7");
-        assert_eq!(case.tally(), (16, 4, 0));
+        assert_eq!(case.process(0).to_string(), "decided round 2 value 7");
+        assert_eq!(case.tally(), (10, 3, 0));
     }
 }
 
 #[test]
 fn the_gate_one_round_before_the_last() {
-    let mut case = Case::open(1, 3);
+    let mut case = Case::open(1, 2);
     case.propose(0, 7);
-    case.work(&[0; 7]);
-    for _ in 0..19 {
+    case.work(&[0; 3]);
+    for _ in 0..12 {
         assert_eq!(case.step(0, false), Ok(()));
     }
-    assert_eq!(case.process(0).to_string(), "gate round 2 value 7");
-    assert_eq!(case.tally(), (5, 2, 0));
+    assert_eq!(case.process(0).to_string(), "gate round 1 value 7");
+    assert_eq!(case.tally(), (2, 1, 0));
     assert_eq!(case.step(0, true), Ok(()));
-    assert_eq!(case.process(0).to_string(), "put round 3 value 7");
+    assert_eq!(case.process(0).to_string(), "put round 2 value 7");
 }
 
 #[test]
 fn a_second_proposal() {
-    let mut case = Case::open(1, 3);
+    let mut case = Case::open(1, 2);
     case.propose(0, 5);
     let before = case.session.clone();
     assert_eq!(case.session.propose(0, 5), Err(Refusal::Proposed));
@@ -143,19 +158,33 @@ fn small_sheets() {
     let mut buffer = [9; 256];
     assert_eq!(entry(&[], 1, &mut buffer), 10);
     assert_eq!(buffer, [9; 256]);
-    assert_eq!(entry(&[1, 0, 3, 0], 0, &mut buffer), 0);
-    assert_eq!(buffer, [0; 256]);
     assert_eq!(report(&[]), "sheet refused 10\n");
-    let text = "outcome finished 0\ntally 0 0 0\nboard 0 0\nseat 0 out\n";
-    assert_eq!(report(&[1, 0, 3, 0]), text);
-    let one = sheet(1, 3, &[raw(0, 0, 7)]);
+    // 01's of 4 bytes, and the one of the least L.
+    for limit in [3, 2] {
+        let mut buffer = [9; 256];
+        assert_eq!(entry(&[1, 0, limit, 0], 0, &mut buffer), 0);
+        assert_eq!(buffer, [0; 256]);
+        let text = "outcome finished 0\ntally 0 0 0\nboard 0 0\nseat 0 out\n";
+        assert_eq!(report(&[1, 0, limit, 0]), text);
+    }
+    let one = sheet(1, 2, &[raw(0, 0, 7)]);
     assert_eq!(entry(&one, 0, &mut buffer), 100);
     assert_eq!(entry(&one, 1, &mut buffer), 0);
 }
 
 #[test]
-fn the_report_of_134_bytes() {
+fn the_report_of_92_bytes() {
     let bytes = report_sheet();
+    assert_eq!(bytes.len(), 92);
+    let text = "outcome finished 14\ntally 10 3 0\nboard 2 7\nseat 0 decided 7\n";
+    assert_eq!(report(&bytes), text);
+}
+
+/// The lines that 01 has for it, though the seat commits in round 2 and is in the
+/// checks of round 3 at its look.
+#[test]
+fn the_report_of_134_bytes() {
+    let bytes = report_sheet_before();
     assert_eq!(bytes.len(), 134);
     let text = "outcome finished 21\ntally 16 4 0\nboard 3 7\nseat 0 decided 7\n";
     assert_eq!(report(&bytes), text);

@@ -75,8 +75,8 @@ impl Round {
 fn late_writer() -> Round {
     let mut round = Round::open(2, &[7, 8]);
     round.work(&[1]);
-    // Five rounds of 2 + r turns, ten checks, the commit.
-    assert_eq!(round.finish(0), (36, Answer::Committed(7)));
+    // Three rounds of 2 + r turns, six checks, the commit.
+    assert_eq!(round.finish(0), (19, Answer::Committed(7)));
     round
 }
 
@@ -97,25 +97,25 @@ fn openings() {
 #[test]
 fn one_seat_alone() {
     let mut round = Round::open(1, &[7]);
-    round.work(&[0; 18]);
-    assert_eq!(round.voter(0), "commit round 3 value 7");
-    assert_eq!(round.counts.to_string(), "15 3 0");
+    round.work(&[0; 11]);
+    assert_eq!(round.voter(0), "commit round 2 value 7");
+    assert_eq!(round.counts.to_string(), "9 2 0");
     let registers = round.poll.registers.clone();
     assert_eq!(round.finish(0), (1, Answer::Committed(7)));
     // No D is written, and nothing is counted.
-    assert_eq!(round.voter(0), "committed 7 round 3");
+    assert_eq!(round.voter(0), "committed 7 round 2");
     assert_eq!(round.poll.registers, registers);
     assert_eq!(round.poll.registers.decision, 0);
-    assert_eq!(round.counts.to_string(), "15 3 0");
+    assert_eq!(round.counts.to_string(), "9 2 0");
 }
 
 #[test]
 fn a_seat_that_comes_later_takes_over_and_commits() {
     let mut round = Round::open(2, &[7]);
-    assert_eq!(round.finish(0), (36, Answer::Committed(7)));
+    assert_eq!(round.finish(0), (19, Answer::Committed(7)));
     assert_eq!(round.poll.propose(1, 8), Ok(()));
-    // The gate, four seeks, the take, five compares, ten checks, the commit.
-    assert_eq!(round.finish(1), (22, Answer::Committed(7)));
+    // The gate, two seeks, the take, three compares, six checks, the commit.
+    assert_eq!(round.finish(1), (14, Answer::Committed(7)));
 }
 
 #[test]
@@ -123,26 +123,26 @@ fn adopted_by_its_own_mark_after_a_commit() {
     let mut round = late_writer();
     round.work(&[1; 3]);
     assert_eq!(round.voter(1), "seek 3 round 2 value 8");
-    round.work(&[1; 10]);
-    assert_eq!(round.voter(1), "check-mark 0 round 5 value 7");
+    round.work(&[1; 6]);
+    assert_eq!(round.voter(1), "check-mark 0 round 3 value 7");
     assert_eq!(round.counts.contested, 1);
     assert!(round.poll.registers.marks[0]);
-    // Four rounds are checked in two turns each, and the fifth is marked.
-    assert_eq!(round.finish(1), (9, Answer::Adopted(7)));
-    assert_eq!(round.voter(1), "adopted 7 round 5");
+    // Two rounds are checked in two turns each, and the third is marked.
+    assert_eq!(round.finish(1), (5, Answer::Adopted(7)));
+    assert_eq!(round.voter(1), "adopted 7 round 3");
 }
 
 #[test]
 fn adopted_by_another_value() {
     let mut round = Round::open(2, &[7, 8]);
     round.work(&[1]);
-    round.work(&[0; 34]);
-    assert_eq!(round.voter(0), "check-value 4 round 5 value 7");
+    round.work(&[0; 17]);
+    assert_eq!(round.voter(0), "check-value 2 round 3 value 7");
     round.work(&[1]);
     let reads = round.counts.reads;
     assert_eq!(round.finish(0), (1, Answer::Adopted(7)));
     assert_eq!(round.counts.reads, reads + 1);
-    assert_eq!(round.voter(0), "adopted 7 round 5");
+    assert_eq!(round.voter(0), "adopted 7 round 3");
 }
 
 #[test]
@@ -150,17 +150,17 @@ fn two_seats_adopt_two_values() {
     let mut round = Round::open(2, &[7, 8]);
     // Side by side to the end, seat 1 always writing last: seat 0 flags every
     // round, once more in each round.
-    for rounds in 1..=5 {
+    for rounds in 1..=3 {
         round.work(&[0, 1, 0, 1]);
         for _ in 0..rounds {
             round.work(&[0, 0, 1]);
         }
     }
-    assert_eq!(round.voter(0), "check-mark 0 round 5 value 7");
-    assert_eq!(round.voter(1), "check-mark 0 round 5 value 8");
+    assert_eq!(round.voter(0), "check-mark 0 round 3 value 7");
+    assert_eq!(round.voter(1), "check-mark 0 round 3 value 8");
     assert_eq!(round.finish(1), (1, Answer::Adopted(8)));
     assert_eq!(round.finish(0), (1, Answer::Adopted(7)));
-    assert_eq!(round.counts.contested, 5);
+    assert_eq!(round.counts.contested, 3);
 }
 
 #[test]
@@ -212,9 +212,9 @@ fn a_full_tally() {
         (Phase::Adopt(3), 2),
         (Phase::Compare(1), 2),
         (Phase::Flag(1), 2),
-        (Phase::CheckMark(1), 5),
-        (Phase::CheckValue(1), 5),
-        (Phase::Commit, 5),
+        (Phase::CheckMark(1), 3),
+        (Phase::CheckValue(1), 3),
+        (Phase::Commit, 3),
     ];
     for ((phase, rounds), place) in phases.into_iter().flat_map(|p| [(p, 0), (p, 1), (p, 2)]) {
         let mut round = Round::open(2, &[7]);
@@ -237,7 +237,7 @@ fn a_tally_one_short_of_full() {
     round.counts.reads = u32::MAX - 1;
     round.work(&[0]);
     round.refused(16, Call::Step { process: 0 });
-    round.poll.voters[0] = walking(Phase::Commit, 3);
+    round.poll.voters[0] = walking(Phase::Commit, 2);
     round.counts.reads = u32::MAX - 1;
     assert_eq!(round.finish(0), (1, Answer::Committed(7)));
     assert_eq!(round.counts.reads, u32::MAX - 1);
@@ -268,7 +268,7 @@ fn damaged(damage: impl Fn(&mut Poll)) {
     }
 }
 
-/// Whether seat 0 of two, window 5, may stand so.
+/// Whether seat 0 of two, window 3, may stand so.
 fn stands(voter: Voter) -> bool {
     let mut round = Round::open(2, &[7]);
     round.poll.voters[0] = voter;
@@ -277,53 +277,53 @@ fn stands(voter: Voter) -> bool {
 
 #[test]
 fn sizes_and_registers() {
-    for n in [0, 5, 65, usize::MAX] {
+    for n in [0, 1, 3, 5, 65, usize::MAX] {
         damaged(|poll| poll.n = n);
     }
-    for limit in [0, 4, 6, 256, u32::MAX] {
+    for limit in [0, 2, 4, 5, 256, u32::MAX] {
         damaged(|poll| poll.limit = limit);
     }
     damaged(|poll| poll.registers.decision = 7);
-    damaged(|poll| poll.registers.values[5] = 1);
+    damaged(|poll| poll.registers.values[3] = 1);
     damaged(|poll| poll.registers.marks[255] = true);
     damaged(|poll| poll.voters[2] = poll.voters[0]);
-    damaged(|poll| poll.voters[63] = Voter::Answered(Answer::Adopted(7), 5));
+    damaged(|poll| poll.voters[63] = Voter::Answered(Answer::Adopted(7), 3));
 }
 
 #[test]
 fn answered_seats_at_round_w() {
     for answer in [Answer::Committed, Answer::Adopted] {
-        assert!(stands(Voter::Answered(answer(7), 5)));
-        for round in [0, 4, 6] {
+        assert!(stands(Voter::Answered(answer(7), 3)));
+        for round in [0, 2, 4, 5] {
             damaged(|poll| poll.voters[0] = Voter::Answered(answer(7), round));
         }
-        damaged(|poll| poll.voters[1] = Voter::Answered(answer(0), 5));
+        damaged(|poll| poll.voters[1] = Voter::Answered(answer(0), 3));
     }
 }
 
 #[test]
 fn the_other_seats() {
-    for round in 0..=4 {
+    for round in 0..=2 {
         assert!(stands(walking(Phase::Waiting, round)));
     }
-    damaged(|poll| poll.voters[0] = walking(Phase::Waiting, 5));
-    damaged(|poll| poll.voters[0] = walking(Phase::Exhausted, 5));
-    damaged(|poll| poll.voters[0] = walking(Phase::Decided, 5));
+    damaged(|poll| poll.voters[0] = walking(Phase::Waiting, 3));
+    damaged(|poll| poll.voters[0] = walking(Phase::Exhausted, 3));
+    damaged(|poll| poll.voters[0] = walking(Phase::Decided, 3));
     damaged(|poll| poll.voters[0] = walking(Phase::Decided, 2));
-    damaged(|poll| poll.voters[0] = walking(Phase::Crashed, 6));
+    damaged(|poll| poll.voters[0] = walking(Phase::Crashed, 4));
     damaged(|poll| poll.voters[0] = walking(Phase::Write, 0));
-    damaged(|poll| poll.voters[0] = walking(Phase::Scan(6), 5));
-    damaged(|poll| poll.voters[0] = walking(Phase::CheckMark(0), 4));
+    damaged(|poll| poll.voters[0] = walking(Phase::Scan(4), 3));
+    damaged(|poll| poll.voters[0] = walking(Phase::CheckMark(0), 2));
     damaged(|poll| poll.voters[0] = walking(Phase::Idle, 0));
-    assert!(stands(walking(Phase::Crashed, 5)) && stands(walking(Phase::Commit, 5)));
-    assert!(stands(walking(Phase::Adopt(5), 5)) && stands(walking(Phase::Scan(5), 4)));
+    assert!(stands(walking(Phase::Crashed, 3)) && stands(walking(Phase::Commit, 3)));
+    assert!(stands(walking(Phase::Adopt(3), 3)) && stands(walking(Phase::Scan(3), 2)));
 }
 
 #[test]
 fn sessions_taken_for_polls() {
     let poll_of = |case: &Case| Poll::of(&case.session).is_sound();
     assert!(poll_of(&Case::contested()));
-    assert!(!poll_of(&Case::open(2, 6)));
+    assert!(!poll_of(&Case::open(2, 4)));
     // At the gate in round L with D filled; with D blank; decided; spent.
     let mut case = Case::at_last_gate();
     assert!(!poll_of(&case));
@@ -341,7 +341,7 @@ fn sessions_taken_for_polls() {
 fn polls_taken_for_sessions() {
     let mut round = Round::open(2, &[7, 8]);
     round.work(&[1]);
-    round.work(&[0; 35]);
+    round.work(&[0; 18]);
     for process in [0, 1] {
         let session = round.poll.session().expect("no seat has answered");
         assert!(session.read_process(process).is_ok());
@@ -357,21 +357,21 @@ fn polls_taken_for_sessions() {
 #[test]
 fn text_of_two_polls() {
     let mut calls = vec![raw(0, 0, 7), raw(0, 1, 8), raw(1, 1, 99), raw(3, 0, 0)];
-    calls.extend([raw(1, 0, 0); 36]);
+    calls.extend([raw(1, 0, 0); 19]);
     calls.extend([raw(255, 1, 0), raw(2, 1, 5), raw(1, 1, 0), raw(0, 9, 1)]);
     let refused = poll_bytes(65, &[raw(0, 0, 7)]);
     let text = polls(&[poll_bytes(2, &calls), refused].concat());
     let lines: Vec<&str> = text.lines().collect();
     let first = "poll 2 0, propose 0 7 0, propose 1 8 0, turn 1 0 none, session 0 0";
     assert_eq!(lines[..5].join(", "), first);
-    assert_eq!(lines[5..40], ["turn 0 0 none"; 35]);
+    assert_eq!(lines[5..23], ["turn 0 0 none"; 18]);
     let last = "turn 0 0 committed 7, session 1 3, crash 1 0, turn 1 8 none, propose 9 1 4";
-    assert_eq!(lines[40..45].join(", "), last);
-    assert_eq!(lines[45], "tally 31 5 0");
-    let rounds: Vec<String> = (1..=5).map(|r| format!("round {r} 7 unmarked")).collect();
-    assert_eq!(lines[46..51], rounds);
+    assert_eq!(lines[23..28].join(", "), last);
+    assert_eq!(lines[28], "tally 16 3 0");
+    let rounds: Vec<String> = (1..=3).map(|r| format!("round {r} 7 unmarked")).collect();
+    assert_eq!(lines[29..32], rounds);
     let end = "seat 0 committed 7, seat 1 crashed, poll 65 1";
-    assert_eq!(lines[51..].join(", "), end);
+    assert_eq!(lines[32..].join(", "), end);
 }
 
 #[test]
@@ -380,8 +380,8 @@ fn text_of_marked_rounds_and_adopted_seats() {
     let answer = round.finish(1).1;
     assert_eq!(answer.to_string(), "adopted 7");
     let mut calls = vec![raw(0, 0, 7), raw(0, 1, 8), raw(1, 1, 0)];
-    calls.extend([raw(1, 0, 0); 36]);
-    calls.extend([raw(1, 1, 0); 22]);
+    calls.extend([raw(1, 0, 0); 19]);
+    calls.extend([raw(1, 1, 0); 14]);
     let text = polls(&poll_bytes(2, &calls));
     for line in ["turn 1 0 adopted 7", "round 1 8 marked", "seat 1 adopted 7"] {
         assert!(text.contains(&format!("\n{line}\n")), "{line}\n{text}");
@@ -391,7 +391,7 @@ fn text_of_marked_rounds_and_adopted_seats() {
 #[test]
 fn bytes_that_end_early() {
     let bytes = poll_bytes(1, &[raw(0, 0, 7), raw(1, 0, 0)]);
-    let end = "tally 0 0 0\nround 1 0 unmarked\nround 2 0 unmarked\nround 3 0 unmarked\n";
+    let end = "tally 0 0 0\nround 1 0 unmarked\nround 2 0 unmarked\n";
     for length in 9..15 {
         let text = format!("poll 1 0\npropose 0 7 0\n{end}seat 0 working 0 7\n");
         assert_eq!(polls(&bytes[..length]), text);

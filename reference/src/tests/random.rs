@@ -116,7 +116,7 @@ fn random_list(seed: u64, length: usize) -> (Case, Vec<[u8; 6]>, History) {
 #[test]
 fn agreement_soundness_and_counts_on_random_lists() {
     let (mut commits, mut first, mut second) = (0, 0, 0);
-    for seed in 0..300 {
+    for seed in 0..400 {
         let history = random_list(seed, 600).2;
         commits += history.committed.len();
         first += history.disputed();

@@ -15,14 +15,14 @@ fn answer(bytes: &[u8]) -> u32 {
 
 /// The answer to a header with pairs and `spare` bytes of 0 after them.
 fn of_pairs(pairs: &[(u16, u16)], spare: usize) -> u32 {
-    let mut bytes = header(1, 3, pairs);
+    let mut bytes = header(1, 2, pairs);
     bytes.extend(vec![0; spare]);
     answer(&bytes)
 }
 
-/// The answer to one run of entries, for two seats with L = 5.
+/// The answer to one run of entries, for two seats with L = 3.
 fn of_entries(entries: &[[u8; 6]]) -> u32 {
-    answer(&sheet(2, 5, entries))
+    answer(&sheet(2, 3, entries))
 }
 
 fn decided(bytes: &[u8], budget: u64) -> (u32, [u8; 256]) {
@@ -33,11 +33,11 @@ fn decided(bytes: &[u8], budget: u64) -> (u32, [u8; 256]) {
 
 #[test]
 fn ten() {
-    assert_eq!(answer(&[1, 0, 3]), 10);
-    assert_eq!(answer(&header(1, 3, &[(72, 0); 17])), 10);
-    assert_eq!(answer(&header(1, 3, &[(68, 0); 16])), 0);
-    assert_eq!(answer(&header(1, 3, &[(8, 0)])[..7]), 10);
-    let mut longest = header(1, 3, &[]);
+    assert_eq!(answer(&[1, 0, 2]), 10);
+    assert_eq!(answer(&header(1, 2, &[(72, 0); 17])), 10);
+    assert_eq!(answer(&header(1, 2, &[(68, 0); 16])), 0);
+    assert_eq!(answer(&header(1, 2, &[(8, 0)])[..7]), 10);
+    let mut longest = header(1, 2, &[]);
     longest.resize(65_535, 9);
     assert_eq!(answer(&longest), 0);
     longest.push(9);
@@ -51,17 +51,18 @@ fn ten_before_one_before_two() {
     assert_eq!(answer(&[0, 1, 0, 0]), 10);
     assert_eq!(answer(&[0, 0, 0, 0]), 1);
     assert_eq!(answer(&[65, 0, 0, 1]), 1);
-    assert_eq!(answer(&[1, 0, 2, 0]), 2);
+    assert_eq!(answer(&[1, 0, 1, 0]), 2);
+    assert_eq!(answer(&[1, 0, 2, 0]), 0);
     assert_eq!(answer(&[1, 0, 0, 1]), 0);
     assert_eq!(answer(&[1, 0, 1, 1]), 2);
-    assert_eq!(answer(&[64, 0, 16, 0]), 2);
-    assert_eq!(answer(&[64, 0, 17, 0]), 0);
+    assert_eq!(answer(&[64, 0, 15, 0]), 2);
+    assert_eq!(answer(&[64, 0, 16, 0]), 0);
 }
 
 #[test]
 fn one_and_two_before_eleven() {
-    assert_eq!(answer(&header(0, 3, &[(0, 0)])), 1);
-    assert_eq!(answer(&header(1, 2, &[(0, 1)])), 2);
+    assert_eq!(answer(&header(0, 2, &[(0, 0)])), 1);
+    assert_eq!(answer(&header(1, 1, &[(0, 1)])), 2);
 }
 
 #[test]
@@ -112,14 +113,14 @@ fn entries_refused_by_their_operation() {
 #[test]
 fn entries_of_a_spent_seat() {
     let mut committed = vec![raw(0, 0, 7)];
-    committed.extend([raw(1, 0, YES); 19]);
+    committed.extend([raw(1, 0, YES); 12]);
     for hint in [0, YES] {
         let spent = [&committed[..], &[raw(1, 0, hint)]].concat();
-        assert_eq!(answer(&sheet(1, 3, &spent)), 0);
-        assert!(report(&sheet(1, 3, &spent)).ends_with("seat 0 spent 7\n"));
+        assert_eq!(answer(&sheet(1, 2, &spent)), 0);
+        assert!(report(&sheet(1, 2, &spent)).ends_with("seat 0 spent 7\n"));
         for later in [0, YES] {
             let entries = [&spent[..], &[raw(1, 0, later)]].concat();
-            assert_eq!(answer(&sheet(1, 3, &entries)), 9);
+            assert_eq!(answer(&sheet(1, 2, &entries)), 9);
         }
     }
 }
@@ -137,19 +138,19 @@ fn fifteen_first() {
 #[test]
 fn budgets() {
     let bytes = report_sheet();
-    for budget in 0..=20 {
+    for budget in 0..=13 {
         assert_eq!(decided(&bytes, budget), (100, [0; 256]));
     }
     let mut seven = [0; 256];
     seven[0] = 7;
-    for budget in [21, 22, u64::from(u32::MAX) + 1, u64::MAX] {
+    for budget in [14, 15, u64::from(u32::MAX) + 1, u64::MAX] {
         assert_eq!(decided(&bytes, budget), (0, seven));
     }
 }
 
 #[test]
 fn the_entry_after_the_budget_is_not_tried() {
-    let bytes = sheet(1, 3, &[raw(0, 0, 7), raw(9, 9, 9)]);
+    let bytes = sheet(1, 2, &[raw(0, 0, 7), raw(9, 9, 9)]);
     assert_eq!(decided(&bytes, 1).0, 100);
     assert_eq!(decided(&bytes, 2).0, 13);
 }
@@ -157,19 +158,19 @@ fn the_entry_after_the_budget_is_not_tried() {
 #[test]
 fn a_refused_entry_leaves_what_came_before() {
     let mut bytes = report_sheet();
-    bytes[6..8].copy_from_slice(&(126u16 + 12).to_le_bytes());
+    bytes[6..8].copy_from_slice(&(84u16 + 12).to_le_bytes());
     bytes.extend(raw(2, 0, 0));
     bytes.extend(raw(0, 0, 1));
     let mut seven = [0; 256];
     seven[0] = 7;
     assert_eq!(decided(&bytes, u64::MAX), (8, seven));
-    let text = "outcome refused 8 21\ntally 16 4 0\nboard 3 7\nseat 0 decided 7\n";
+    let text = "outcome refused 8 14\ntally 10 3 0\nboard 2 7\nseat 0 decided 7\n";
     assert_eq!(report(&bytes), text);
 }
 
 #[test]
 fn runs_are_read_in_order_past_ignored_bytes() {
-    let mut bytes = header(2, 5, &[(17, 6), (23, 0), (25, 12)]);
+    let mut bytes = header(2, 3, &[(17, 6), (23, 0), (25, 12)]);
     bytes.push(200);
     bytes.extend(raw(0, 1, 7));
     bytes.extend([200, 200]);
@@ -188,14 +189,14 @@ fn runs_are_read_in_order_past_ignored_bytes() {
 #[test]
 fn report_of_every_kind_of_seat() {
     let mut entries = vec![raw(0, 0, 7), raw(0, 1, 8), raw(0, 2, 9), raw(3, 2, 0)];
-    // Seven rounds of 2 + r turns, fourteen checks, the commit.
-    entries.extend([raw(1, 0, YES); 57]);
+    // Five rounds of 2 + r turns, ten checks, the commit.
+    entries.extend([raw(1, 0, YES); 36]);
     entries.push(raw(2, 1, 0));
     entries.push(raw(0, 3, 5));
     entries.push(raw(1, 3, YES));
-    let text = report(&sheet(5, 7, &entries[..entries.len() - 3]));
+    let text = report(&sheet(5, 5, &entries[..entries.len() - 3]));
     let lines: Vec<&str> = text.lines().collect();
-    assert_eq!(lines[2..4], ["board 7 7", "seat 0 working 7 7"]);
+    assert_eq!(lines[2..4], ["board 5 7", "seat 0 working 5 7"]);
     assert_eq!(
         lines[4..],
         [
@@ -205,10 +206,10 @@ fn report_of_every_kind_of_seat() {
             "seat 4 out"
         ]
     );
-    entries.insert(61, raw(1, 0, YES));
-    let text = report(&sheet(5, 7, &entries));
+    entries.insert(40, raw(1, 0, YES));
+    let text = report(&sheet(5, 5, &entries));
     let lines: Vec<&str> = text.lines().collect();
-    assert_eq!(lines[0], "outcome finished 65");
+    assert_eq!(lines[0], "outcome finished 44");
     assert_eq!(lines[3..5], ["seat 0 spent 7", "seat 1 decided 7"]);
     assert_eq!(
         lines[5..],
@@ -220,7 +221,7 @@ fn report_of_every_kind_of_seat() {
 fn the_longest_sheet_is_carried_out_whole() {
     let mut entries = vec![raw(0, 0, 7)];
     entries.resize(10_921, raw(1, 0, 0));
-    let mut bytes = sheet(1, 3, &entries);
+    let mut bytes = sheet(1, 2, &entries);
     bytes.push(0);
     assert_eq!(bytes.len(), 65_535);
     assert!(report(&bytes).starts_with("outcome finished 10921\ntally 0 0 0\n"));
@@ -239,7 +240,7 @@ fn columns(text: &str) -> Vec<Vec<&str>> {
 fn trace_of_a_refused_entry() {
     let bytes = sheet(
         2,
-        5,
+        3,
         &[raw(0, 0, 7), raw(1, 0, YES), raw(9, 1, 4), raw(2, 0, 0)],
     );
     let text = trace(&bytes);
@@ -264,26 +265,26 @@ fn trace_of_a_refused_entry() {
 }
 
 #[test]
-fn trace_of_the_sheet_of_134_bytes() {
+fn trace_of_the_sheet_of_92_bytes() {
     let text = trace(&report_sheet());
     let lines: Vec<&str> = text.lines().collect();
-    assert_eq!(lines.len(), 21);
+    assert_eq!(lines.len(), 14);
     let rows = columns(&text);
     assert_eq!(
-        rows[13][2..],
+        rows[8][2..],
         [
-            "C[3] read unmarked",
-            "check-value 0 round 3 value 7",
-            "10 3 0"
+            "C[2] read unmarked",
+            "check-value 0 round 2 value 7",
+            "6 2 0"
         ]
     );
     assert_eq!(
-        rows[19][2..],
-        ["D written 7", "gate round 3 value 7", "15 4 0"]
+        rows[12][2..],
+        ["D written 7", "gate round 2 value 7", "9 3 0"]
     );
     assert_eq!(
-        rows[20][2..],
-        ["D read 7", "decided round 3 value 7", "16 4 0"]
+        rows[13][2..],
+        ["D read 7", "decided round 2 value 7", "10 3 0"]
     );
     let bars = |line: &str| -> Vec<usize> { line.match_indices('|').map(|(at, _)| at).collect() };
     assert!(lines.iter().all(|line| bars(line) == bars(lines[0])));
@@ -294,7 +295,7 @@ fn trace_of_the_contested_case() {
     let mut entries = vec![raw(0, 0, 3), raw(0, 1, 8)];
     entries.extend([0, 1, 0, 1, 0, 0, 1, 0, 0, 1, 1, 1].map(|process| raw(1, process, YES)));
     entries.push(raw(2, 1, 0));
-    let text = trace(&sheet(2, 5, &entries));
+    let text = trace(&sheet(2, 3, &entries));
     let lines = columns(&text);
     for (index, expected) in [
         (5, ["T[1] written 8", "compare 0 round 1 value 8", "2 2 0"]),
@@ -310,7 +311,7 @@ fn trace_of_the_contested_case() {
 
 #[test]
 fn traces_of_many_sheets() {
-    let sheets = [report_sheet(), vec![], sheet(1, 3, &[raw(0, 0, 5)])];
+    let sheets = [report_sheet(), vec![], sheet(1, 2, &[raw(0, 0, 5)])];
     let mut input = Vec::new();
     for bytes in &sheets {
         input.extend((bytes.len() as u16).to_le_bytes());

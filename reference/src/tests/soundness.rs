@@ -1,9 +1,9 @@
 //! Damaged sessions, each clause of 01, "A session is sound if".
 
 use super::*;
-use crate::Phase;
+use crate::{window, Phase};
 
-/// A session of two seats, window 5, limit 10; seat 0 at gate in round 6.
+/// A session of two seats, window 3, limit 10; seat 0 at gate in round 6.
 fn sample() -> Session {
     let mut session = Session::open(2, 10).expect("an opening within bounds");
     session.propose(0, 7).expect("a first proposal");
@@ -52,10 +52,22 @@ fn sizes() {
     damaged(|session| session.n = 0);
     damaged(|session| session.n = 65);
     damaged(|session| session.n = usize::MAX);
-    damaged(|session| session.limit = 4);
+    damaged(|session| session.limit = 2);
     damaged(|session| session.limit = 257);
     damaged(|session| session.limit = 0);
     damaged(|session| session.limit = u32::MAX);
+}
+
+#[test]
+fn limits_at_the_window_of_every_n() {
+    for n in 1..=64 {
+        let mut session = Session::open(n, 256).expect("an opening within bounds");
+        session.limit = window(n);
+        assert!(session.is_sound(), "n = {n}");
+        session.limit = window(n) - 1;
+        assert!(!session.is_sound(), "n = {n}");
+        refuses_everything(session);
+    }
 }
 
 #[test]
@@ -107,14 +119,15 @@ fn places_in_the_walk() {
     assert!(!stands(Phase::Adopt(11), 10));
     for phase in [Phase::Compare, Phase::Flag] {
         assert!(!stands(phase(0), 0) && stands(phase(0), 1));
-        assert!(!stands(phase(1), 1) && stands(phase(3), 4));
-        assert!(stands(phase(4), 10) && !stands(phase(5), 10));
+        assert!(!stands(phase(1), 1) && stands(phase(1), 2));
+        assert!(!stands(phase(2), 2) && stands(phase(2), 3));
+        assert!(stands(phase(2), 10) && !stands(phase(3), 10));
     }
     for phase in [Phase::CheckMark, Phase::CheckValue] {
-        assert!(!stands(phase(0), 4) && stands(phase(0), 5));
-        assert!(stands(phase(4), 5) && !stands(phase(5), 10));
+        assert!(!stands(phase(0), 2) && stands(phase(0), 3));
+        assert!(stands(phase(2), 3) && !stands(phase(3), 10));
     }
-    assert!(!stands(Phase::Commit, 4) && stands(Phase::Commit, 5));
+    assert!(!stands(Phase::Commit, 2) && stands(Phase::Commit, 3));
     assert!(!stands(Phase::Exhausted, 9) && stands(Phase::Exhausted, 10));
     assert!(stands(Phase::Crashed, 0) && stands(Phase::Decided, 10));
     assert!(!stands(Phase::Crashed, 11) && !stands(Phase::Decided, 11));

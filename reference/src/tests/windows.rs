@@ -10,12 +10,12 @@ fn refused<T>(answer: Result<T, Refusal>) -> Option<u32> {
 #[test]
 fn openings() {
     let at = |window, n, limit| refused(Session::open_at(window, n, limit));
-    assert_eq!(refused(Session::open(2, 3)), Some(2));
-    assert_eq!(at(2, 2, 3), None);
-    assert_eq!(at(2, 2, 2), None);
-    assert_eq!(at(2, 2, 1), Some(2));
-    assert_eq!(at(2, 2, 256), None);
-    assert_eq!(at(2, 2, 257), Some(2));
+    assert_eq!(refused(Session::open(3, 3)), Some(2));
+    assert_eq!(at(2, 3, 3), None);
+    assert_eq!(at(2, 3, 2), None);
+    assert_eq!(at(2, 3, 1), Some(2));
+    assert_eq!(at(2, 3, 256), None);
+    assert_eq!(at(2, 3, 257), Some(2));
     assert_eq!(at(256, 64, 256), None);
     assert_eq!(at(257, 64, 257), Some(2));
     assert_eq!(at(u32::MAX, 1, usize::MAX), Some(2));
@@ -27,7 +27,7 @@ fn openings() {
 #[test]
 fn openings_in_service_are_at_its_window() {
     for n in 1..=64 {
-        for limit in [0, 2, 3, 5, 6, 16, 17, 256, 257] {
+        for limit in [0, 1, 2, 3, 4, 5, 6, 15, 16, 17, 256, 257] {
             let at = Session::open_at(window(n), n, limit);
             assert_eq!(Session::open(n, limit), at);
         }
@@ -35,9 +35,10 @@ fn openings_in_service_are_at_its_window() {
     }
 }
 
-/// One process that has proposed 7, with L = 3, and stands so.
+/// One process of three, whose window in service is 4, with L = 3. It has proposed 7
+/// and stands so.
 fn standing(phase: Phase, round: u32) -> Session {
-    let mut session = Session::open_at(2, 2, 3).expect("an opening within bounds");
+    let mut session = Session::open_at(2, 3, 3).expect("an opening within bounds");
     session.processes[0] = Process {
         phase,
         round,
@@ -98,24 +99,32 @@ fn calls_at_another_window_are_refused() {
     assert_eq!(codes, [Some(5), None, Some(7), Some(4)]);
 }
 
-/// 02, wish 8, has this window in service: "12 work turns to the commit, 9 reads, 3
-/// writes".
-#[test]
-fn one_seat_alone_at_window_two() {
-    let mut session = Session::open_at(2, 1, 2).expect("an opening within bounds");
+/// One seat alone until its commit, with L = W: the turns and the tally.
+fn alone_at(window: u32) -> (u32, String) {
+    let opened = Session::open_at(window, 1, window as usize);
+    let mut session = opened.expect("an opening within bounds");
     let mut counts = Counts::default();
     let propose = Operation::Propose {
         process: 0,
         value: 7,
     };
-    assert_eq!(session.apply_at(2, propose, &mut counts), Ok(()));
-    for _ in 0..11 {
-        assert_eq!(session.step_at(2, 0, true, &mut counts), Ok(()));
+    assert_eq!(session.apply_at(window, propose, &mut counts), Ok(()));
+    let mut turns = 0;
+    while session.registers.decision == 0 {
+        assert_eq!(session.step_at(window, 0, true, &mut counts), Ok(()));
+        turns += 1;
     }
-    assert_eq!(session.processes[0].to_string(), "commit round 2 value 7");
-    assert_eq!(session.step_at(2, 0, true, &mut counts), Ok(()));
-    assert_eq!(session.registers.decision, 7);
-    assert_eq!(counts.to_string(), "9 3 0");
+    let words = format!("gate round {window} value 7");
+    assert_eq!(session.processes[0].to_string(), words);
+    (turns, counts.to_string())
+}
+
+/// 02, wish 8: "12 work turns to the commit, 9 reads, 3 writes". 01 had the window 3 in
+/// service: "after 19 D is 7, 15 reads, 4 writes".
+#[test]
+fn one_seat_alone_now_and_before() {
+    assert_eq!(alone_at(2), (12, "9 3 0".to_string()));
+    assert_eq!(alone_at(3), (19, "15 4 0".to_string()));
 }
 
 #[test]
@@ -123,7 +132,8 @@ fn a_poll_at_window_two() {
     let opened = |window, n| refused(Poll::open_at(window, n));
     assert_eq!([opened(2, 0), opened(257, 65)], [Some(1), Some(1)]);
     assert_eq!([opened(256, 64), opened(257, 64)], [None, Some(2)]);
-    let mut poll = Poll::open_at(2, 1).expect("an opening within bounds");
+    // Of two processes, whose window in service is 3.
+    let mut poll = Poll::open_at(2, 2).expect("an opening within bounds");
     let mut counts = Counts::default();
     assert_eq!(poll.limit, 2);
     assert!(poll.is_sound_at(2) && !poll.is_sound());
@@ -144,7 +154,7 @@ fn a_poll_at_window_two() {
 
 #[test]
 fn a_poll_at_another_window_is_refused() {
-    let mut poll = Poll::open_at(2, 1).expect("an opening within bounds");
+    let mut poll = Poll::open_at(2, 2).expect("an opening within bounds");
     let before = poll.clone();
     let mut counts = Counts::default();
     for window in [1, 3] {
@@ -163,22 +173,38 @@ fn a_poll_at_another_window_is_refused() {
 #[test]
 fn traces_at_a_window() {
     let bytes = report_sheet();
-    assert_eq!(trace_at(3, &bytes), trace(&bytes));
-    assert_eq!(trace_at(4, &bytes), "sheet refused 2\n");
+    assert_eq!(trace_at(2, &bytes), trace(&bytes));
+    assert_eq!(trace_at(3, &bytes), "sheet refused 2\n");
     assert_eq!(trace_at(u32::MAX, &bytes), "sheet refused 2\n");
     assert_eq!(trace_at(2, &[]), "sheet refused 10\n");
-    let mut entries = vec![raw(0, 0, 7)];
-    entries.extend([raw(1, 0, YES); 12]);
-    entries.push(raw(2, 0, 0));
-    let bytes = sheet(1, 2, &entries);
+    // The same of two seats, whose window in service is 3.
+    let bytes = [&[2], &bytes[1..]].concat();
     assert_eq!(trace(&bytes), "sheet refused 2\n");
     let text = trace_at(2, &bytes);
-    let written: Vec<&str> = text
-        .lines()
-        .filter(|line| line.contains("D written"))
-        .collect();
     let line = "   12 | work 0 yes               | D written 7               | gate round 2 value 7                     | 9 3 0";
-    assert_eq!(written, [line]);
+    assert_eq!(commits(&text), [line]);
     let last = text.lines().last().expect("a line for each entry");
     assert!(last.ends_with("| decided round 2 value 7                  | 10 3 0"));
+}
+
+/// The lines of a trace in which D is written.
+fn commits(text: &str) -> Vec<&str> {
+    let lines = text.lines();
+    lines.filter(|line| line.contains("D written")).collect()
+}
+
+/// The sheet of 134 bytes in 01, at the window that it had then and at the one in
+/// service.
+#[test]
+fn traces_of_one_sheet_at_two_windows() {
+    let bytes = report_sheet_before();
+    let (before, now) = (trace_at(3, &bytes), trace(&bytes));
+    let line = "   19 | work 0 yes               | D written 7               | gate round 3 value 7                     | 15 4 0";
+    assert_eq!(commits(&before), [line]);
+    let line = "   12 | work 0 yes               | D written 7               | gate round 2 value 7                     | 9 3 0";
+    assert_eq!(commits(&now), [line]);
+    for text in [before, now] {
+        let last = text.lines().last().expect("a line for each entry");
+        assert!(last.ends_with("| decided round 3 value 7                  | 16 4 0"));
+    }
 }

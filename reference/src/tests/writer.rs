@@ -28,7 +28,7 @@ fn refused(code: u32, size: (usize, usize), entries: &[u8], runs: &[usize], leng
 
 /// The call is refused with 17 even where there is room for every sheet.
 fn refused_cuts(entries: usize, runs: &[usize]) {
-    refused(17, (1, 3), &looks(entries), runs, 70_000);
+    refused(17, (1, 2), &looks(entries), runs, 70_000);
 }
 
 /// So many entries, each a look of seat 0.
@@ -81,17 +81,17 @@ fn round_trips((n, limit): (usize, usize), runs: &[usize]) {
 
 #[test]
 fn the_empty_sheet() {
-    assert_eq!(written((1, 3), &[], &[]), [1, 0, 3, 0]);
+    assert_eq!(written((1, 2), &[], &[]), [1, 0, 2, 0]);
     assert_eq!(written((64, 256), &[], &[]), [64, 0, 0, 1]);
 }
 
 #[test]
 fn one_run() {
     let entries = [raw(0, 1, 7), raw(1, 1, YES), raw(2, 9, 0), raw(3, 255, 0)];
-    let bytes = written((2, 5), &entries.concat(), &[4]);
-    assert_eq!(bytes, sheet(2, 5, &entries));
+    let bytes = written((2, 3), &entries.concat(), &[4]);
+    assert_eq!(bytes, sheet(2, 3, &entries));
     let report = report_sheet();
-    assert_eq!(written((1, 3), &report[8..], &[21]), report);
+    assert_eq!(written((1, 2), &report[8..], &[14]), report);
 }
 
 #[test]
@@ -103,12 +103,12 @@ fn three_runs() {
 
 #[test]
 fn runs_of_length_0() {
-    let mut expected = header(1, 3, &[(20, 0), (20, 6), (26, 0), (26, 0)]);
+    let mut expected = header(1, 2, &[(20, 0), (20, 6), (26, 0), (26, 0)]);
     expected.extend(looks(1));
-    assert_eq!(written((1, 3), &looks(1), &[0, 1, 0, 0]), expected);
-    assert_eq!(written((1, 3), &[], &[0]), header(1, 3, &[(8, 0)]));
-    let sixteen = header(1, 3, &[(68, 0); 16]);
-    assert_eq!(written((1, 3), &[], &[0; 16]), sixteen);
+    assert_eq!(written((1, 2), &looks(1), &[0, 1, 0, 0]), expected);
+    assert_eq!(written((1, 2), &[], &[0]), header(1, 2, &[(8, 0)]));
+    let sixteen = header(1, 2, &[(68, 0); 16]);
+    assert_eq!(written((1, 2), &[], &[0; 16]), sixteen);
 }
 
 #[test]
@@ -125,12 +125,12 @@ fn round_trips_with_the_reader() {
 
 #[test]
 fn the_longest_sheets() {
-    round_trips((1, 3), &[10_921]);
+    round_trips((1, 2), &[10_921]);
     round_trips(
         (64, 256),
         &[10_906, 0, 5, 0, 0, 0, 0, 0, 0, 0, 0, 0, 0, 0, 0, 0],
     );
-    assert_eq!(written((1, 3), &looks(10_921), &[10_921]).len(), 65_534);
+    assert_eq!(written((1, 2), &looks(10_921), &[10_921]).len(), 65_534);
     // An entry more, in one run, in three and in sixteen.
     refused_cuts(10_922, &[10_922]);
     refused_cuts(10_920, &[10_918, 1, 1]);
@@ -143,16 +143,25 @@ fn one_and_two() {
     for n in [0, 65, 66, 257, 65_537, (1 << 32) + 1, usize::MAX] {
         refused(1, (n, 256), &[], &[], 4);
     }
-    for limit in [0, 4, 257, 65_541, (1 << 32) + 5, usize::MAX] {
+    for limit in [0, 2, 257, 65_539, (1 << 32) + 3, usize::MAX] {
         refused(2, (2, limit), &[], &[], 4);
     }
-    refused(2, (64, 16), &[], &[], 4);
+    refused(2, (64, 15), &[], &[], 4);
+}
+
+#[test]
+fn the_least_limit_of_every_n() {
+    for n in 1..=64 {
+        let least = crate::window(n) as usize;
+        assert_eq!(written((n, least), &[], &[]), [n as u8, 0, least as u8, 0]);
+        refused(2, (n, least - 1), &[], &[], 4);
+    }
 }
 
 #[test]
 fn twelve() {
     for length in [1, 2, 3, 4, 5, 7, 11, 13] {
-        refused(12, (1, 3), &looks(3)[..length], &[length / 6], 100);
+        refused(12, (1, 2), &looks(3)[..length], &[length / 6], 100);
     }
 }
 
@@ -203,7 +212,7 @@ fn thirteen_at_every_place() {
         for place in 0..5 {
             let mut entries = looks(5);
             entries[6 * place..6 * place + 6].copy_from_slice(&entry);
-            refused(13, (1, 3), &entries, &[2, 3], 100);
+            refused(13, (1, 2), &entries, &[2, 3], 100);
         }
     }
     // Neither a seat that is not there nor a proposal of 0 is malformed.
@@ -213,7 +222,7 @@ fn thirteen_at_every_place() {
 
 /// One run of these entries is read back.
 fn round_trip_of(entries: &[u8]) {
-    let bytes = written((1, 3), entries, &[entries.len() / 6]);
+    let bytes = written((1, 2), entries, &[entries.len() / 6]);
     assert_eq!(read(&bytes).2, entries);
 }
 
@@ -222,7 +231,7 @@ fn thirteen_where_the_reader_has_it() {
     let values = [0, 1, 2, 255, 256, 1 << 16, 1 << 24, 1 << 31, u32::MAX];
     for (kind, value) in (0..=255).flat_map(|kind| values.map(|value| (kind, value))) {
         let entry = raw(kind, 0, value);
-        let answer = answer((1, 3), &entry, &[1], 14).0;
+        let answer = answer((1, 2), &entry, &[1], 14).0;
         let expected = Operation::decode(&entry).map(|_| 14);
         assert_eq!(answer, expected.map_err(Refusal::code));
     }
@@ -233,14 +242,14 @@ fn each_number_before_the_next() {
     let wrong = raw(9, 0, 0);
     refused(1, (0, 0), &wrong[..5], &[2], 0);
     refused(1, (65, 257), &[], &[], 4);
-    refused(2, (1, 2), &wrong[..5], &[2], 0);
+    refused(2, (1, 1), &wrong[..5], &[2], 0);
     refused(2, (1, 257), &looks(1)[..5], &[0], 100);
-    refused(12, (1, 3), &wrong[..5], &[2], 0);
-    refused(12, (1, 3), &looks(2)[..11], &[0; 17], 100);
-    refused(17, (1, 3), &wrong, &[2], 0);
-    refused(17, (1, 3), &wrong, &[0; 17], 100);
-    refused(17, (1, 3), &wrong.repeat(10_922), &[10_922], 70_000);
-    refused(13, (1, 3), &wrong, &[1], 0);
-    refused(13, (1, 3), &wrong, &[1], 13);
-    refused(13, (1, 3), &wrong, &[1], 14);
+    refused(12, (1, 2), &wrong[..5], &[2], 0);
+    refused(12, (1, 2), &looks(2)[..11], &[0; 17], 100);
+    refused(17, (1, 2), &wrong, &[2], 0);
+    refused(17, (1, 2), &wrong, &[0; 17], 100);
+    refused(17, (1, 2), &wrong.repeat(10_922), &[10_922], 70_000);
+    refused(13, (1, 2), &wrong, &[1], 0);
+    refused(13, (1, 2), &wrong, &[1], 13);
+    refused(13, (1, 2), &wrong, &[1], 14);
 }
