@@ -1,4 +1,4 @@
--- Document 01, "The board and the seats": the window W.
+-- Document 01, "The board and the seats", and 02, wish 8: the window W.
 use Prim.Native.Nat.{ℕ, suc, zero, _+_, _*_}
 use mathlib.Core.Bool.{cond}
 use lib.Dec.{leb}

@@ -16,21 +16,6 @@ pub root-square : (n : ℕ) → n ≤ rootUp n * rootUp n
 unfolding rootUp
 root-square n = root-from-square n 0 n (omega (arith, le-square n))
 
--- A window whose square is at least 4n is at least 2, where there is a process.
-pub wide-enough : (W n : ℕ) → 1 ≤ n → 4 * n ≤ W * W → 2 ≤ W
-wide-enough zero n some square = absurd (omega arith)
-wide-enough (suc zero) n some square = absurd (omega arith)
-wide-enough (suc (suc W)) n some square = omega arith
-
--- The window's square is at least 4n: all that the agreement rule asks of a window.
-pub window-square : (n : ℕ) → 4 * n ≤ window n * window n
-unfolding window
-window-square n = root-square (4 * n)
-
--- The window of one process or more is at least 2.
-pub window-least : (n : ℕ) → 1 ≤ n → 2 ≤ window n
-window-least n some = wide-enough (window n) n some (window-square n)
-
 -- The number found is at most m + k, if the square of m + k is at least n.
 root-from-smallest : (fuel m k n : ℕ) → n ≤ (m + k) * (m + k) → rootFrom fuel m n ≤ m + k
 unfolding rootFrom
@@ -44,10 +29,25 @@ pub root-smallest : (m n : ℕ) → n ≤ m * m → rootUp n ≤ m
 unfolding rootUp
 root-smallest m n h = omega (arith, root-from-smallest n 0 m n (omega arith))
 
+-- A window whose square is at least 4n is at least 2, where there is a process.
+pub wide-enough : (W n : ℕ) → 1 ≤ n → 4 * n ≤ W * W → 2 ≤ W
+wide-enough zero n some square = absurd (omega arith)
+wide-enough (suc zero) n some square = absurd (omega arith)
+wide-enough (suc (suc W)) n some square = omega arith
+
+-- The window's square is at least 4n: all that the agreement rule asks of a window.
+pub window-square : (n : ℕ) → 4 * n ≤ window n * window n
+unfolding window
+window-square n = root-square (4 * n)
+
 -- And no smaller number than the window has such a square: 02, wish 8, "the smallest whole number with W times W at least 4n".
 pub window-smallest : (W n : ℕ) → 4 * n ≤ W * W → window n ≤ W
 unfolding window
 window-smallest W n wide = root-smallest W (4 * n) wide
+
+-- The window of one process or more is at least 2.
+pub window-least : (n : ℕ) → 1 ≤ n → 2 ≤ window n
+window-least n some = wide-enough (window n) n some (window-square n)
 
 -- The window is at most twice the number of processes and one: no more than the rounds that a session holds.
 pub window-low : (n : ℕ) → window n ≤ 2 * n + 1
