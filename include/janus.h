@@ -205,8 +205,10 @@ static inline const char *janus_result_text(uint32_t number)
  *   work turns      12     19     27     36     46     57     69     82     96    111    127    144    162    181    201
  *
  *   W is the smallest whole number with W times W at least 4n (up to version 1.2: 2 times the root of n, rounded up, plus 1). No
- *   window has grown, so an L that was large enough still is. In the same sheet a seat may commit earlier and so be decided by an
- *   earlier look, and its turns after that are refused with 8.
+ *   window has grown, so an L that was large enough still is. The same sheet may end otherwise than with 1.2: a seat may commit
+ *   earlier and so be decided by an earlier look, and its turns after that are refused with 8; it may be through its rounds in
+ *   fewer turns and so be spent earlier, and its work turns after that are refused with 9; and where seats are in each other's
+ *   way, another of the numbers proposed may be decided.
  *
  *   The turns are W rounds with a read, a write and 1, 2, .. W comparisons, then two checks for each of the W rounds, then the
  *   commit: W (W + 9) / 2 + 1. In examples/run_sheet.c n is 2, so W is 3 and the turns are 19.

@@ -1,4 +1,5 @@
--- Document 01, "Paper cases": the starred rows, in their order and as document 02 has them now, and that all of them hold of the machine.
+-- Document 01, "Paper cases": the starred rows, in their order and as document 02 has them now, with the other windows that its wish 8 names, and that
+-- all of them hold of the machine.
 use Prim.Native.Nat.{ℕ}
 use mathlib.Core.Path.{_≡_, refl}
 use mathlib.Core.Bool.{true, false}

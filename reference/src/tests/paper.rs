@@ -79,7 +79,7 @@ fn one_seat_alone() {
 fn one_seat_alone_without_hints() {
     let mut case = Case::open(1, 2);
     case.propose(0, 7);
-    for _ in 0..12 {
+    for _ in 0..19 {
         assert_eq!(case.step(0, false), Ok(()));
     }
     assert_eq!(case.process(0).to_string(), "gate round 0 value 7");
@@ -134,7 +134,7 @@ fn the_gate_one_round_before_the_last() {
     let mut case = Case::open(1, 2);
     case.propose(0, 7);
     case.work(&[0; 3]);
-    for _ in 0..12 {
+    for _ in 0..19 {
         assert_eq!(case.step(0, false), Ok(()));
     }
     assert_eq!(case.process(0).to_string(), "gate round 1 value 7");

@@ -208,3 +208,45 @@ fn traces_of_one_sheet_at_two_windows() {
         assert!(last.ends_with("| decided round 3 value 7                  | 16 4 0"));
     }
 }
+
+/// What a list of two processes ends with, at a window: its refusal, and the record of
+/// the process of its last steps. They propose 3 and 8; then (process, steps), told to
+/// lead; then a look of the last one.
+fn ended_at(window: u32, limit: usize, steps: &[(usize, usize)]) -> (Option<u32>, String) {
+    let mut session = Session::open_at(window, 2, limit).expect("an opening within bounds");
+    let mut counts = Counts::default();
+    let propose = |(process, value)| Operation::Propose { process, value };
+    let mut list = [(0, 3), (1, 8)].map(propose).to_vec();
+    for &(process, times) in steps {
+        let leader = true;
+        list.resize(list.len() + times, Operation::Step { process, leader });
+    }
+    let (process, _) = *steps.last().expect("a step");
+    list.push(Operation::Learn { process });
+    let mut entries = list.into_iter();
+    let end = entries.try_for_each(|entry| session.apply_at(window, entry, &mut counts));
+    (refused(end), session.processes[process].to_string())
+}
+
+/// What include/janus.h says of sheets of before: the window of two processes was 5 and
+/// is 3.
+#[test]
+fn sheets_of_before_may_end_otherwise() {
+    let check = |limit, steps: &[_], before, now| {
+        let ends = [5, window(2)].map(|window| ended_at(window, limit, steps));
+        let words = |(code, record): (_, &str)| (code, record.to_string());
+        assert_eq!(ends, [words(before), words(now)]);
+    };
+    // Decided by an earlier look.
+    let now = (None, "decided round 3 value 3");
+    check(10, &[(0, 19)], (None, "put round 5 value 3"), now);
+    // Spent earlier.
+    let now = (Some(9), "spent round 10 value 3");
+    check(10, &[(0, 126)], (None, "decided round 10 value 3"), now);
+    // Another number is decided.
+    let first = [(0, 1), (1, 4), (0, 3), (1, 3), (0, 2)];
+    let then = [(1, 2), (0, 2), (1, 3), (0, 6), (1, 58)];
+    let now = (None, "decided round 8 value 8");
+    let steps = [first, then].concat();
+    check(8, &steps, (None, "decided round 7 value 3"), now);
+}
