@@ -38,7 +38,7 @@ wide-enough (suc (suc W)) n some square = omega arith
 -- The window's square is at least 4n: all that the agreement rule asks of a window.
 pub window-square : (n : ℕ) → 4 * n ≤ window n * window n
 unfolding window
-window-square n = root-square (4 * n)
+window-square n = omega (arith, root-square (4 * n))
 
 -- And no smaller number than the window has such a square: 02, wish 8, "the smallest whole number with W times W at least 4n".
 pub window-smallest : (W n : ℕ) → 4 * n ≤ W * W → window n ≤ W
