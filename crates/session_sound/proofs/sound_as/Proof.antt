@@ -20,6 +20,9 @@ abbrev μ-loop : tie.MeasureT-loop
 long : (c : tie.Start Inv-loop μ-loop) → length (c .args .t2 .processes) ≡ 64
 long c = search (needs, length-mapped)
 
+returns : tie.Need-returns Inv-loop μ-loop
+returns c = processes-fail _ _ (c .if1 .taken)
+
 returns-2 : tie.Need-returns-2 Inv-loop μ-loop
 unfolding pollRegisters
 returns-2 c =
@@ -56,6 +59,6 @@ returns-4 c =
 pub sound-as-spec : {M : Type 1} → statement M
 sound-as-spec =
     tie.close
-    (tie.spec Inv-loop μ-loop (λ c. processes-fail _ _ (c .if1 .taken)) (λ c. omega (arith, few (c .before .args .poll) (c .before .args .t2) (not-false _ (c .if1 .left))))
+    (tie.spec Inv-loop μ-loop returns (λ c. omega (arith, few (c .before .args .poll) (c .before .args .t2) (not-false _ (c .if1 .left))))
     (λ c κs. search needs) (λ c κs. search needs) returns-2 loop-holds (λ c. omega arith) (λ c. omega arith) (λ c κs. search needs) returns-3
     (λ c. omega arith) (λ c. omega arith) loop-again returns-4)
