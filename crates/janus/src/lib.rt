@@ -1,18 +1,21 @@
 // The functions for callers in C, which include/janus.h declares: the runner (01, "Turn sheets", last paragraph) with a sheet, a
 // budget and a buffer of exactly 256 bytes, the board report, and the sheet writer (02, wish 3).
 ghost use mathlib.Core.Path.{_≡_};
+ghost use Rattle.model.specs.declared.Caller.the-variants.{Server};
 ghost use Rattle.model.specs.Runner.{run as runOf};
 ghost use Rattle.model.specs.Export.{exportCode, exportBuffer};
 ghost use Rattle.model_report.specs.ReportExport.{reportCode, reportBuffer};
 ghost use Rattle.model_write.specs.WriteExport.{writeExport};
+use model::Caller;
 use model::Ending;
 use model::Ran;
 
-// The run of a sheet, called by both entries: so that the loop stands once in the archive, and the functions that only it calls stand in it.
+// The run of a sheet, called by both entries: so that the loop stands once in the archive, and the functions that only it calls stand in it. 02, wish 9:
+// "the C entry and the report use the server's" limits.
 fn run(sheet: &[u8], budget: usize) -> Ran
-    ensures { λ r. ⌜ r ≡ runOf (now (sheet .entry)) budget ⌝ }
+    ensures { λ r. ⌜ r ≡ runOf Server (now (sheet .entry)) budget ⌝ }
 {
-    sheet_run::run(sheet, budget)
+    sheet_run::run(Caller::Server, sheet, budget)
 }
 
 // Runs a sheet. 15 is tested first; then 0 for finished, 100 for budget ended, or the refusal's number. Where no session was made the buffer is
@@ -58,14 +61,9 @@ pub extern "C" fn janus_write(
     sheet: &mut [u8],
     size: &mut usize,
 ) -> u32
-    ensures code { λ r. ⌜ r ≡ writeExport n limit (now (entries .entry)) (now (lengths .entry)) (now (sheet .entry)) (now (size .entry)) .code ⌝ }
-    ensures writes { λ _. ⌜ now (sheet .exit) ≡ writeExport n limit (now (entries .entry)) (now (lengths .entry)) (now (sheet .entry)) (now (size .entry)) .buffer ⌝ }
-    ensures size { λ _. ⌜ now (size .exit) ≡ writeExport n limit (now (entries .entry)) (now (lengths .entry)) (now (sheet .entry)) (now (size .entry)) .size ⌝ }
+    ensures code { λ r. ⌜ r ≡ writeExport Server n limit (now (entries .entry)) (now (lengths .entry)) (now (sheet .entry)) (now (size .entry)) .code ⌝ }
+    ensures writes { λ _. ⌜ now (sheet .exit) ≡ writeExport Server n limit (now (entries .entry)) (now (lengths .entry)) (now (sheet .entry)) (now (size .entry)) .buffer ⌝ }
+    ensures size { λ _. ⌜ now (size .exit) ≡ writeExport Server n limit (now (entries .entry)) (now (lengths .entry)) (now (sheet .entry)) (now (size .entry)) .size ⌝ }
 {
-    let answer = sheet_write::write(session_opened::server(), n, limit, entries, lengths, sheet);
-    let code = answer.code;
-    if code == 0 {
-        *size = answer.count;
-    }
-    code
+    janus_written::write(Caller::Server, n, limit, entries, lengths, sheet, size)
 }

@@ -3,6 +3,7 @@ use Rattle.base.specs.Prelude.{ℕ, _≤_, arith, List, length, length-append, 
 use Rattle.base.specs.Bools.{cond-cases}
 use Rattle.model.specs.declared.Ending.{Ending}
 use Rattle.model.specs.declared.Ending.the-variants.{Finished, Refused, BudgetEnded, Rejected}
+use Rattle.model.specs.declared.Caller.the-variants.{Server}
 use Rattle.model.specs.Runner.{run}
 use Rattle.model_report.specs.Report.{decimal, digits, outcomeLine, report, reportBudget}
 
@@ -22,5 +23,5 @@ outcome-long (Rejected c) k = simp length-append (omega (arith, some-digit c))
 pub report-long : (s : List ℕ) → 16 ≤ length (report s)
 unfolding report
 report-long s =
-    let r = run s reportBudget in
+    let r = run Server s reportBudget in
     simp length-append (omega (arith, outcome-long (r .ending) (r .carried)))

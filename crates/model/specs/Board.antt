@@ -1,5 +1,5 @@
 -- Document 01, "The board and the seats": the registers, the processes, and a session just opened.
-use Prim.Native.Nat.{ℕ, suc, _-_}
+use Prim.Native.Nat.{ℕ, suc, _-_, _≤_}
 use mathlib.Core.Bool.{Bool, false, cond}
 use mathlib.Core.List.{List, [], _∷_}
 use lib.ListN.{getD, set, replicate}
@@ -8,6 +8,8 @@ use Rattle.model.specs.declared.Phase.the-variants.{Idle}
 use Rattle.model.specs.declared.Process.{Process}
 use Rattle.model.specs.declared.Session.{Session}
 use Rattle.model.specs.declared.Counts.{Counts}
+use Rattle.model.specs.declared.Caller.{Caller}
+use Rattle.model.specs.declared.Caller.the-variants.{Server, Cart}
 use Rattle.model.specs.declared.Limits.{Limits}
 
 -- "Seats n: 1 to 64." The most processes that a session holds.
@@ -18,9 +20,16 @@ maxProcesses = 64
 abbrev pub maxRounds : ℕ
 maxRounds = 256
 
--- Those are the limits of the server's callers.
-abbrev pub serverLimits : Limits
-serverLimits = record { processes = maxProcesses; rounds = maxRounds }
+-- 02, wish 9: "A cart runs the same library with at most 16 seats and 64 rounds; the server stays at 64 and 256." "One pair for each of the two
+-- callers." The server's are what a session holds.
+abbrev pub limitsOf : Caller → Limits
+limitsOf Server = record { processes = maxProcesses; rounds = maxRounds }
+limitsOf Cart = record { processes = 16; rounds = 64 }
+
+-- "Any limits up to the server's", of which both callers' are.
+pub record UpToServer (most : Limits) : Type 0 where
+  pub processes : most .processes ≤ limitsOf Server .processes
+  pub rounds : most .rounds ≤ limitsOf Server .rounds
 
 -- ---- what a session holds
 

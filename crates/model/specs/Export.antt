@@ -8,6 +8,7 @@ use Rattle.model.specs.declared.Phase.{Phase}
 use Rattle.model.specs.declared.Phase.the-variants.{Idle, Waiting, Write, Scan, Adopt, Compare, Flag, CheckMark}
 use Rattle.model.specs.declared.Phase.the-variants.{CheckValue, Commit, Exhausted, Crashed, Decided, HasCommitted, HasAdopted}
 use Rattle.model.specs.declared.Process.{Process}
+use Rattle.model.specs.declared.Caller.the-variants.{Server}
 use Rattle.model.specs.declared.Ending.{Ending}
 use Rattle.model.specs.declared.Ending.the-variants.{Finished, Refused, BudgetEnded, Rejected}
 use Rattle.model.specs.Bytes.{bytes32}
@@ -50,9 +51,9 @@ endingBuffer (Refused k i) qs b = decidedBytes qs
 endingBuffer BudgetEnded qs b = decidedBytes qs
 endingBuffer (Rejected k) qs b = b
 
--- "A buffer of exactly 256 bytes .. 15 is tested first."
+-- "A buffer of exactly 256 bytes .. 15 is tested first." 02, wish 9: "The C entry and the report use the server's."
 unfoldable pub exportCode : (sheet : List ℕ) (budget : ℕ) (buffer : List ℕ) → ℕ
-exportCode s budget b = cond (eqb (length b) 256) (endingCode (run s budget .ending)) 15
+exportCode s budget b = cond (eqb (length b) 256) (endingCode (run Server s budget .ending)) 15
 
 unfoldable pub exportBuffer : (sheet : List ℕ) (budget : ℕ) (buffer : List ℕ) → List ℕ
-exportBuffer s budget b = cond (eqb (length b) 256) (endingBuffer (run s budget .ending) (run s budget .session .processes) b) b
+exportBuffer s budget b = cond (eqb (length b) 256) (endingBuffer (run Server s budget .ending) (run Server s budget .session .processes) b) b

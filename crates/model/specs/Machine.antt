@@ -8,13 +8,14 @@ use Rattle.model.specs.declared.Access.the-variants.{Nothing, ReadDecisi
 use Rattle.model.specs.declared.Process.{Process}
 use Rattle.model.specs.declared.Session.{Session}
 use Rattle.model.specs.declared.Counts.{Counts}
+use Rattle.model.specs.declared.Caller.{Caller}
 use Rattle.model.specs.declared.Limits.{Limits}
 use Rattle.model.specs.declared.Operation.{Operation}
 use Rattle.model.specs.declared.Operation.the-variants.{Propose, Step, Learn, Crash, Malformed}
 use Rattle.model.specs.declared.Changed.{Changed}
 use Rattle.model.specs.declared.Stepped.{Stepped}
 use Rattle.model.specs.Window.{window}
-use Rattle.model.specs.Board.{processAt, opened, serverLimits}
+use Rattle.model.specs.Board.{processAt, opened, limitsOf}
 use Rattle.model.specs.Step.{access, next, learnt, found, turn, counted, process}
 use Rattle.model.specs.Refusal.{Test, refusal, openTestsAt, processOf, tests, changed, stepped}
 
@@ -22,15 +23,12 @@ use Rattle.model.specs.Refusal.{Test, refusal, openTestsAt, processOf, t
 
 -- Opening within a caller's limits, at window W: 02, wish 7, has "the window a parameter of the machine". Refused, no session is made: the answer
 -- holds the session of no process and no round, which is not sound.
-unfoldable pub openWithinAt : Limits → (W n L : ℕ) → Changed
-openWithinAt most W n L = changed (refusal (openTestsAt most W n L)) (opened 0 0) (opened n L)
+unfoldable pub openingAt : Limits → (W n L : ℕ) → Changed
+openingAt most W n L = changed (refusal (openTestsAt most W n L)) (opened 0 0) (opened n L)
 
-abbrev pub openingAt : (W n L : ℕ) → Changed
-openingAt W n L = openWithinAt serverLimits W n L
-
--- In service: at the window of n.
-abbrev pub opening : (n L : ℕ) → Changed
-opening n L = openingAt (window n) n L
+-- In service: within the caller's limits (02, wish 9: "Opening .. take the caller's limits"), at the window of n.
+abbrev pub opening : Caller → (n L : ℕ) → Changed
+opening caller n L = openingAt (limitsOf caller) (window n) n L
 
 -- ---- one operation: what it accesses, and what its process becomes
 

@@ -75,7 +75,7 @@ full c = leb maxCount (c .reads) || leb maxCount (c .writes) || leb maxCount (c 
 
 -- ---- the tests of each operation, in their order
 
--- Opening with n processes and round limit L, within a caller's limits, at window W: 1, 2.
+-- Opening with n processes and round limit L, within a caller's limits, at window W: 1, 2. (02, wish 9: "1 and 2 speak of the caller's limits".)
 abbrev pub openTestsAt : Limits → (W n L : ℕ) → List Test
 openTestsAt most W n L =
     (not (leb 1 n && leb n (most .processes)), 1) ∷ (not (leb W L && leb L (most .rounds)), 2) ∷ []

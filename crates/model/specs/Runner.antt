@@ -5,6 +5,7 @@ use mathlib.Core.List.{List, [], _∷_}
 use lib.Dec.{eqb}
 use Rattle.model.specs.declared.Session.{Session}
 use Rattle.model.specs.declared.Counts.{Counts}
+use Rattle.model.specs.declared.Caller.{Caller}
 use Rattle.model.specs.declared.Limits.{Limits}
 use Rattle.model.specs.declared.Operation.{Operation}
 use Rattle.model.specs.declared.Stepped.{Stepped}
@@ -12,7 +13,7 @@ use Rattle.model.specs.declared.Ending.{Ending}
 use Rattle.model.specs.declared.Ending.the-variants.{Finished, Refused, BudgetEnded, Rejected}
 use Rattle.model.specs.declared.Ran.{Ran}
 use Rattle.model.specs.Window.{window}
-use Rattle.model.specs.Board.{opened, noCounts, serverLimits}
+use Rattle.model.specs.Board.{opened, noCounts, limitsOf}
 use Rattle.model.specs.Machine.{perform}
 use Rattle.model.specs.Sheet.{processCount, roundLimit, entries, sheetRefusal}
 
@@ -44,5 +45,6 @@ runWithin most s budget =
     ranOr (sheetRefusal most s)
     (runFrom (window (processCount s)) budget 0 (opened (processCount s) (roundLimit s)) noCounts (entries s))
 
-unfoldable pub run : (sheet : List ℕ) → (budget : ℕ) → Ran
-run s budget = runWithin serverLimits s budget
+-- In service: within the caller's (02, wish 9: "sheet reading and writing take the caller's limits").
+unfoldable pub run : Caller → (sheet : List ℕ) → (budget : ℕ) → Ran
+run caller s budget = runWithin (limitsOf caller) s budget

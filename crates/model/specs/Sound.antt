@@ -51,7 +51,8 @@ unfoldable pub pollRegisters : (poll : Bool) → (W : ℕ) → Session → Bool
 pollRegisters poll W s = not poll || (eqb (s .limit) W && eqb (s .decision) 0)
 
 -- "A session is sound if: n is 1 to 64, L is W to 256; registers and marks past L are blank and unmarked; records from n
--- on are out", and each record is sound; a poll, if its rules hold too. The window is a value, since requests change it.
+-- on are out", and each record is sound; a poll, if its rules hold too. The window is a value, since requests change it. 02, wish 9: "soundness, 3,
+-- stays with the server's" limits, which are what a session holds, so that every operation but opening takes a cart's session as it is.
 unfoldable pub soundAtAs : (poll : Bool) → (W : ℕ) → Session → Bool
 soundAtAs poll W s =
     (leb 1 (s .n) && leb (s .n) maxProcesses)

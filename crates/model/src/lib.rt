@@ -75,6 +75,13 @@ pub enum Operation {
     Malformed,
 }
 
+// Who calls (02, wish 9: "one pair for each of the two callers; a call names only which of the two it is"): the clinic's server, or the bedside
+// cart.
+pub enum Caller {
+    Server,
+    Cart,
+}
+
 // The most processes and rounds that a caller's sessions may have.
 pub struct Limits {
     pub processes: u8,

@@ -6,6 +6,7 @@ use lib.Dec.{eqb}
 use Rattle.model.specs.declared.Phase.{Phase}
 use Rattle.model.specs.declared.Phase.the-variants.{Idle, Waiting, Write, Scan, Adopt, Compare, Flag, CheckMark}
 use Rattle.model.specs.declared.Phase.the-variants.{CheckValue, Commit, Exhausted, Crashed, Decided, HasCommitted, HasAdopted}
+use Rattle.model.specs.declared.Caller.the-variants.{Server}
 use Rattle.model.specs.declared.Operation.{Operation}
 use Rattle.model.specs.declared.Stepped.{Stepped}
 use Rattle.model.specs.Window.{window}
@@ -23,10 +24,10 @@ abbrev pub playedAll : {S O : Type 0} → (S → O → S) → S → List O → S
 playedAll does t [] = t
 playedAll does t (o ∷ os) = playedAll does (does t o) os
 
--- Opened with n processes and round limit L, and an empty tally.
+-- Opened by the server with n processes and round limit L, and an empty tally.
 play : (n L : ℕ) → List Operation → Stepped
 unfolding played
-play n L os = playedAll (played n) (withCounts (opening n L) noCounts) os
+play n L os = playedAll (played n) (withCounts (opening Server n L) noCounts) os
 
 -- What a case says of the state after it.
 pub data Shows : Type 0 where

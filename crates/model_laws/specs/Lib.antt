@@ -9,6 +9,7 @@ pub mod Ranges
 pub mod Keeps
 pub mod Sounds
 pub mod Operations
+pub mod Callers
 pub mod Answers
 pub mod LastRound
 pub mod ByteLaws

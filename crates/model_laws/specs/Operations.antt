@@ -4,7 +4,7 @@ use Rattle.model_laws.specs.Types.{Access, Nothing, ReadValue, WriteValu
 use Rattle.model.specs.Board.{processAt, opened, maxProcesses, maxRounds}
 use Rattle.model.specs.Step.{access, stored, turn, found}
 use Rattle.model.specs.Refusal.{refusal, changed, stepped, openTestsAt, ownTests, processOf, tests}
-use Rattle.model.specs.Machine.{openWithinAt, accessOf, becomes, after, countsAfter, answered, perform}
+use Rattle.model.specs.Machine.{openingAt, accessOf, becomes, after, countsAfter, answered, perform}
 use Rattle.model.specs.Sound.{soundAt, soundProcess, pollRegisters, soundAtAs, soundProcessAs}
 use Rattle.base.specs.Bools.{and-left, and-right}
 use Rattle.model_laws.specs.Every.{every-replicate, every-drop}
@@ -117,14 +117,14 @@ open-accepted most W n L e =
 -- And an opening whose n and L are so is accepted: what it opens, either way.
 module _ (most : Limits) (W n L : ℕ) where
   pub opening-accepts : 1 ≤ n → n ≤ most .processes → W ≤ L → L ≤ most .rounds →
-      (openWithinAt most W n L .code ≡ 0) × (openWithinAt most W n L .session ≡ opened n L)
-  unfolding openWithinAt
+      (openingAt most W n L .code ≡ 0) × (openingAt most W n L .session ≡ opened n L)
+  unfolding openingAt
   opening-accepts some few wide low =
       rw (le-leb 1 n some, le-leb n (most .processes) few, le-leb W L wide, le-leb L (most .rounds) low) (refl, refl)
 
-  pub opening-accepted : openWithinAt most W n L .code ≡ 0 →
-      (1 ≤ n) × (n ≤ most .processes) × (W ≤ L) × (L ≤ most .rounds) × (openWithinAt most W n L .session ≡ opened n L)
-  unfolding openWithinAt
+  pub opening-accepted : openingAt most W n L .code ≡ 0 →
+      (1 ≤ n) × (n ≤ most .processes) × (W ≤ L) × (L ≤ most .rounds) × (openingAt most W n L .session ≡ opened n L)
+  unfolding openingAt
   opening-accepted = go (refusal (openTestsAt most W n L)) refl
     where
       go : (k : ℕ) → refusal (openTestsAt most W n L) ≡ k →

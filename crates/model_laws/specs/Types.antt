@@ -1,6 +1,8 @@
 -- The types of model and their variants, passed on as they are under one name.
 pub use Rattle.model.specs.declared.Access.{Access}
 pub use Rattle.model.specs.declared.Access.the-variants.{Nothing, ReadDecision, ReadMark, ReadValue, SetMark, WriteDecision, WriteValue}
+pub use Rattle.model.specs.declared.Caller.{Caller}
+pub use Rattle.model.specs.declared.Caller.the-variants.{Cart, Server}
 pub use Rattle.model.specs.declared.Changed.{Changed}
 pub use Rattle.model.specs.declared.CountAnswer.{CountAnswer}
 pub use Rattle.model.specs.declared.Counts.{Counts}

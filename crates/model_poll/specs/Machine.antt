@@ -7,10 +7,12 @@ use Rattle.model.specs.declared.Process.{Process}
 use Rattle.model.specs.declared.Session.{Session}
 use Rattle.model.specs.declared.Counts.{Counts}
 use Rattle.model.specs.declared.Operation.the-variants.{Propose, Crash}
+use Rattle.model.specs.declared.Caller.{Caller}
+use Rattle.model.specs.declared.Limits.{Limits}
 use Rattle.model.specs.declared.Changed.{Changed}
 use Rattle.model.specs.declared.Stepped.{Stepped}
 use Rattle.model.specs.Window.{window}
-use Rattle.model.specs.Board.{processAt}
+use Rattle.model.specs.Board.{limitsOf, processAt}
 use Rattle.model.specs.Step.{found, turn, counted}
 use Rattle.model.specs.Refusal.{Test, refusal, learnTests, stepped}
 use Rattle.model.specs.Machine.{openingAt, perform}
@@ -19,13 +21,15 @@ use Rattle.model_poll.specs.declared.Answer.the-variants.{Pending}
 use Rattle.model_poll.specs.declared.PollStepped.{PollStepped}
 use Rattle.model_poll.specs.Turn.{pollAccess, pollNext, answerOf}
 
--- "A poll has L = W": the session's opening with that limit, at window W (02, wish 7: "the window a parameter of the machine .. Polls are covered too").
-unfoldable pub pollOpeningAt : (W n : ℕ) → Changed
-pollOpeningAt W n = openingAt W n W
+-- "A poll has L = W": the session's opening with that limit, within a caller's limits, at window W (02, wish 7: "the window a parameter of the machine ..
+-- Polls are covered too").
+unfoldable pub pollOpeningAt : Limits → (W n : ℕ) → Changed
+pollOpeningAt most W n = openingAt most W n W
 
--- In service: at the window of n. (So 1 alone can refuse it: `model_poll_laws`, `poll-opening-code`.)
-abbrev pub pollOpening : (n : ℕ) → Changed
-pollOpening n = pollOpeningAt (window n) n
+-- In service: within the caller's limits (02, wish 9: "Opening, of polls too .. take the caller's limits"), at the window of n. (So 1 alone can refuse it:
+-- `model_poll_laws`, `poll-opening-code`.)
+abbrev pub pollOpening : Caller → (n : ℕ) → Changed
+pollOpening caller n = pollOpeningAt (limitsOf caller) (window n) n
 
 -- ---- a turn
 

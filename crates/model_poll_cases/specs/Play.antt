@@ -3,6 +3,7 @@ use Prim.Native.Nat.{ℕ, suc}
 use mathlib.Core.Bool.{Bool, true, false, _&&_}
 use mathlib.Core.List.{List, [], _∷_}
 use lib.Dec.{eqb}
+use Rattle.model.specs.declared.Caller.the-variants.{Server}
 use Rattle.model.specs.declared.Session.{Session}
 use Rattle.model.specs.Window.{window}
 use Rattle.model.specs.Board.{processAt, noCounts}
@@ -19,10 +20,10 @@ use Rattle.model_poll.specs.Machine.{PollOperation, pollOpening, pollPerform, u
 played : (n : ℕ) → PollStepped → PollOperation → PollStepped
 played n t o = pollPerform (window n) (t .session) (t .counts) o
 
--- Opened with n processes, and an empty tally.
+-- Opened by the server with n processes, and an empty tally.
 play : (n : ℕ) → List PollOperation → PollStepped
 unfolding played
-play n os = playedAll (played n) (unanswered (withCounts (pollOpening n) noCounts)) os
+play n os = playedAll (played n) (unanswered (withCounts (pollOpening Server n) noCounts)) os
 
 answerEq : Answer → Answer → Bool
 answerEq Pending Pending = true

@@ -8,7 +8,7 @@ use Rattle.model.specs.Window.{window, rootUp, rootFrom}
 use Rattle.model.specs.Board.{opened}
 use Rattle.model.specs.Step.{waitingRule, accessAt, access, found, goOn, nextAt, next, stored, turn, counted}
 use Rattle.model.specs.Refusal.{full}
-use Rattle.model.specs.Machine.{openWithinAt, accessOf, becomes, after, countsAfter, answered, perform}
+use Rattle.model.specs.Machine.{openingAt, accessOf, becomes, after, countsAfter, answered, perform}
 use Rattle.model.specs.Sound.{every}
 use Rattle.model_cases.specs.Play.{repeat}
 use Rattle.model_cases.specs.Play.Shows.{answers, hasWindow, hasLimit, register, marked, decision, stands, counts}
@@ -174,7 +174,7 @@ table =
 -- Every row holds of the machine.
 pub poll-cases : every holds table ≡ true
 unfolding
-    table holds window rootUp rootFrom opened waitingRule accessAt access found goOn nextAt next stored turn counted full openWithinAt
+    table holds window rootUp rootFrom opened waitingRule accessAt access found goOn nextAt next stored turn counted full openingAt
     accessOf becomes after countsAfter answered perform withoutDecision pollAccess ending pollNext answerOf pollOpeningAt turnAfter turnCounts
     turned pollPerform
 poll-cases = refl

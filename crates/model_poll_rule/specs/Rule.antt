@@ -5,8 +5,10 @@ use mathlib.Core.Path.{_≡_}
 use mathlib.Core.List.{List, [], _∷_}
 use Rattle.model.specs.declared.Status.the-variants.{Active}
 use Rattle.model.specs.declared.Session.{Session}
+use Rattle.model.specs.declared.Caller.{Caller}
+use Rattle.model.specs.declared.Limits.{Limits}
 use Rattle.model.specs.Window.{window}
-use Rattle.model.specs.Board.{processAt}
+use Rattle.model.specs.Board.{limitsOf, UpToServer, processAt}
 use Rattle.model.specs.Refusal.{status}
 use Rattle.model_rule.specs.Event.{Proposed}
 use Rattle.model_poll.specs.declared.Answer.{Answer}
@@ -55,10 +57,10 @@ pub record PollRule (W : ℕ) (start : Session) (cs : List PollCall) (s : Sessio
   pub onePass : (p : ℕ) → turnsOf p cs ≤ passTurns W
   pub working : (p : ℕ) → status (processAt s p .phase) ≡ Active → turnsOf p cs < passTurns W
 
--- The claim, of n processes, where w n is the window of n processes: of every list of calls from an accepted opening.
-abbrev pub PollClaimWith : (w : ℕ → ℕ) → (n : ℕ) → Type 0
-PollClaimWith w n =
-    let start = pollOpeningAt (w n) n in
+-- The claim, within a caller's limits, of n processes, where w n is the window of n processes: of every list of calls from an accepted opening.
+abbrev pub PollClaimWithin : Limits → (w : ℕ → ℕ) → (n : ℕ) → Type 0
+PollClaimWithin most w n =
+    let start = pollOpeningAt most (w n) n in
     start .code ≡ 0
     → (cs : List PollCall) (s : Session)
     → PollRunWith w (start .session) cs s
@@ -66,11 +68,19 @@ PollClaimWith w n =
     × (s ≡ pollMachine (w n) (start .session) (pollInputs cs))
     × PollRule (w n) (start .session) cs s
 
+-- 02, wish 9: within any limits up to the server's, as `AgreementWith` of `model_rule`.
+abbrev pub PollClaimWith : (w : ℕ → ℕ) → (n : ℕ) → Type 0
+PollClaimWith w n = (most : Limits) → UpToServer most → PollClaimWithin most w n
+
 -- 02, wish 7: "Show the agreement rule for every window W of at least 2 with W times W at least 4n .. Polls are covered too." (As `EveryWindow` of
 -- `model_rule` has it of sessions.)
 abbrev pub EveryPollWindow : Type 0
 EveryPollWindow = (w : ℕ → ℕ) (n : ℕ) → 4 * n ≤ w n * w n → PollClaimWith w n
 
--- The claim in service.
+-- The claim in service,
 abbrev pub PollClaim : Type 0
 PollClaim = (n : ℕ) → PollClaimWith window n
+
+-- and of each of the two callers: `PollClaimWithin` is of its `pollOpening` then.
+abbrev pub CallerPollClaim : Type 0
+CallerPollClaim = (caller : Caller) (n : ℕ) → PollClaimWithin (limitsOf caller) window n

@@ -13,6 +13,7 @@ use Rattle.model.specs.declared.Phase.the-variants.{CheckValue, Commit, Exhaust
 use Rattle.model.specs.declared.Process.{Process}
 use Rattle.model.specs.declared.Session.{Session}
 use Rattle.model.specs.declared.Counts.{Counts}
+use Rattle.model.specs.declared.Caller.the-variants.{Server}
 use Rattle.model.specs.declared.Ending.{Ending}
 use Rattle.model.specs.declared.Ending.the-variants.{Finished, Refused, BudgetEnded, Rejected}
 use Rattle.model.specs.declared.Ran.{Ran}
@@ -101,5 +102,6 @@ moreLines (Rejected k) s c = []
 abbrev pub reportOf : Ran → List ℕ
 reportOf r = outcomeLine (r .ending) (r .carried) ++ moreLines (r .ending) (r .session) (r .counts)
 
+-- Of a sheet that is run. 02, wish 9: "The C entry and the report use the server's" limits.
 unfoldable pub report : (sheet : List ℕ) → List ℕ
-report s = reportOf (run s reportBudget)
+report s = reportOf (run Server s reportBudget)

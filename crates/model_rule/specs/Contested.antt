@@ -7,10 +7,12 @@ use mathlib.Core.List.{List, [], _∷_}
 use lib.ListN.{getD}
 use Rattle.model.specs.declared.Session.{Session}
 use Rattle.model.specs.declared.Counts.{Counts}
-use Rattle.model.specs.Board.{noCounts}
+use Rattle.model.specs.declared.Limits.{Limits}
+use Rattle.model.specs.Window.{window}
+use Rattle.model.specs.Board.{UpToServer, noCounts}
 use Rattle.model.specs.Step.{bit}
-use Rattle.model.specs.Machine.{opening}
-use Rattle.model.specs.Runner.{run}
+use Rattle.model.specs.Machine.{openingAt}
+use Rattle.model.specs.Runner.{runWithin}
 use Rattle.model_rule.specs.Calls.{Call, Run}
 
 -- How many of the rounds 1 to r are marked.
@@ -27,16 +29,20 @@ abbrev pub OneTally : List Call → Counts → Type 0
 OneTally [] c = c ≡ noCounts
 OneTally (k ∷ ks) c = (c ≡ k .after) × OneTally ks (k .input .counts)
 
--- The claim, of every list of calls from every accepted opening.
+-- The claim, of every list of calls from every accepted opening, within any limits up to the server's (02, wish 9).
 abbrev pub ContestedRule : Type 0
 ContestedRule =
-    (n L : ℕ)
-    → opening n L .code ≡ 0
+    (most : Limits) → UpToServer most → (n L : ℕ) →
+    let start = openingAt most (window n) n L in
+    start .code ≡ 0
     → (cs : List Call) (s : Session) (c : Counts)
-    → Run (opening n L .session) cs s
+    → Run (start .session) cs s
     → OneTally cs c
     → c .contested ≡ markedRounds s
 
 -- And of every sheet, refused or not, and every budget.
 abbrev pub ContestedRun : Type 0
-ContestedRun = (sheet : List ℕ) (budget : ℕ) → run sheet budget .counts .contested ≡ markedRounds (run sheet budget .session)
+ContestedRun =
+    (most : Limits) → UpToServer most → (sheet : List ℕ) (budget : ℕ) →
+    let r = runWithin most sheet budget in
+    r .counts .contested ≡ markedRounds (r .session)

@@ -4,8 +4,10 @@ use mathlib.Core.Path.{_≡_}
 use mathlib.Core.List.{List, [], _∷_}
 use Rattle.model.specs.declared.Phase.the-variants.{Decided}
 use Rattle.model.specs.declared.Session.{Session}
+use Rattle.model.specs.declared.Caller.{Caller}
+use Rattle.model.specs.declared.Limits.{Limits}
 use Rattle.model.specs.Window.{window}
-use Rattle.model.specs.Board.{processAt}
+use Rattle.model.specs.Board.{limitsOf, UpToServer, processAt}
 use Rattle.model.specs.Machine.{perform, openingAt}
 use Rattle.model.specs.Public.{withCounts}
 use Rattle.model_rule.specs.Event.{Event, Past, Proposed, Written, Committed, DecidedOn}
@@ -44,10 +46,11 @@ pub record Rule (s : Session) (h : List Event) : Type 0 where
   -- a value committed in round R is the only one written to the register of round R or a later one, before or after
   pub commitment : (R r u v : ℕ) → Committed R v h → Written r u h → R ≤ r → u ≡ v
 
--- The claim, of n processes and round limit L, where w n is the window of n processes: of every list of calls from an accepted opening.
-abbrev pub AgreementWith : (w : ℕ → ℕ) → (n L : ℕ) → Type 0
-AgreementWith w n L =
-    let start = openingAt (w n) n L in
+-- The claim, within a caller's limits, of n processes and round limit L, where w n is the window of n processes: of every list of calls from an
+-- accepted opening.
+abbrev pub AgreementWithin : Limits → (w : ℕ → ℕ) → (n L : ℕ) → Type 0
+AgreementWithin most w n L =
+    let start = openingAt most (w n) n L in
     start .code ≡ 0
     → (cs : List Call) (s : Session)
     → RunWith w (start .session) cs s
@@ -55,12 +58,20 @@ AgreementWith w n L =
     × (s ≡ machine (w n) (start .session) (inputs cs))
     × Rule s (past (w n) (start .session) (inputs cs))
 
+-- 02, wish 9: "Agreement and step rules are shown once for any limits up to the server's."
+abbrev pub AgreementWith : (w : ℕ → ℕ) → (n L : ℕ) → Type 0
+AgreementWith w n L = (most : Limits) → UpToServer most → AgreementWithin most w n L
+
 -- 02, wish 7: "Show the agreement rule for every window W of at least 2 with W times W at least 4n, the window a parameter of the machine, for all n at
 -- once." (An opening accepts 1 or more processes, so that a window with W times W at least 4n is at least 2.) A window that is one number for every n
 -- is `λ m. W`.
 abbrev pub EveryWindow : Type 0
 EveryWindow = (w : ℕ → ℕ) (n L : ℕ) → 4 * n ≤ w n * w n → AgreementWith w n L
 
--- The claim in service.
+-- The claim in service,
 abbrev pub AgreementRule : Type 0
 AgreementRule = (n L : ℕ) → AgreementWith window n L
+
+-- and of each of the two callers: `AgreementWithin` is of its `opening` then.
+abbrev pub CallerAgreement : Type 0
+CallerAgreement = (caller : Caller) (n L : ℕ) → AgreementWithin (limitsOf caller) window n L

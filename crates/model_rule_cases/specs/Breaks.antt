@@ -1,6 +1,8 @@
 -- A list of calls that breaks the agreement rule at a window: what it shows, and that the rule is then false.
 use Rattle.base.specs.Prelude.{ℕ, _≡_, refl, sym, _∙_, ap, subst, Bool, true, false, not, cond, _&&_, true≢false, List, [], _∷_, eqb, ltb, eqb-true, eq-eqb}
 use Rattle.base.specs.Bools.{and-left, and-right, cond-cases}
+use Rattle.model.specs.declared.Caller.the-variants.{Server}
+use Rattle.model.specs.Board.{limitsOf}
 use Rattle.model.specs.Refusal.{processOf}
 use Rattle.model.specs.Machine.{openingAt}
 use Rattle.model.specs.Sound.{every}
@@ -45,9 +47,9 @@ pub record Row : Type 0 where
 unfoldable pub happens : List Event → Commitment → Bool
 happens h c = some (commits (c .round) (c .value)) h && some (decides (c .process) (c .value)) h
 
--- The past of the row's machine: its opening and moves at its window.
+-- The past of the row's machine: its opening, within the server's limits, and moves at its window.
 abbrev pub pastOf : Row → List Event
-pastOf r = played (r .window) (openingAt (r .window) (r .n) (r .limit) .session) [] (r .moves)
+pastOf r = played (r .window) (openingAt (limitsOf Server) (r .window) (r .n) (r .limit) .session) [] (r .moves)
 
 -- Both commits happen, and their values differ.
 unfoldable pub differ : List Event → (first second : Commitment) → Bool
@@ -60,7 +62,7 @@ within n m = ltb (processOf (operationOf m)) n
 -- The opening is accepted, the moves are of its processes, and in its past two commits differ.
 unfoldable pub breaks : Row → Bool
 breaks r =
-    eqb (openingAt (r .window) (r .n) (r .limit) .code) 0 && every (within (r .n)) (r .moves) && differ (pastOf r) (r .first) (r .second)
+    eqb (openingAt (limitsOf Server) (r .window) (r .n) (r .limit) .code) 0 && every (within (r .n)) (r .moves) && differ (pastOf r) (r .first) (r .second)
 
 -- ---- what the tests say
 
@@ -93,7 +95,7 @@ happens-decided h c t = some-happened _ _ (decides-only (c .process) (c .value))
 
 -- What a row that breaks shows.
 pub record Broken (r : Row) : Type 0 where
-  pub opens : openingAt (r .window) (r .n) (r .limit) .code ≡ 0
+  pub opens : openingAt (limitsOf Server) (r .window) (r .n) (r .limit) .code ≡ 0
   pub inside : every (within (r .n)) (r .moves) ≡ true
   pub one : DecidedOn (r .first .process) (r .first .value) (pastOf r)
   pub other : DecidedOn (r .second .process) (r .second .value) (pastOf r)
@@ -102,7 +104,7 @@ pub record Broken (r : Row) : Type 0 where
 pub breaks-shows : (r : Row) → breaks r ≡ true → Broken r
 unfolding breaks differ
 breaks-shows r t =
-    let a = eqb (openingAt (r .window) (r .n) (r .limit) .code) 0 in
+    let a = eqb (openingAt (limitsOf Server) (r .window) (r .n) (r .limit) .code) 0 in
     let b = every (within (r .n)) (r .moves) in
     let c = happens (pastOf r) (r .first) in
     let d = happens (pastOf r) (r .second) in

@@ -3,6 +3,7 @@ use Prim.Native.Nat.{ℕ}
 use mathlib.Core.Path.{_≡_, refl, sym, _∙_, ap, subst}
 use mathlib.Core.Bool.{true, false}
 use mathlib.Core.List.{List, [], _∷_, _++_}
+use Rattle.model.specs.declared.Limits.{Limits}
 use Rattle.model.specs.declared.Session.{Session}
 use Rattle.model.specs.declared.Operation.{Operation}
 use Rattle.model.specs.declared.Operation.the-variants.{Propose, Step, Learn}
@@ -11,7 +12,7 @@ use Rattle.model.specs.Machine.{perform, openingAt}
 use Rattle.model.specs.Public.{withoutCounts, proposeAt, stepAt, learnAt}
 use Rattle.model_rule.specs.Event.{Event}
 use Rattle.model_rule.specs.Calls.{Input, machine, events, past, Call, RunWith, none, call, inputs}
-use Rattle.model_rule.specs.Rule.{Rule, AgreementWith}
+use Rattle.model_rule.specs.Rule.{Rule, AgreementWithin}
 
 -- One call of such a list. (01: a proposal; a work turn with hint yes; a look.)
 pub data Move : Type 0 where
@@ -83,12 +84,12 @@ module _ {w : ℕ → ℕ} {start : Session} where
   called [] r = r
   called (m ∷ ms) r = called ms (then-called r m)
 
--- A list of moves from an accepted opening whose past no rule allows: the agreement rule is false.
-pub breaks-rule : (w : ℕ → ℕ) (n L : ℕ) (ms : List Move) →
-    let start = openingAt (w n) n L in
-    start .code ≡ 0 → ((s : Session) → Rule s (played (w n) (start .session) [] ms) → ⊥) → AgreementWith w n L → ⊥
-breaks-rule w n L ms ok never rule =
-    let start = openingAt (w n) n L .session in
+-- A list of moves from an accepted opening, within any limits, whose past no rule allows: the agreement rule is false within them.
+pub breaks-rule : (most : Limits) (w : ℕ → ℕ) (n L : ℕ) (ms : List Move) →
+    let start = openingAt most (w n) n L in
+    start .code ≡ 0 → ((s : Session) → Rule s (played (w n) (start .session) [] ms) → ⊥) → AgreementWithin most w n L → ⊥
+breaks-rule most w n L ms ok never rule =
+    let start = openingAt most (w n) n L .session in
     let c = called {w = w} {start = start} ms (record { calls = []; session = start; run = none; same = refl }) in
     let same = ap (past (w n) start) (c .same) ∙ sym (played-past (w n) start ms []) in
     never (c .session) (subst (Rule (c .session)) same (rule ok (c .calls) (c .session) (c .run) .2))

@@ -6,7 +6,7 @@ use mathlib.Core.List.{List, [], _∷_, _++_, map}
 use Rattle.model.specs.Board.{opened}
 use Rattle.model.specs.Step.{waitingRule, accessAt, access, found, goOn, nextAt, next, learnt, stored, turn, counted}
 use Rattle.model.specs.Refusal.{full}
-use Rattle.model.specs.Machine.{openWithinAt, accessOf, becomes, after, countsAfter, answered, perform}
+use Rattle.model.specs.Machine.{openingAt, accessOf, becomes, after, countsAfter, answered, perform}
 use Rattle.model.specs.Sound.{every}
 use Rattle.model_cases.specs.Play.{repeat}
 use Rattle.model_rule_cases.specs.Play.{Move, proposes, works, looks, played}
@@ -84,6 +84,6 @@ table =
 -- Every row breaks the machine at its window.
 pub short-lists : every breaks table ≡ true
 unfolding
-    two three five table played happens differ breaks opened waitingRule accessAt access found goOn nextAt next learnt stored turn counted full openWithinAt
+    two three five table played happens differ breaks opened waitingRule accessAt access found goOn nextAt next learnt stored turn counted full openingAt
     accessOf becomes after countsAfter answered perform
 short-lists = refl

@@ -3,8 +3,9 @@ use Prim.Native.Nat.{ℕ}
 use mathlib.Core.Bool.{cond}
 use mathlib.Core.List.{List}
 use lib.Dec.{eqb}
+use Rattle.model.specs.declared.Caller.{Caller}
 use Rattle.model.specs.declared.CountAnswer.{CountAnswer}
-use Rattle.model.specs.Board.{serverLimits}
+use Rattle.model.specs.Board.{limitsOf}
 use Rattle.model_write.specs.Write.{Written, written}
 
 -- What C gets: the code, what the output buffer holds, and the lent number.
@@ -17,8 +18,8 @@ pub record WriteExport : Type 0 where
 abbrev pub sizeLeft : CountAnswer → (size : ℕ) → ℕ
 sizeLeft a before = cond (eqb (a .code) 0) (a .count) before
 
--- Within the server's limits.
-unfoldable pub writeExport : (n L : ℕ) (entries lengths output : List ℕ) (size : ℕ) → WriteExport
-writeExport n L es ms out size =
-    let w = written serverLimits n L es ms out in
+-- Within the caller's limits. (02, wish 9: "the C entry .. use the server's".)
+unfoldable pub writeExport : Caller → (n L : ℕ) (entries lengths output : List ℕ) (size : ℕ) → WriteExport
+writeExport caller n L es ms out size =
+    let w = written (limitsOf caller) n L es ms out in
     record { code = w .answer .code; buffer = w .buffer; size = sizeLeft (w .answer) size }

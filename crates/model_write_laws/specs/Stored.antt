@@ -1,10 +1,10 @@
 -- A sheet that is stored part by part, and what the call then gives.
 use Rattle.base.specs.Prelude.{ℕ, zero, suc, _+_, _*_, _≤_, arith, zero-add, _≡_, refl, sym, _∙_, ap, List, _∷_, _++_, length, drop, set, sets, sets-eq}
 use Rattle.base.specs.Arrays.{sets-append}
-use Rattle.model_laws.specs.Types.{Limits}
+use Rattle.model_laws.specs.Types.{Caller, Limits}
 use Rattle.model.specs.Bytes.{bytes16}
 use Rattle.model.specs.declared.CountAnswer.{CountAnswer}
-use Rattle.model.specs.Board.{serverLimits}
+use Rattle.model.specs.Board.{limitsOf}
 use Rattle.model_write.specs.Write.{laidOut, pairBytes, sheetOf, writeRefusal, Written, wrote, written}
 use Rattle.model_write.specs.WriteExport.{sizeLeft, writeExport}
 use Rattle.model_write_laws.specs.Sizes.{length-laidOut, length-pairBytes}
@@ -38,11 +38,11 @@ module _ (most : Limits) (n L : ℕ) (es ms out : List ℕ) where
   unfolding written
   written-accepted e s a = rw (e, s, a)
 
--- What C gets of a call within the server's limits.
-pub exported : (n L : ℕ) (es ms out : List ℕ) (before : ℕ) {a : CountAnswer} {after : List ℕ} {size : ℕ}
-    → wrote a after ≡ written serverLimits n L es ms out → size ≡ sizeLeft a before
-    → let x = writeExport n L es ms out before in
+-- What C gets of a call within a caller's limits.
+pub exported : (caller : Caller) (n L : ℕ) (es ms out : List ℕ) (before : ℕ) {a : CountAnswer} {after : List ℕ} {size : ℕ}
+    → wrote a after ≡ written (limitsOf caller) n L es ms out → size ≡ sizeLeft a before
+    → let x = writeExport caller n L es ms out before in
     (a .code ≡ x .code) × ((after ≡ x .buffer) × (size ≡ x .size))
 unfolding writeExport
-exported n L es ms out before e s =
+exported caller n L es ms out before e s =
     (ap (λ (w : Written). w .answer .code) e, (ap (λ (w : Written). w .buffer) e, s ∙ ap (λ (w : Written). sizeLeft (w .answer) before) e))

@@ -1,6 +1,7 @@
 // The session that an opening makes, and the limits that it is given.
 ghost use mathlib.Core.Path.{_≡_};
-ghost use Rattle.model.specs.Board.{opened as openedOf, serverLimits};
+ghost use Rattle.model.specs.Board.{opened as openedOf, limitsOf};
+use model::Caller;
 use model::Limits;
 use model::Phase;
 use model::Process;
@@ -28,12 +29,19 @@ pub fn opened(n: usize, limit: usize) -> Session
     }
 }
 
-// 01, "The board and the seats": "Seats n: 1 to 64", "Round limit L: W to 256": the limits of the server's callers.
-pub fn server() -> Limits
-    ensures { λ r. ⌜ r ≡ serverLimits ⌝ }
+// 01, "The board and the seats": "Seats n: 1 to 64", "Round limit L: W to 256". 02, wish 9: "A cart runs the same library with at most 16 seats and 64
+// rounds; the server stays at 64 and 256." The one place of the code where these pairs stand.
+pub fn limits_of(caller: Caller) -> Limits
+    ensures { λ r. ⌜ r ≡ limitsOf caller ⌝ }
 {
-    Limits {
-        processes: 64,
-        rounds: 256,
+    match caller {
+        Caller::Server => Limits {
+            processes: 64,
+            rounds: 256,
+        },
+        Caller::Cart => Limits {
+            processes: 16,
+            rounds: 64,
+        },
     }
 }

@@ -1,9 +1,10 @@
 // The refusal of a sheet. 01, "Turn sheets" and "Numbers returned", rows 10, 1, 2, 11 and 12.
 ghost use mathlib.Core.Path.{_≡_};
+ghost use Rattle.model.specs.Board.{limitsOf};
 ghost use Rattle.model.specs.Refusal.{refusal as firstOf};
 ghost use Rattle.model.specs.Sheet.{sheetRefusal};
 ghost use Rattle.sheet_refusal.specs.RunTests.{runTests};
-use model::Limits;
+use model::Caller;
 
 // "11 over all pairs, 12 over all runs": from is where the run before ended, and code is 12 once a run is no whole entries.
 fn runs_refusal(s: &[u8]) -> u32
@@ -31,11 +32,11 @@ fn runs_refusal(s: &[u8]) -> u32
     code
 }
 
-// 0 where it is accepted, within a caller's limits. "Order: Sheet 10, 1, 2, 11 over all pairs, 12 over all runs." "10: sheet
+// 0 where it is accepted, within the caller's limits. "Order: Sheet 10, 1, 2, 11 over all pairs, 12 over all runs." "10: sheet
 // under 4 or over 65,535 bytes, over 16 pairs, or too short for its pairs." "Byte 0: n. Byte 1: the count p of pairs. Bytes 2
 // and 3: L."
-pub fn refusal(most: Limits, s: &[u8]) -> u32
-    ensures { λ r. ⌜ r ≡ sheetRefusal most (now (s .entry)) ⌝ }
+pub fn refusal(caller: Caller, s: &[u8]) -> u32
+    ensures { λ r. ⌜ r ≡ sheetRefusal (limitsOf caller) (now (s .entry)) ⌝ }
 {
     if s.len() < 4 {
         return 10;
@@ -52,7 +53,7 @@ pub fn refusal(most: Limits, s: &[u8]) -> u32
     }
     let n = part_bytes::byte(s, 0) as usize;
     let limit = part_bytes::word16(s, 2) as usize;
-    let opening = session_open::open_refusal(most, n, limit);
+    let opening = session_open::open_refusal(caller, n, limit);
     if opening != 0 {
         return opening;
     }

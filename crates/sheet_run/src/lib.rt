@@ -5,6 +5,7 @@ ghost use Rattle.model.specs.Board.{noCounts};
 ghost use Rattle.model.specs.Runner.{ran as ranOf, runFrom, run as runOf};
 ghost use Rattle.model.specs.Sheet.{entries};
 ghost use Rattle.sheet_run_laws.specs.Carried.{Begun};
+use model::Caller;
 use model::Counts;
 use model::Ending;
 use model::Operation;
@@ -80,11 +81,11 @@ fn carry(sheet: &[u8], budget: usize, window: usize, mut s: Session, mut c: Coun
     }
 }
 
-// 01, "Turn sheets": the runner. A refused sheet makes no session.
-pub fn run(sheet: &[u8], budget: usize) -> Ran
-    ensures { λ r. ⌜ r ≡ runOf (now (sheet .entry)) budget ⌝ }
+// 01, "Turn sheets": the runner, within the caller's limits (02, wish 9). A refused sheet makes no session.
+pub fn run(caller: Caller, sheet: &[u8], budget: usize) -> Ran
+    ensures { λ r. ⌜ r ≡ runOf caller (now (sheet .entry)) budget ⌝ }
 {
-    let code = sheet_refusal::refusal(session_opened::server(), sheet);
+    let code = sheet_refusal::refusal(caller, sheet);
     if code != 0 {
         return ran(
             0,

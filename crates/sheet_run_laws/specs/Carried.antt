@@ -1,8 +1,8 @@
 -- What the runner's loop keeps, and the laws of its turns.
 use Rattle.base.specs.Prelude.{ℕ, suc, zero, _+_, _-_, _≤_, _<_, arith, add-one, _≡_, refl, sym, _∙_, subst₃, Bool, true, false, cond, _||_, true≢false, List, _∷_, length, leb, ne-eqb, leb-true, leb-false}
-use Rattle.model_laws.specs.Types.{Access, Session, Counts, Operation, Finished, Refused, BudgetEnded, Rejected, Ran}
+use Rattle.model_laws.specs.Types.{Caller, Limits, Access, Session, Counts, Operation, Finished, Refused, BudgetEnded, Rejected, Ran}
 use Rattle.model.specs.Window.{window}
-use Rattle.model.specs.Board.{processAt, opened, noCounts, serverLimits}
+use Rattle.model.specs.Board.{limitsOf, UpToServer, processAt, opened, noCounts}
 use Rattle.model.specs.Step.{found, counted}
 use Rattle.model.specs.Refusal.{refusal, full, processOf, tests}
 use Rattle.model.specs.Machine.{accessOf, after, countsAfter, answered, perform}
@@ -12,7 +12,8 @@ use Rattle.model.specs.Sheet.{processCount, roundLimit, entries, sheetRefusal}
 use Rattle.model_laws.specs.Accepted.{Accepted, accepted}
 use Rattle.model_laws.specs.SheetFacts.{sheet-facts}
 use Rattle.model_laws.specs.Answers.{accepted-counts}
-use Rattle.model_laws.specs.Operations.{opened-sound, open-accepted, after-sound}
+use Rattle.model_laws.specs.Operations.{opened-sound, after-sound}
+use Rattle.model_laws.specs.Callers.{open-held}
 use Rattle.model_laws.specs.Sounds.{sound-facts}
 use Rattle.model_laws.specs.Windows.{window-least}
 use Rattle.sheet_place_laws.specs.declared.Handed.the-variants.{Next, End}
@@ -33,14 +34,14 @@ pub record Begun (t : List ℕ) (W : ℕ) (s : Session) : Type 0 where
 
 -- ---- the start of a run
 
--- An accepted sheet opens a sound session.
-pub sheet-opens : (t : List ℕ) {W : ℕ} {s : Session} → sheetRefusal serverLimits t ≡ 0 → W ≡ window (processCount t) →
+-- An accepted sheet opens a sound session, within limits up to the server's.
+pub sheet-opens : (most : Limits) → UpToServer most → (t : List ℕ) {W : ℕ} {s : Session} → sheetRefusal most t ≡ 0 → W ≡ window (processCount t) →
     s ≡ opened (processCount t) (roundLimit t) → Begun t W s
 unfolding opened
-sheet-opens t e ew es =
-    let inside = accepted-inside serverLimits t e in
-    let a = sheet-facts serverLimits t e .opens in
-    let f = open-accepted serverLimits (window (processCount t)) (processCount t) (roundLimit t) (rw (a .0, a .1 .0)) in
+sheet-opens most up t e ew es =
+    let inside = accepted-inside most t e in
+    let a = sheet-facts most t e .opens in
+    let f = open-held most up (window (processCount t)) (processCount t) (roundLimit t) (rw (a .0, a .1 .0)) in
     rw (ew, es)
     (record {
       opened = record {
@@ -51,17 +52,17 @@ sheet-opens t e ew es =
     })
 
 -- "no session made": a refused sheet.
-pub run-rejected : (t : List ℕ) (budget r : ℕ) → r ≡ sheetRefusal serverLimits t → (r ≡ 0 → ⊥) →
-    ran 0 (opened 0 0) noCounts (Rejected r) ≡ run t budget
+pub run-rejected : (caller : Caller) (t : List ℕ) (budget r : ℕ) → r ≡ sheetRefusal (limitsOf caller) t → (r ≡ 0 → ⊥) →
+    ran 0 (opened 0 0) noCounts (Rejected r) ≡ run caller t budget
 unfolding run runWithin
-run-rejected t budget zero e some = absurd (some refl)
-run-rejected t budget (suc r) e some = rw (← e)
+run-rejected caller t budget zero e some = absurd (some refl)
+run-rejected caller t budget (suc r) e some = rw (← e)
 
 -- An accepted one.
-pub run-accepted : (t : List ℕ) (budget : ℕ) {W : ℕ} → W ≡ window (processCount t) → sheetRefusal serverLimits t ≡ 0 →
-    runFrom W budget 0 (opened (processCount t) (roundLimit t)) noCounts (entries t) ≡ run t budget
+pub run-accepted : (caller : Caller) (t : List ℕ) (budget : ℕ) {W : ℕ} → W ≡ window (processCount t) → sheetRefusal (limitsOf caller) t ≡ 0 →
+    runFrom W budget 0 (opened (processCount t) (roundLimit t)) noCounts (entries t) ≡ run caller t budget
 unfolding run runWithin
-run-accepted t budget ew e = rw (e, ew)
+run-accepted caller t budget ew e = rw (e, ew)
 
 -- ---- one entry of a run
 

@@ -3,9 +3,10 @@ ghost use mathlib.Core.Path.{_≡_};
 ghost use Prim.Native.Nat.{_+_, _*_, _≤_};
 ghost use lib.ListN.{length};
 ghost use lib.Seq.{sets};
+ghost use Rattle.model.specs.Board.{limitsOf};
 ghost use Rattle.model_write.specs.Write.{laidOut, pairBytes, total, wrote, written};
+use model::Caller;
 use model::CountAnswer;
-use model::Limits;
 
 // The pairs of runs of these lengths, the first behind the pairs, the others without gaps, stored from byte 4 on.
 fn put_pairs(lengths: &[usize], sheet: &mut [u8])
@@ -36,19 +37,19 @@ fn put_entries(entries: &[u8], at: usize, sheet: &mut [u8])
     }
 }
 
-// Writes a sheet of the given entries, cut into runs of the given lengths, from the first byte of the output on; answers its size. Refused, the
-// output is as it was.
+// Writes a sheet of the given entries, cut into runs of the given lengths, from the first byte of the output on, within the caller's limits (02, wish
+// 9); answers its size. Refused, the output is as it was.
 pub fn write(
-    most: Limits,
+    caller: Caller,
     n: usize,
     limit: usize,
     entries: &[u8],
     lengths: &[usize],
     sheet: &mut [u8],
 ) -> CountAnswer
-    ensures { λ r. ⌜ wrote r (now (sheet .exit)) ≡ written most n limit (now (entries .entry)) (now (lengths .entry)) (now (sheet .entry)) ⌝ }
+    ensures { λ r. ⌜ wrote r (now (sheet .exit)) ≡ written (limitsOf caller) n limit (now (entries .entry)) (now (lengths .entry)) (now (sheet .entry)) ⌝ }
 {
-    let code = sheet_write_refusal::write_refusal(most, n, limit, entries, lengths, sheet.len());
+    let code = sheet_write_refusal::write_refusal(caller, n, limit, entries, lengths, sheet.len());
     if code != 0 {
         return CountAnswer {
             code: code,

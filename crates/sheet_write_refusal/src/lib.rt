@@ -4,9 +4,10 @@ ghost use mathlib.Core.Bool.{_&&_};
 ghost use Prim.Native.Nat.{_+_, _*_, _/_, min};
 ghost use lib.ListN.{length};
 ghost use lib.Dec.{leb, eqb};
+ghost use Rattle.model.specs.Board.{limitsOf};
 ghost use Rattle.model.specs.Sheet.{entriesAt};
 ghost use Rattle.model_write.specs.Write.{total, wellFormed, writeRefusal};
-use model::Limits;
+use model::Caller;
 use part_entry::formed;
 use part_entry::number32;
 
@@ -66,18 +67,18 @@ fn well_formed(entries: &[u8]) -> bool
     true
 }
 
-// 0 where it is accepted, within a caller's limits. `room` is the length of the output.
+// 0 where it is accepted, within the caller's limits. `room` is the length of the output.
 pub fn write_refusal(
-    most: Limits,
+    caller: Caller,
     n: usize,
     limit: usize,
     entries: &[u8],
     lengths: &[usize],
     room: usize,
 ) -> u32
-    ensures { λ r. ⌜ r ≡ writeRefusal most n limit (now (entries .entry)) (now (lengths .entry)) room ⌝ }
+    ensures { λ r. ⌜ r ≡ writeRefusal (limitsOf caller) n limit (now (entries .entry)) (now (lengths .entry)) room ⌝ }
 {
-    let opening = session_open::open_refusal(most, n, limit);
+    let opening = session_open::open_refusal(caller, n, limit);
     if opening != 0 {
         return opening;
     }

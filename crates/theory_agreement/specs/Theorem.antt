@@ -1,18 +1,18 @@
 -- The agreement rule holds at every window that is wide enough: the calls follow the machine, and the machine's rule holds. The rule in service is an
 -- instance.
 use Rattle.base.specs.Prelude.{ℕ, _*_, _≤_, arith, _≡_, refl, sym, _∙_, ap, subst, false, List, []}
-use Rattle.model_laws.specs.Types.{Session, Counts, Operation, Propose, Step, Learn, Crash, Malformed, Changed, Stepped}
+use Rattle.model_laws.specs.Types.{Limits, Session, Counts, Operation, Propose, Step, Learn, Crash, Malformed, Changed, Stepped}
 use Rattle.model.specs.Window.{window}
-use Rattle.model.specs.Board.{serverLimits}
+use Rattle.model.specs.Board.{limitsOf, UpToServer}
 use Rattle.model.specs.Machine.{answered, perform, openingAt}
 use Rattle.model.specs.Public.{operateAtAs, operate, withCounts, stepAt, learnAt}
 use Rattle.model_laws.specs.Windows.{window-square}
 use Rattle.model_laws.specs.Accepted.{never-three}
-use Rattle.model_laws.specs.Operations.{opening-accepted}
+use Rattle.model_laws.specs.Callers.{caller-limits, opening-held}
 use Rattle.model_laws.specs.Answers.{stepped-code, operate-sound, propose-counts, crash-counts}
 use Rattle.model_rule.specs.Event.{Event}
 use Rattle.model_rule.specs.Calls.{Input, machine, PromisedAt, Call, RunWith, none, call, inputs}
-use Rattle.model_rule.specs.Rule.{EachAsTheMachine, EveryWindow, AgreementRule}
+use Rattle.model_rule.specs.Rule.{EachAsTheMachine, EveryWindow, AgreementRule, CallerAgreement}
 use Rattle.model_rule.specs.Safe.{Safe, BelowThreshold}
 use Rattle.theory_count.specs.Grid.{wide-below, below-wide}
 use Rattle.theory_agreement.specs.Machine.{Reached, machine-reached, opened-reached, reached-below}
@@ -55,15 +55,16 @@ followed {w} {n} {L} {start} wide i (call {cs} {s} run c promised) =
     ∙ operates-as w m (c .input) in
     ((e, λ three. never-unsound m (c .input) (sym (ap (λ (x : Stepped). x .code) e) ∙ three), f .0), ap (λ (x : Stepped). x .session) e)
 
--- An accepted opening.
-pub opening-reached : (W n L : ℕ) → openingAt W n L .code ≡ 0 → (1 ≤ n) × Reached W n L (openingAt W n L .session) []
-opening-reached W n L ok =
-    let a = opening-accepted serverLimits W n L ok in (a .0, rw (a .4) (opened-reached W n L (a .0) (a .1) (a .2) (a .3)))
+-- An accepted opening, within limits up to the server's.
+pub opening-reached : (most : Limits) → UpToServer most → (W n L : ℕ) → openingAt most W n L .code ≡ 0 →
+    (1 ≤ n) × Reached W n L (openingAt most W n L .session) []
+opening-reached most up W n L ok =
+    let a = opening-held most up W n L ok in (a .0, rw (a .4) (opened-reached W n L (a .0) (a .1) (a .2) (a .3)))
 
 -- The agreement rule, below the threshold of every window.
 pub below-threshold : BelowThreshold
-below-threshold w n L few ok cs s run =
-    let o = opening-reached (w n) n L ok in
+below-threshold w n L few most up ok cs s run =
+    let o = opening-reached most up (w n) n L ok in
     let least : 2 ≤ w n = below-wide (w n) n (o .0) few in
     let wide : 1 ≤ w n = omega arith in
     let f = followed wide (o .1) run in
@@ -77,6 +78,10 @@ every-window w n L square = below-threshold w n L (wide-below (w n) n square)
 pub wide-safe : (W n : ℕ) → 2 ≤ W → 4 * n ≤ W * W → Safe W n
 wide-safe W n least square L = every-window (λ m. W) n L square
 
--- And in service.
+-- And in service,
 pub agreement : AgreementRule
 agreement n L = every-window window n L (window-square n)
+
+-- of both callers.
+pub caller-agreement : CallerAgreement
+caller-agreement caller n L = agreement n L (limitsOf caller) (caller-limits caller)

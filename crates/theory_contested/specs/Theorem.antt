@@ -1,13 +1,13 @@
 -- Contested is the number of marked rounds, after every list of calls on one tally and after every sheet.
 use Rattle.base.specs.Prelude.{ℕ, suc, zero, _≤_, arith, _≡_, refl, _∙_, ap, List, [], _∷_, eqb}
 use Rattle.base.specs.Bools.{cond-cases}
-use Rattle.model_laws.specs.Types.{Session, Counts, Operation, Ran, Stepped}
+use Rattle.model_laws.specs.Types.{Limits, Session, Counts, Operation, Ran, Stepped}
 use Rattle.model.specs.Window.{window}
-use Rattle.model.specs.Board.{noCounts, opened, serverLimits, maxRounds}
-use Rattle.model.specs.Refusal.{refusal, openTests, changed}
-use Rattle.model.specs.Machine.{perform, openWithinAt, opening}
+use Rattle.model.specs.Board.{UpToServer, noCounts, opened, maxRounds}
+use Rattle.model.specs.Refusal.{refusal, openTestsAt, changed}
+use Rattle.model.specs.Machine.{perform, openingAt}
 use Rattle.model.specs.Sheet.{processCount, roundLimit, entries, sheetRefusal}
-use Rattle.model.specs.Runner.{runBy, runFrom, ranOr, runWithin, run}
+use Rattle.model.specs.Runner.{runBy, runFrom, ranOr, runWithin}
 use Rattle.model_laws.specs.Windows.{window-least}
 use Rattle.model_rule.specs.Event.{Event}
 use Rattle.model_rule.specs.Calls.{machine, Call, inputs}
@@ -28,9 +28,9 @@ opened-contested n L = none L
     none zero = refl
     none (suc r) = rw (← none r, same-everywhere maxRounds r _)
 
-opening-contested : (n L : ℕ) → 0 ≡ markedRounds (opening n L .session)
-unfolding openWithinAt
-opening-contested n L = go (refusal (openTests serverLimits n L))
+opening-contested : (most : Limits) (W n L : ℕ) → 0 ≡ markedRounds (openingAt most W n L .session)
+unfolding openingAt
+opening-contested most W n L = go (refusal (openTestsAt most W n L))
   where
     go : (k : ℕ) → 0 ≡ markedRounds (changed k (opened 0 0) (opened n L) .session)
     go zero = opened-contested n L
@@ -68,21 +68,21 @@ module _ {n L : ℕ} (wide : 1 ≤ window n) where
       (λ z. same)
 
 pub contested : ContestedRule
-contested n L ok cs s c run tally =
-    let o = opening-reached (window n) n L ok in
+contested most up n L ok cs s c run tally =
+    let o = opening-reached most up (window n) n L ok in
     let wide : 1 ≤ window n = omega (arith, window-least n (o .0)) in
     let f = followed wide (o .1) run in
-    rw (f .1) (calls-contested wide (o .1) (opening-contested n L) cs (f .0) c tally)
+    rw (f .1) (calls-contested wide (o .1) (opening-contested most (window n) n L) cs (f .0) c tally)
 
 pub run-contested : ContestedRun
-unfolding run runWithin
-run-contested t budget = go (sheetRefusal serverLimits t) refl
+unfolding runWithin
+run-contested most up t budget = go (sheetRefusal most t) refl
   where
-    go : (k : ℕ) → sheetRefusal serverLimits t ≡ k →
+    go : (k : ℕ) → sheetRefusal most t ≡ k →
         let r = ranOr k (runFrom (window (processCount t)) budget 0 (opened (processCount t) (roundLimit t)) noCounts (entries t)) in
         r .counts .contested ≡ markedRounds (r .session)
     go zero e =
-        let o = sheet-reached t budget e in
+        let o = sheet-reached most up t budget e in
         let wide : 1 ≤ window (processCount t) = omega (arith, window-least (processCount t) (o .0)) in
         runs-contested wide budget 0 noCounts (entries t) (o .1) (opened-contested (processCount t) (roundLimit t))
     go (suc k) e = opened-contested 0 0

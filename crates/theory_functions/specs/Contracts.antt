@@ -11,6 +11,7 @@ use ghost.Atoms.{Atoms}
 use contract.Monad.{Fun, fact}
 use denote.Ref.{RefT, now}
 use denote.Triple.Clauses.{AtExit}
+use Rattle.model.specs.declared.Caller.{Caller}
 use Rattle.model.specs.declared.Session.{Session}
 use Rattle.model.specs.declared.Counts.{Counts}
 use Rattle.model.specs.declared.Operation.the-variants.{Propose, Step, Learn, Crash}
@@ -25,9 +26,9 @@ use Rattle.session_step_lent.proofs.step as step
 use Rattle.session_step_lent.proofs.learn as learn
 
 module _ {M : Type 1} (𝓤 : URA M) (H : Heap 𝓤) (A : Atoms 𝓤) (mem : Memory → SProp 𝓤) (run : Routine → Fun 𝓤) where
-  pub open-ensures : (n L : ℕ) (r : Changed) (e : AtExit opens.ended tt) →
-      opens.clauses 𝓤 H A mem run tt (n, (L, tt)) .ensures tt r e ≡ fact 𝓤 (r ≡ opening n L)
-  open-ensures n L r e = refl
+  pub open-ensures : (caller : Caller) (n L : ℕ) (r : Changed) (e : AtExit opens.ended tt) →
+      opens.clauses 𝓤 H A mem run tt (caller, (n, (L, tt))) .ensures tt r e ≡ fact 𝓤 (r ≡ opening caller n L)
+  open-ensures caller n L r e = refl
 
   -- A proposal and a crash are lent no counts.
   pub propose-ensures : (s : Session) (p v : ℕ) (r : Changed) (e : AtExit propose.ended tt) →

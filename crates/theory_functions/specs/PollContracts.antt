@@ -11,6 +11,7 @@ use ghost.Atoms.{Atoms}
 use contract.Monad.{Fun, fact}
 use denote.Ref.{RefT, now}
 use denote.Triple.Clauses.{AtExit}
+use Rattle.model.specs.declared.Caller.{Caller}
 use Rattle.model.specs.declared.Session.{Session}
 use Rattle.model.specs.declared.Counts.{Counts}
 use Rattle.model.specs.declared.Changed.{Changed}
@@ -24,9 +25,9 @@ use Rattle.poll_change.proofs.crash as crash
 use Rattle.poll_turn_lent.proofs.turn as turn
 
 module _ {M : Type 1} (𝓤 : URA M) (H : Heap 𝓤) (A : Atoms 𝓤) (mem : Memory → SProp 𝓤) (run : Routine → Fun 𝓤) where
-  pub poll-open-ensures : (n : ℕ) (r : Changed) (e : AtExit opens.ended tt) →
-      opens.clauses 𝓤 H A mem run tt (n, tt) .ensures tt r e ≡ fact 𝓤 (r ≡ pollOpening n)
-  poll-open-ensures n r e = refl
+  pub poll-open-ensures : (caller : Caller) (n : ℕ) (r : Changed) (e : AtExit opens.ended tt) →
+      opens.clauses 𝓤 H A mem run tt (caller, (n, tt)) .ensures tt r e ≡ fact 𝓤 (r ≡ pollOpening caller n)
+  poll-open-ensures caller n r e = refl
 
   -- A proposal and a crash are lent no counts.
   pub poll-propose-ensures : (s : Session) (p v : ℕ) (r : Changed) (e : AtExit propose.ended tt) →

@@ -2,8 +2,9 @@
 use Rattle.base.specs.Prelude.{ℕ, _+_, _*_, _≤_, _<_, arith, _≡_, refl, sym, _∙_, ap, subst, List, [], ⊎-elim}
 use Rattle.model_laws.specs.Types.{Session, HasCommitted, HasAdopted}
 use Rattle.model.specs.Window.{window}
-use Rattle.model.specs.Board.{processAt, idle, opened, maxProcesses, maxRounds}
+use Rattle.model.specs.Board.{limitsOf, processAt, idle, opened, maxProcesses, maxRounds}
 use Rattle.model_laws.specs.Windows.{window-square}
+use Rattle.model_laws.specs.Callers.{caller-limits}
 use Rattle.model_rule.specs.Event.{Proposed}
 use Rattle.model_rule.specs.Safe.{threshold}
 use Rattle.model_poll_rule.specs.Safe.{PollBelowThreshold}
@@ -13,7 +14,7 @@ use Rattle.model_poll.specs.declared.Answer.the-variants.{Commits}
 use Rattle.model_poll.specs.Turn.{answerOf, Carries}
 use Rattle.model_poll.specs.Machine.{turns}
 use Rattle.model_poll_rule.specs.Calls.{pollMachine, pollPast, PollCall, pollInputs}
-use Rattle.model_poll_rule.specs.Rule.{EachAsThePollMachine, Stood, Gave, PollRule, PollClaimWith, EveryPollWindow, PollClaim}
+use Rattle.model_poll_rule.specs.Rule.{EachAsThePollMachine, Stood, Gave, PollRule, PollClaimWith, EveryPollWindow, PollClaim, CallerPollClaim}
 use Rattle.model_poll_laws.specs.Opening.{poll-opened}
 use Rattle.model_poll_laws.specs.Performs.{answer-cases}
 use Rattle.theory_board.specs.Opening.{same-everywhere}
@@ -76,8 +77,8 @@ opened-fresh W n p = same-everywhere maxProcesses p idle
 
 -- The rule of polls, below the threshold of every window.
 pub poll-below-threshold : PollBelowThreshold
-poll-below-threshold w n few ok cs s run =
-    let o = poll-opened (w n) n ok in
+poll-below-threshold w n few most up ok cs s run =
+    let o = poll-opened most up (w n) n ok in
     let least : 2 ≤ w n = below-wide (w n) n (o .0) few in
     let wide : 1 ≤ w n = omega arith in
     let reached = opened-poll-reached (w n) n (o .0) (o .1) (o .2) in
@@ -93,6 +94,10 @@ every-poll-window w n square = poll-below-threshold w n (wide-below (w n) n squa
 pub poll-rule-at : (W n : ℕ) → 2 ≤ W → 4 * n ≤ W * W → PollClaimWith (λ m. W) n
 poll-rule-at W n least square = every-poll-window (λ m. W) n square
 
--- And in service.
+-- And in service,
 pub poll-rule : PollClaim
 poll-rule n = every-poll-window window n (window-square n)
+
+-- of both callers.
+pub caller-poll-rule : CallerPollClaim
+caller-poll-rule caller n = poll-rule n (limitsOf caller) (caller-limits caller)

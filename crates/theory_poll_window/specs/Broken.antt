@@ -4,11 +4,12 @@ use mathlib.Core.Path.{_≡_, refl}
 use mathlib.Core.Bool.{Bool, true, false, _&&_}
 use mathlib.Core.List.{List, [], _∷_, _++_, map}
 use lib.Dec.{eqb}
+use Rattle.model.specs.declared.Caller.the-variants.{Server}
 use Rattle.model.specs.declared.Session.{Session}
-use Rattle.model.specs.Board.{opened, processAt}
+use Rattle.model.specs.Board.{limitsOf, opened, processAt}
 use Rattle.model.specs.Step.{waitingRule, accessAt, access, found, goOn, nextAt, next, learnt, stored, turn, counted}
 use Rattle.model.specs.Refusal.{full}
-use Rattle.model.specs.Machine.{openWithinAt, accessOf, becomes, after, countsAfter, answered, perform}
+use Rattle.model.specs.Machine.{openingAt, accessOf, becomes, after, countsAfter, answered, perform}
 use Rattle.model.specs.Sound.{every}
 use Rattle.model_cases.specs.Play.{repeat}
 use Rattle.model_rule.specs.Safe.{threshold}
@@ -45,9 +46,9 @@ isAdopted v Pending = false
 isAdopted v (Commits u) = false
 isAdopted v (Adopts u) = eqb u v
 
--- The poll after them.
+-- The poll after them, opened by the server.
 abbrev pub left : (W : ℕ) → Session
-left W = played W (pollOpeningAt W (threshold W) .session) (operations W)
+left W = played W (pollOpeningAt (limitsOf Server) W (threshold W) .session) (operations W)
 
 unfoldable pub answersDiffer : Session → (one other : ℕ) → Bool
 answersDiffer s one other = isCommitted 1 (answerOf (processAt s one)) && isAdopted 2 (answerOf (processAt s other))
@@ -55,12 +56,12 @@ answersDiffer s one other = isCommitted 1 (answerOf (processAt s one)) && isAdop
 -- The list of window W breaks the rule there, with as many processes as break it for sessions.
 unfoldable pub broken : (W : ℕ) → Bool
 broken W =
-    (eqb (pollOpeningAt W (threshold W) .code) 0 && every (within (threshold W)) (operations W))
+    (eqb (pollOpeningAt (limitsOf Server) W (threshold W) .code) 0 && every (within (threshold W)) (operations W))
     && answersDiffer (left W) (withOne W (atLast W)) (withTwo W (atLast W))
 
 pub all-broken : every broken (from 2 14) ≡ true
 unfolding
     broken operations answersDiffer written goesOn allGoOn onePass epochs atFirst atLast played opened waitingRule accessAt access found goOn nextAt next learnt
-    stored turn counted full openWithinAt accessOf becomes after countsAfter answered perform withoutDecision pollAccess ending pollNext answerOf
+    stored turn counted full openingAt accessOf becomes after countsAfter answered perform withoutDecision pollAccess ending pollNext answerOf
     pollOpeningAt turnAfter turnCounts turned pollPerform
 all-broken = refl

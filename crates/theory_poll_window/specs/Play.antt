@@ -1,5 +1,6 @@
 -- Lists of operations that are played on the machine of polls at any window, oldest first.
 use Rattle.base.specs.Prelude.{ℕ, _≡_, refl, sym, _∙_, ap, subst, List, [], _∷_}
+use Rattle.model.specs.declared.Limits.{Limits}
 use Rattle.model.specs.declared.Session.{Session}
 use Rattle.model.specs.Board.{processAt, noCounts}
 use Rattle.model_rule_cases.specs.Play.{Called, called-more}
@@ -10,7 +11,7 @@ use Rattle.model_poll.specs.Turn.{answerOf, Carries}
 use Rattle.model_poll.specs.Machine.{PollOperation, proposes, turns, crashes, pollOpeningAt, pollPerform}
 use Rattle.model_poll.specs.Public.{pollProposeAt, pollTurnAt, pollCrashAt, withoutLent}
 use Rattle.model_poll_rule.specs.Calls.{PollInput, pollMachine, PollCall, unasked, PollRunWith, none, call, pollInputs}
-use Rattle.model_poll_rule.specs.Rule.{PollClaimWith}
+use Rattle.model_poll_rule.specs.Rule.{PollClaimWithin}
 
 -- What the machine is fed. Each call brings an empty tally.
 abbrev pub inputOf : PollOperation → PollInput
@@ -59,13 +60,13 @@ module _ {w : ℕ → ℕ} {start : Session} where
 
 -- ---- the rule is false
 
--- Two records that show a committed value and another value, after operations from an accepted opening.
-pub breaks-poll-rule : (w : ℕ → ℕ) (n : ℕ) (os : List PollOperation) (p q u v : ℕ) →
-    let start = pollOpeningAt (w n) n in
+-- Two records that show a committed value and another value, after operations from an accepted opening, within any limits.
+pub breaks-poll-rule : (most : Limits) (w : ℕ → ℕ) (n : ℕ) (os : List PollOperation) (p q u v : ℕ) →
+    let start = pollOpeningAt most (w n) n in
     let s = played (w n) (start .session) os in
-    start .code ≡ 0 → answerOf (processAt s p) ≡ Commits v → Carries (answerOf (processAt s q)) u → (u ≡ v → ⊥) → PollClaimWith w n → ⊥
-breaks-poll-rule w n os p q u v ok commits carries differ claim =
-    let start = pollOpeningAt (w n) n .session in
+    start .code ≡ 0 → answerOf (processAt s p) ≡ Commits v → Carries (answerOf (processAt s q)) u → (u ≡ v → ⊥) → PollClaimWithin most w n → ⊥
+breaks-poll-rule most w n os p q u v ok commits carries differ claim =
+    let start = pollOpeningAt most (w n) n .session in
     let c = called {w = w} {start = start} os (record { calls = []; session = start; run = none; same = refl }) in
     let holds = claim ok (c .calls) (c .session) (c .run) in
     let same : played (w n) start os ≡ c .session =

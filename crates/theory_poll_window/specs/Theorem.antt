@@ -1,10 +1,12 @@
 -- Windows that are too short for polls (document 02, wish 7), and which windows are safe for how many processes.
 use Rattle.base.specs.Prelude.{ℕ, _+_, _*_, _≤_, arith, decLe, _≡_, refl, sym, _∙_, subst, Bool, true, true≢false, _&&_, eqb, eqb-true}
 use Rattle.base.specs.Bools.{and-left, and-right}
+use Rattle.model.specs.declared.Caller.the-variants.{Server}
 use Rattle.model.specs.declared.Session.{Session}
-use Rattle.model.specs.Board.{opened, processAt, maxProcesses, maxRounds, serverLimits}
+use Rattle.model.specs.Board.{limitsOf, opened, processAt, maxProcesses, maxRounds}
 use Rattle.model.specs.Sound.{every}
 use Rattle.model_laws.specs.Operations.{opening-accepts}
+use Rattle.model_laws.specs.Callers.{caller-limits}
 use Rattle.model_rule.specs.Safe.{threshold}
 use Rattle.model_poll.specs.declared.Answer.{Answer}
 use Rattle.model_poll.specs.declared.Answer.the-variants.{Pending, Commits, Adopts}
@@ -31,31 +33,32 @@ adopted-carries v (Commits u) t = absurd (true≢false (sym t))
 adopted-carries v (Adopts u) t = eqb-true u v t
 
 -- What is opened with n processes and a window that fits.
-opens : (W n : ℕ) → 1 ≤ n → n ≤ maxProcesses → W ≤ maxRounds → (pollOpeningAt W n .code ≡ 0) × (pollOpeningAt W n .session ≡ opened n W)
+opens : (W n : ℕ) → 1 ≤ n → n ≤ maxProcesses → W ≤ maxRounds → (pollOpeningAt (limitsOf Server) W n .code ≡ 0) × (pollOpeningAt (limitsOf Server) W n .session ≡ opened n W)
 unfolding pollOpeningAt
-opens W n some few low = opening-accepts serverLimits W n W some few (omega arith) low
+opens W n some few low = opening-accepts (limitsOf Server) W n W some few (omega arith) low
 
 -- The list of a window from 2 to 15 breaks it, with as many processes as its threshold and with more.
 broken-unsafe : (W n : ℕ) → broken W ≡ true → threshold W ≤ n → n ≤ maxProcesses → PollSafe W n → ⊥
 unfolding broken answersDiffer opened
-broken-unsafe W n t enough few =
+broken-unsafe W n t enough few safe =
     let e = threshold W in
     let os = operations W in
     let one = withOne W (atLast W) in
     let other = withTwo W (atLast W) in
     let a = answerOf (processAt (left W) one) in
     let b = answerOf (processAt (left W) other) in
-    let accepted = eqb (pollOpeningAt W e .code) 0 in
+    let accepted = eqb (pollOpeningAt (limitsOf Server) W e .code) 0 in
     let start = and-left (accepted && every (within e) os) (answersDiffer (left W) one other) t in
     let differ = and-right (accepted && every (within e) os) (answersDiffer (left W) one other) t in
-    let small = poll-opened W e (eqb-true (pollOpeningAt W e .code) 0 (and-left accepted (every (within e) os) start)) in
+    let small = poll-opened (limitsOf Server) (caller-limits Server) W e (eqb-true (pollOpeningAt (limitsOf Server) W e .code) 0 (and-left accepted (every (within e) os) start)) in
     let large = opens W n (omega (arith, small .0)) few (small .2) in
-    let same : sized n (left W) ≡ played W (pollOpeningAt W n .session) os =
+    let same : sized n (left W) ≡ played W (pollOpeningAt (limitsOf Server) W n .session) os =
     rw (small .3, large .1) (sym (played-more W n e (opened e W) os refl enough (and-right accepted (every (within e) os) start))) in
-    breaks-poll-rule (λ m. W) n os one other 2 1 (large .0)
+    breaks-poll-rule (limitsOf Server) (λ m. W) n os one other 2 1 (large .0)
     (subst (λ (s : Session). answerOf (processAt s one) ≡ Commits 1) same (committed-is 1 a (and-left (isCommitted 1 a) (isAdopted 2 b) differ)))
     (subst (λ (s : Session). Carries (answerOf (processAt s other)) 2) same (adopted-carries 2 b (and-right (isCommitted 1 a) (isAdopted 2 b) differ)))
     (λ z. omega arith)
+    (safe (limitsOf Server) (caller-limits Server))
 
 -- A window is not safe for polls of as many processes as its threshold, nor of more.
 pub poll-too-short : (W n : ℕ) → 2 ≤ W → threshold W ≤ n → n ≤ maxProcesses → PollSafe W n → ⊥

@@ -1,9 +1,9 @@
 -- A run of a sheet is the public operations, one after another, and the machine after the entries that were carried out.
 use Rattle.base.specs.Prelude.{ℕ, suc, zero, _+_, _≤_, arith, _≡_, refl, sym, _∙_, ap, cond, List, [], _∷_, length, take, eqb, eq-eqb}
 use Rattle.base.specs.Bools.{cond-cases}
-use Rattle.model_laws.specs.Types.{Session, Counts, Operation, Ending, Finished, Refused, BudgetEnded, Process, Ran}
+use Rattle.model_laws.specs.Types.{Limits, Server, Session, Counts, Operation, Ending, Finished, Refused, BudgetEnded, Process, Ran}
 use Rattle.model.specs.Window.{window}
-use Rattle.model.specs.Board.{opened, noCounts, serverLimits}
+use Rattle.model.specs.Board.{limitsOf, UpToServer, opened, noCounts}
 use Rattle.model.specs.Machine.{perform}
 use Rattle.model.specs.Public.{operate}
 use Rattle.model.specs.Sound.{soundAs, sound}
@@ -13,7 +13,7 @@ use Rattle.model.specs.Export.{decidedBytes, endingBuffer, exportBuffer}
 use Rattle.model.specs.Runner.{ran, runBy, runFrom, runWithin, run}
 use Rattle.model_laws.specs.Windows.{window-least, window-square}
 use Rattle.model_laws.specs.SheetFacts.{sheet-facts}
-use Rattle.model_laws.specs.Operations.{open-accepted}
+use Rattle.model_laws.specs.Callers.{caller-limits, open-held}
 use Rattle.model_rule.specs.Event.{Event}
 use Rattle.model_rule.specs.Calls.{Input, machine, past}
 use Rattle.model_rule.specs.Rule.{Rule}
@@ -91,56 +91,59 @@ abbrev pub openedBy : (sheet : List ℕ) → Session
 openedBy t = opened (processCount t) (roundLimit t)
 
 -- What it was fed: the entries that were carried out, newest first, each with the counts that the one before left.
-abbrev pub runInputs : (sheet : List ℕ) (budget : ℕ) → List Input
-runInputs t budget = fed (windowOf t) (openedBy t) noCounts (take (run t budget .carried) (entries t)) []
+abbrev pub runInputs : Limits → (sheet : List ℕ) (budget : ℕ) → List Input
+runInputs most t budget = fed (windowOf t) (openedBy t) noCounts (take (runWithin most t budget .carried) (entries t)) []
 
-module _ (t : List ℕ) (budget : ℕ) (ok : sheetRefusal serverLimits t ≡ 0) where
+module _ (most : Limits) (up : UpToServer most) (t : List ℕ) (budget : ℕ) (ok : sheetRefusal most t ≡ 0) where
   -- An accepted sheet is run by the machine, from the session that it opens.
-  run-accepted : run t budget ≡ runFrom (windowOf t) budget 0 (openedBy t) noCounts (entries t)
-  unfolding run runWithin
+  run-accepted : runWithin most t budget ≡ runFrom (windowOf t) budget 0 (openedBy t) noCounts (entries t)
+  unfolding runWithin
   run-accepted = rw ok
 
   -- The header's n and L open a session.
-  pub sheet-opens : refusal (openTests serverLimits (processCount t) (roundLimit t)) ≡ 0
-  sheet-opens = let a = sheet-facts serverLimits t ok .opens in rw (a .0, a .1 .0)
+  pub sheet-opens : refusal (openTests most (processCount t) (roundLimit t)) ≡ 0
+  sheet-opens = let a = sheet-facts most t ok .opens in rw (a .0, a .1 .0)
 
   pub sheet-reached : (1 ≤ processCount t) × Reached (windowOf t) (processCount t) (roundLimit t) (openedBy t) []
   sheet-reached =
-      let a = open-accepted serverLimits (windowOf t) (processCount t) (roundLimit t) sheet-opens in
+      let a = open-held most up (windowOf t) (processCount t) (roundLimit t) sheet-opens in
       (a .0, opened-reached (windowOf t) (processCount t) (roundLimit t) (a .0) (a .1) (a .2) (a .3))
 
   wide : 1 ≤ windowOf t
   wide = omega (arith, window-least (processCount t) (sheet-reached .0))
 
   -- The public operations, one after another, give the same as the machine, up to the budget or the first refused entry.
-  pub run-public : runBy operate budget 0 (openedBy t) noCounts (entries t) ≡ run t budget
+  pub run-public : runBy operate budget 0 (openedBy t) noCounts (entries t) ≡ runWithin most t budget
   run-public = operate-runs wide budget 0 noCounts (entries t) (sheet-reached .1) .0 ∙ sym run-accepted
 
   -- No entry is refused with 3.
-  pub run-never-three : (k : ℕ) → run t budget .ending ≡ Refused 3 k → ⊥
+  pub run-never-three : (k : ℕ) → runWithin most t budget .ending ≡ Refused 3 k → ⊥
   run-never-three k e = operate-runs wide budget 0 noCounts (entries t) (sheet-reached .1) .1 k (rw run-accepted at e)
 
   -- The session and the counts that a run leaves are the machine's, after the entries that were carried out.
-  run-follows : Follows (windowOf t) (openedBy t) [] noCounts (entries t) 0 (run t budget)
+  run-follows : Follows (windowOf t) (openedBy t) [] noCounts (entries t) 0 (runWithin most t budget)
   run-follows = rw run-accepted (run-follows-from (windowOf t) (openedBy t) [] budget 0 noCounts (entries t))
 
-  carried-count : run t budget .carried ≡ run-follows .count
+  carried-count : runWithin most t budget .carried ≡ run-follows .count
   carried-count = omega (arith, run-follows .carried)
 
-  pub run-machine : run t budget .session ≡ machine (windowOf t) (openedBy t) (runInputs t budget)
+  pub run-machine : runWithin most t budget .session ≡ machine (windowOf t) (openedBy t) (runInputs most t budget)
   run-machine = rw carried-count (run-follows .session)
 
-  pub run-counts : run t budget .counts ≡ countsLeft (windowOf t) (openedBy t) noCounts (take (run t budget .carried) (entries t)) []
+  pub run-counts : runWithin most t budget .counts ≡ countsLeft (windowOf t) (openedBy t) noCounts (take (runWithin most t budget .carried) (entries t)) []
   run-counts = rw carried-count (run-follows .counts)
 
   -- So the rule holds of it.
-  pub run-rule : Rule (run t budget .session) (past (windowOf t) (openedBy t) (runInputs t budget))
+  pub run-rule : Rule (runWithin most t budget .session) (past (windowOf t) (openedBy t) (runInputs most t budget))
   run-rule =
       rw run-machine
       (reached-rule (window-least (processCount t) (sheet-reached .0)) (window-square (processCount t))
-      (machine-reached wide (sheet-reached .1) (runInputs t budget)))
+      (machine-reached wide (sheet-reached .1) (runInputs most t budget)))
 
-  -- And the bytes that the C entry writes are those of its processes.
-  pub run-bytes : (b : List ℕ) → length b ≡ 256 → exportBuffer t budget b ≡ decidedBytes (run t budget .session .processes)
-  unfolding exportBuffer
-  run-bytes b size = rw (eq-eqb (length b) 256 size) (run-follows .made (run t budget .session .processes) b)
+-- And the bytes that the C entry writes are those of its processes.
+pub run-bytes : (t : List ℕ) (budget : ℕ) → sheetRefusal (limitsOf Server) t ≡ 0 → (b : List ℕ) → length b ≡ 256 →
+    exportBuffer t budget b ≡ decidedBytes (runWithin (limitsOf Server) t budget .session .processes)
+unfolding exportBuffer run
+run-bytes t budget ok b size =
+    let r = runWithin (limitsOf Server) t budget in
+    rw (eq-eqb (length b) 256 size) (run-follows (limitsOf Server) (caller-limits Server) t budget ok .made (r .session .processes) b)

@@ -7,7 +7,7 @@ use lib.Dec.{eqb}
 use Rattle.model.specs.Board.{opened}
 use Rattle.model.specs.Step.{waitingRule, accessAt, access, found, goOn, nextAt, next, learnt, stored, turn, counted}
 use Rattle.model.specs.Refusal.{full}
-use Rattle.model.specs.Machine.{openWithinAt, accessOf, becomes, after, countsAfter, answered, perform}
+use Rattle.model.specs.Machine.{openingAt, accessOf, becomes, after, countsAfter, answered, perform}
 use Rattle.model.specs.Sound.{every}
 use Rattle.model_rule.specs.Safe.{threshold}
 use Rattle.model_rule_cases.specs.Play.{played}
@@ -25,5 +25,5 @@ broken W = let r = construction W in breaks r && eqb (r .n) (threshold W) && eqb
 pub all-broken : every broken (from 2 14) ≡ true
 unfolding
     broken written goesOn allGoOn onePass epochs atFirst atLast construction played happens differ breaks opened waitingRule accessAt access found goOn nextAt next
-    learnt stored turn counted full openWithinAt accessOf becomes after countsAfter answered perform
+    learnt stored turn counted full openingAt accessOf becomes after countsAfter answered perform
 all-broken = refl

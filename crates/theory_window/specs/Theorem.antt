@@ -1,13 +1,15 @@
 -- Windows that are too short (document 02, wish 7), and which windows are safe for how many processes.
 use Rattle.base.specs.Prelude.{ℕ, suc, zero, max, _+_, _*_, _-_, _/_, _≤_, _<_, arith, mul-le-mul, _≡_, refl, sym, _∙_, subst, ℕ-discrete, decLe, Bool, true, cond, _&&_, List, [], _∷_, eqb, leb, ltb, eqb-true}
 use Rattle.base.specs.Bools.{and-left, and-right}
+use Rattle.model.specs.declared.Caller.the-variants.{Server}
 use Rattle.model.specs.declared.Session.{Session}
 use Rattle.model.specs.Window.{window, rootUp, rootFrom}
-use Rattle.model.specs.Board.{opened, maxProcesses, maxRounds, serverLimits}
+use Rattle.model.specs.Board.{limitsOf, opened, maxProcesses, maxRounds}
 use Rattle.model.specs.Machine.{openingAt}
 use Rattle.model.specs.Sound.{every}
 use Rattle.model.specs.ReadOut.{holds}
 use Rattle.model_laws.specs.Operations.{opening-accepts, opening-accepted}
+use Rattle.model_laws.specs.Callers.{caller-limits}
 use Rattle.model_rule.specs.Event.{Event, DecidedOn}
 use Rattle.model_rule.specs.Safe.{Safe, threshold, ExactWindows}
 use Rattle.model_rule_cases.specs.Play.{played, breaks-rule}
@@ -26,17 +28,17 @@ row-unsafe r t n more few safe =
     let W = r .window in
     let L = r .limit in
     let b = breaks-shows r t in
-    let o = opening-accepted serverLimits W (r .n) L (b .opens) in
-    let large = opening-accepts serverLimits W n L (omega (arith, o .0)) few (o .2) (o .3) in
-    let same : pastOf r ≡ played W (openingAt W n L .session) [] (r .moves) =
+    let o = opening-accepted (limitsOf Server) W (r .n) L (b .opens) in
+    let large = opening-accepts (limitsOf Server) W n L (omega (arith, o .0)) few (o .2) (o .3) in
+    let same : pastOf r ≡ played W (openingAt (limitsOf Server) W n L .session) [] (r .moves) =
     rw (o .4, large .1) (sym (played-more W n (r .n) (opened (r .n) L) [] (r .moves) refl more (b .inside))) in
-    breaks-rule (λ m. W) n L (r .moves) (large .0)
+    breaks-rule (limitsOf Server) (λ m. W) n L (r .moves) (large .0)
     (λ s rule.
     b .unlike
     (rule .agreement (r .first .process) (r .second .process) (r .first .value) (r .second .value)
     (subst (DecidedOn (r .first .process) (r .first .value)) same (b .one))
     (subst (DecidedOn (r .second .process) (r .second .value)) same (b .other))))
-    (safe L)
+    (safe L (limitsOf Server) (caller-limits Server))
 
 -- ---- the windows from 2 to 15
 

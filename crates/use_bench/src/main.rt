@@ -2,6 +2,7 @@
 // low byte first. Standard output: a number that comes of the answers, so that no call can be left out.
 ghost use mathlib.Core.Path.{_≡_};
 ghost use Rattle.model.specs.Public.{step as stepOf, learn as learnOf};
+use model::Caller;
 use model::Counts;
 use model::Session;
 use session_crash::crash;
@@ -17,9 +18,9 @@ use std::num::wrapping_add_u32;
 // A session of 8 processes and 256 rounds, or a poll of 8, in which all but process 7 have proposed.
 fn proposed(poll: bool) -> Session {
     let opened = if poll {
-        poll_open::open(8)
+        poll_open::open(Caller::Server, 8)
     } else {
-        open(8, 256)
+        open(Caller::Server, 8, 256)
     };
     let mut s = opened.session;
     for p in 0..7 {
@@ -58,7 +59,7 @@ fn changed(operation: u8, count: u32, start: Session) -> u32 {
     for i in 0..count {
         s.values[(i % 256) as usize] = 1 + i % 8;
         after = match operation {
-            0 => open(8, 256).session,
+            0 => open(Caller::Server, 8, 256).session,
             1 => propose(s, 7, 8).session,
             2 => step(s, 0, false, c),
             3 => step(s, 0, true, c),

@@ -1,5 +1,5 @@
-// Polls (02, wish 6) run from a list of operations, and what each call answers. Standard input: polls one after another. Each is a byte, n; 16 bits, the
-// number of its operations, low byte first; and its operations of six bytes, kind, seat and a number of 32 bits. Kinds: 0 proposal of the number, 1 turn, 2
+// Polls (02, wish 6) run from a list of operations, and what each call answers. Standard input: polls one after another. Each is a byte that
+// names the caller (02, wish 9), 0 the server and any other the cart; a byte, n; 16 bits, the number of its operations, low byte first; and its operations of six bytes, kind, seat and a number of 32 bits. Kinds: 0 proposal of the number, 1 turn, 2
 // crash; any other is the read-out of the seat's record as a session's. Each poll has a tally of its own. Standard output: a line for the opening and for
 // each operation, with its refusal's number or 0 and a turn's answer; then the tally, the registers and the seats.
 ghost use mathlib.Core.Path.{_≡_};
@@ -194,15 +194,16 @@ fn poll(bytes: &[u8], at: usize) -> usize
     requires { ⌜ at < 65536 ⌝ }
     ensures { λ r. ⌜ at < r ⌝ }
 {
-    let n = byte(bytes, at) as usize;
-    let told = part_bytes::word16(bytes, at + 1) as usize;
-    let opened = poll_open::open(n);
+    let caller = part_caller::caller_of(byte(bytes, at));
+    let n = byte(bytes, at + 1) as usize;
+    let told = part_bytes::word16(bytes, at + 2) as usize;
+    let opened = poll_open::open(caller, n);
     print_line(b"poll", n as u64, opened.code as u64);
     write_all(1, b"\n");
     if opened.code == 0 {
-        operations(bytes, at + 3, told, opened.session);
+        operations(bytes, at + 4, told, opened.session);
     }
-    at + 3 + 6 * told
+    at + 4 + 6 * told
 }
 
 fn main() {

@@ -2,6 +2,7 @@
 use Rattle.base.specs.Prelude.{ℕ, _-_, _≤_, arith, _≡_, ap, List, _++_, length, replicate}
 use Rattle.model.specs.declared.Ran.{Ran}
 use Rattle.model.specs.Board.{maxProcesses}
+use Rattle.model.specs.declared.Caller.the-variants.{Server}
 use Rattle.model.specs.Runner.{run}
 use Rattle.model_report.specs.Report.{reportBudget, reportOf, report}
 use Rattle.use_text.specs.Page.{pageSize, Put, on-blank}
@@ -18,6 +19,6 @@ whole r size p =
     ((q .0, omega (arith, q .0)), q .1)
 
 -- The report of a sheet is that of its run under the report's budget.
-pub report-of-run : (s : List ℕ) {r : Ran} → r ≡ run s reportBudget → reportOf r ≡ report s
+pub report-of-run : (s : List ℕ) {r : Ran} → r ≡ run Server s reportBudget → reportOf r ≡ report s
 unfolding report
 report-of-run s e = ap reportOf e

@@ -5,6 +5,7 @@ ghost use mathlib.Core.List.{_++_};
 ghost use lib.ListN.{length, replicate};
 ghost use Rattle.model_report.specs.Report.{reportOf, report as sheetReport};
 ghost use Rattle.use_text.specs.Page.{pageSize};
+use model::Caller;
 use model::Ran;
 use use_text::Bytes;
 
@@ -24,10 +25,10 @@ pub fn report_of(ran: Ran) -> Text
     Text { bytes, len }
 }
 
-// The report of a sheet that is run "with a budget of 10,921".
+// The report of a sheet that is run "with a budget of 10,921". 02, wish 9: "the C entry and the report use the server's" limits.
 pub fn report(sheet: &[u8]) -> Text
     ensures { λ r. ⌜ (r .len ≡ length (sheetReport (now (sheet .entry)))) × (r .len ≤ pageSize) ⌝ }
     ensures { λ r. ⌜ r .bytes ≡ sheetReport (now (sheet .entry)) ++ replicate (pageSize - r .len) 0 ⌝ }
 {
-    report_of(sheet_run::run(sheet, 10921))
+    report_of(sheet_run::run(Caller::Server, sheet, 10921))
 }

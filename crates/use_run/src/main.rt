@@ -1,5 +1,6 @@
-// A sheet run under a budget (01, "Turn sheets": the runner), and the standing values of the session that it leaves. Standard input: the
-// budget, 32 bits, and the buffer's places, 16 bits, low byte first, and then the sheet. Standard output, two lines: the C entry's number,
+// A sheet run under a budget (01, "Turn sheets": the runner), and the standing values of the session that it leaves. Standard input: a byte that
+// names the caller (02, wish 9), 0 the server and any other the cart, the budget, 32 bits, and the buffer's places, 16 bits, low byte first, and
+// then the sheet. Standard output, two lines: the C entry's number,
 // the entries carried out, and the reads, the writes and the contested writes; then the read-out's number, its count, and the numbers in
 // the buffer's places after it.
 ghost use mathlib.Core.Path.{_≡_};
@@ -58,14 +59,15 @@ fn print_standing(s: Session, asked: usize) {
 }
 
 fn main() {
-    let mut bytes = [0u8; 6];
+    let mut bytes = [0u8; 7];
     io::read_full(0, &mut bytes);
-    let budget = part_bytes::word32(&bytes, 0) as usize;
-    let asked = part_bytes::word16(&bytes, 4) as usize;
+    let caller = part_caller::caller_of(bytes[0]);
+    let budget = part_bytes::word32(&bytes, 1) as usize;
+    let asked = part_bytes::word16(&bytes, 5) as usize;
     // A sheet of 65,535 bytes is the longest; one more that is read shows that it is longer.
     let mut sheet = io::large_buffer();
     let n = io::read_full(0, &mut sheet);
-    let ran = sheet_run::run(&sheet[..n], budget);
+    let ran = sheet_run::run(caller, &sheet[..n], budget);
     let ending = ran.ending;
     let counts = ran.counts;
     print(code(ending) as u64, b" ");

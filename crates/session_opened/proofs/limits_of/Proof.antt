@@ -1,7 +1,9 @@
--- `session_opened::server` meets its contract: the two numbers are the definition's. Assumes nothing.
-use mathlib.Core.Path.{refl}
-use Rattle.session_opened.proofs.server.Statement.{statement}
-use Rattle.session_opened.proofs.server.Tie as tie
+-- `session_opened::limits_of` meets its contract: each arm is told the caller, and has its pair. Assumes nothing.
+use Rattle.base.specs.Prelude.{refl, needs}
+use Rattle.session_opened.proofs.limits_of.Statement.{statement}
+use Rattle.session_opened.proofs.limits_of.Tie as tie
 
-pub server-spec : {M : Type 1} → statement M
-server-spec = tie.close (tie.spec (λ c. refl))
+pub limits-of-spec : {M : Type 1} → statement M
+limits-of-spec =
+    tie.close
+    (tie.spec (λ c. search needs) (λ c. search needs) (λ c. rw (c .enum-told .given .1) refl) (λ c. rw (c .enum-told2 .given .1) refl))

@@ -1,6 +1,7 @@
 -- `sheet_refusal::refusal` meets its contract: each part is tested in its turn (`by-parts`). Assumes nothing.
 use Rattle.base.specs.Prelude.{_≡_, true, cond, eqb, le-leb, lt-leb, eq-eqb, ne-eqb, needs}
 use denote.Ref.{now}
+use Rattle.model.specs.Board.{limitsOf}
 use Rattle.model.specs.Refusal.{refusal}
 use Rattle.model.specs.Sheet.{hasHeader, sheetRefusal}
 use Rattle.sheet_refusal.specs.RunTests.{runTests}
@@ -14,7 +15,7 @@ ruleset parts = (by-parts, le-leb, lt-leb)
 -- With a header the opening decides, and the runs where it is accepted.
 past-header : (c : tie.After-open-refusal)
     → let a = c .before .before .before .before .before .before .before .before .before .args in
-    sheetRefusal (a .most) (now (a .s))
+    sheetRefusal (limitsOf (a .caller)) (now (a .s))
     ≡ cond (eqb (c .open-refusal .result) 0) (refusal (runTests (now (a .s)))) (c .open-refusal .result)
 past-header c =
     let count = c .before .before .before .before .before in

@@ -3,6 +3,8 @@ use denote.Ref.{now}
 use Rattle.base.specs.Prelude.{_+_, _*_, _≤_, _<_, arith, _≡_, sym, _∙_, length, length-set, leb-true, not-false, needs}
 use lib.Seq.{length-sets}
 use Rattle.base.specs.Bools.{and-right}
+use Rattle.model.specs.Board.{limitsOf}
+use Rattle.model_laws.specs.Callers.{caller-limits}
 use Rattle.model_write.specs.Write.{wrote, written}
 use Rattle.model_write_laws.specs.Sizes.{length-sheetOf}
 use Rattle.model_write_laws.specs.Facts.{WriteFacts, write-facts}
@@ -16,10 +18,10 @@ start-of c = c .before .before .before .before .before
 -- The call is accepted, and so this is known of it.
 facts : (c : tie.Else1) →
     let a = start-of c .args in
-    WriteFacts (a .most) (a .n) (a .limit) (now (a .entries)) (now (a .lengths)) (length (now (a .sheet)))
+    WriteFacts (limitsOf (a .caller)) (a .n) (a .limit) (now (a .entries)) (now (a .lengths)) (length (now (a .sheet)))
 facts c =
     let a = start-of c .args in
-    write-facts (a .most) (a .n) (a .limit) (now (a .entries)) (now (a .lengths)) _ (sym (c .before .write-refusal .ensures) ∙ c .if1 .left)
+    write-facts (limitsOf (a .caller)) (a .n) (a .limit) (now (a .entries)) (now (a .lengths)) _ (sym (c .before .write-refusal .ensures) ∙ c .if1 .left)
 
 -- The sheet's size, which is 65,535 at most, fits in.
 size : (c : tie.Else1) →
@@ -35,19 +37,19 @@ size c =
 processes-low : (c : tie.Else1) → start-of c .args .n < 256
 processes-low c =
     let f = facts c .opens in
-    let few : start-of c .args .n ≤ start-of c .args .most .processes = search (and-right, leb-true, not-false) in
-    omega arith
+    let few : start-of c .args .n ≤ limitsOf (start-of c .args .caller) .processes = search (and-right, leb-true, not-false) in
+    omega (arith, caller-limits (start-of c .args .caller) .processes)
 
 rounds-low : (c : tie.Else1) → start-of c .args .limit < 65536
 rounds-low c =
     let f = facts c .opens in
-    let few : start-of c .args .limit ≤ start-of c .args .most .rounds = search (and-right, leb-true, not-false) in
-    omega arith
+    let few : start-of c .args .limit ≤ limitsOf (start-of c .args .caller) .rounds = search (and-right, leb-true, not-false) in
+    omega (arith, caller-limits (start-of c .args .caller) .rounds)
 
 returns : tie.Need-returns
 returns c =
     let a = c .before .before .before .before .before .args in
-    written-refused (a .most) (a .n) (a .limit) (now (a .entries)) (now (a .lengths)) (now (a .sheet)) _ (c .before .write-refusal .ensures) (c .if1 .taken)
+    written-refused (limitsOf (a .caller)) (a .n) (a .limit) (now (a .entries)) (now (a .lengths)) (now (a .sheet)) _ (c .before .write-refusal .ensures) (c .if1 .taken)
 
 put-pairs-requires : tie.Need-put-pairs-requires
 put-pairs-requires c κs =
@@ -77,8 +79,8 @@ returns-2 c =
     let es = now (a .entries) in
     let ms = now (a .lengths) in
     let accepted : wrote (record { code = 0; count = 4 + 4 * length ms + length es }) (entries .put-entries .last .1 .1 .0)
-    ≡ written (a .most) (a .n) (a .limit) es ms (now (a .sheet)) =
-    written-accepted (a .most) (a .n) (a .limit) es ms (now (a .sheet)) (sym (e .before .write-refusal .ensures) ∙ e .if1 .left)
+    ≡ written (limitsOf (a .caller)) (a .n) (a .limit) es ms (now (a .sheet)) =
+    written-accepted (limitsOf (a .caller)) (a .n) (a .limit) es ms (now (a .sheet)) (sym (e .before .write-refusal .ensures) ∙ e .if1 .left)
     (sym (length-sheetOf (a .n) (a .limit) es ms))
     (entries .put-entries .ensures ∙ rw (pairs .put-pairs .ensures, header .put16 .ensures) (sheet-stored (a .n) (a .limit) es ms (now (a .sheet)) (facts e .fits)))
     in accepted

@@ -3,6 +3,7 @@ use denote.Ref.{now}
 use Rattle.base.specs.Prelude.{ℕ, _+_, _*_, _/_, _%_, min, arith, _≡_, sym, _∙_, cond, not, true, List, length, leb, ltb, eq-eqb, ne-eqb, le-ltb, lt-ltb, leb-true, not-false, not-true, needs}
 use Rattle.base.specs.Bools.{and-left, and-right}
 use Rattle.model_laws.specs.Types.{Limits}
+use Rattle.model.specs.Board.{limitsOf}
 use Rattle.model.specs.Refusal.{refusal, openTests}
 use Rattle.model_laws.specs.Accepted.{refusal-append}
 use Rattle.model_write.specs.Write.{sheetOf, wholeBuffer, writable, wellFormed, bufferEntries, writeRefusal}
@@ -27,20 +28,20 @@ module _ (most : Limits) (n L : ℕ) (es ms : List ℕ) (room : ℕ) {k : ℕ} (
 returns : tie.Need-returns
 returns c =
     let a = c .before .before .before .before .args in
-    opening-refused (a .most) (a .n) (a .limit) (now (a .entries)) (now (a .lengths)) (a .room) (c .before .open-refusal .ensures) (c .if1 .taken)
+    opening-refused (limitsOf (a .caller)) (a .n) (a .limit) (now (a .entries)) (now (a .lengths)) (a .room) (c .before .open-refusal .ensures) (c .if1 .taken)
 
 -- Past the opening.
 own : (c : tie.Else1) →
     let a = c .before .before .before .before .args in
     let es = now (a .entries) in
     let ms = now (a .lengths) in
-    writeRefusal (a .most) (a .n) (a .limit) es ms (a .room) ≡
+    writeRefusal (limitsOf (a .caller)) (a .n) (a .limit) es ms (a .room) ≡
     cond (not (wholeBuffer es)) 12
     (cond (not (writable (a .n) (a .limit) es ms)) 17
     (cond (not (wellFormed (bufferEntries es))) 13 (cond (ltb (a .room) (length (sheetOf (a .n) (a .limit) es ms))) 15 0)))
 own c =
     let a = c .before .before .before .before .args in
-    own-tests (a .most) (a .n) (a .limit) (now (a .entries)) (now (a .lengths)) (a .room) (c .before .open-refusal .ensures) (c .if1 .left)
+    own-tests (limitsOf (a .caller)) (a .n) (a .limit) (now (a .entries)) (now (a .lengths)) (a .room) (c .before .open-refusal .ensures) (c .if1 .left)
 
 -- An entry buffer of no whole entries.
 returns-2 : tie.Need-returns-2
@@ -65,7 +66,7 @@ returns-3 c =
 past-writable : (c : tie.Else3) →
     let a = c .before .before .before .before .before .before .before .before .args in
     let es = now (a .entries) in
-    writeRefusal (a .most) (a .n) (a .limit) es (now (a .lengths)) (a .room) ≡
+    writeRefusal (limitsOf (a .caller)) (a .n) (a .limit) es (now (a .lengths)) (a .room) ≡
     cond (not (wellFormed (bufferEntries es))) 13 (cond (ltb (a .room) (4 + 4 * length (now (a .lengths)) + length es)) 15 0)
 past-writable c =
     let w = c .before .before in
