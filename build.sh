@@ -3,6 +3,7 @@
 #
 # usage: ./build.sh PART..    archive       the library for C: target/staticlib/libjanus.a
 #                             window        the window's function by itself: target/staticlib/libuse_window.a
+#                             callers       what either caller gets (02, wish 9): target/staticlib/libjanus_callers.a
 #                             reference     the separately written program and what compares the two: target/reference/
 #                             use_report    a program of the crates: target/bin/use_report; likewise use_run, use_poll, use_bench
 set -euo pipefail
@@ -33,9 +34,12 @@ for part; do
     case $part in
     archive) build archive rt staticlib janus -- "${proofs[@]}" ;;
     window) build window rt staticlib use_window -- "${proofs[@]}" ;;
+    callers) build callers rt staticlib janus_callers -- "${proofs[@]}" ;;
     reference)
+        archives=(target/staticlib/libjanus.a target/staticlib/libjanus_callers.a)
         build archive rt staticlib janus -- "${proofs[@]}"
-        build reference reference/build.sh target/staticlib/libjanus.a -- reference target/staticlib/libjanus.a
+        build callers rt staticlib janus_callers -- "${proofs[@]}"
+        build reference reference/build.sh "${archives[@]}" -- reference "${archives[@]}"
         ;;
     use_*) build "$part" rt check "$part" -- "${proofs[@]}" ;;
     *)

@@ -16,7 +16,7 @@ mod operations;
 use std::hint::black_box;
 use std::time::Instant;
 
-use janus_reference::{entry, window, write, Counts, Operation, Phase, Session};
+use janus_reference::{entry, window, write, Caller, Counts, Operation, Phase, Session};
 
 const BUFFER: usize = 256;
 const MOST: usize = 10_921;
@@ -37,7 +37,7 @@ fn header(n: usize, limit: usize, entries: usize) -> Vec<u8> {
 /// next turn would spend it, whatever the hint.
 fn sheet(n: usize, limit: usize, entries: usize) -> Vec<u8> {
     let mut bytes = header(n, limit, entries);
-    let mut session = Session::open(n, limit).expect("the size is one that can be opened");
+    let mut session = Session::open(Caller::Server, n, limit).expect("the size is one that can be opened");
     let mut counts = Counts::default();
     for index in 0..entries {
         let process = index % n;
@@ -90,7 +90,7 @@ fn write_proved(n: usize, limit: usize, entries: &[u8], runs: &[usize], output: 
 }
 
 fn write_separate(n: usize, limit: usize, entries: &[u8], runs: &[usize], output: &mut [u8]) -> usize {
-    write(n, limit, entries, runs, output).unwrap_or(0)
+    write(Caller::Server, n, limit, entries, runs, output).unwrap_or(0)
 }
 
 /// Nanoseconds of so many calls.

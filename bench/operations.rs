@@ -9,7 +9,7 @@ use std::path::Path;
 use std::process::{Command, Stdio};
 use std::time::{Duration, Instant};
 
-use janus_reference::{Counts, Poll, Session};
+use janus_reference::{Caller, Counts, Poll, Session};
 
 const CALLS: u32 = 200_000;
 const ROUNDS: usize = 11;
@@ -32,7 +32,7 @@ const OPERATIONS: [&str; 11] = [
 
 /// A session in which all processes but the last have proposed.
 fn proposed() -> Session {
-    let mut session = Session::open(8, 256).expect(ACCEPTED);
+    let mut session = Session::open(Caller::Server, 8, 256).expect(ACCEPTED);
     for process in 0..7 {
         session.propose(process, 1 + process as u32).expect(ACCEPTED);
     }
@@ -43,7 +43,7 @@ fn proposed() -> Session {
 fn call(operation: u8, session: &mut Session, place: usize, buffer: &mut [u32]) -> u32 {
     let mut counts = Counts::default();
     match operation {
-        0 => *session = Session::open(8, 256).expect(ACCEPTED),
+        0 => *session = Session::open(Caller::Server, 8, 256).expect(ACCEPTED),
         1 => session.propose(7, 8).expect(ACCEPTED),
         2 => session.step(0, false, &mut counts).expect(ACCEPTED),
         3 => session.step(0, true, &mut counts).expect(ACCEPTED),
@@ -80,7 +80,7 @@ fn called(operation: u8, count: u32) -> u32 {
 
 /// Operation 10, likewise: a turn of a poll in which all processes but the last have proposed.
 fn turned(count: u32) -> u32 {
-    let mut poll = Poll::open(8).expect(ACCEPTED);
+    let mut poll = Poll::open(Caller::Server, 8).expect(ACCEPTED);
     for process in 0..7 {
         poll.propose(process, 1 + process as u32).expect(ACCEPTED);
     }

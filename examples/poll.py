@@ -4,15 +4,18 @@
 usage: poll.py [POLL [BYTES]]      standard input and standard output where left out, or where the name is -
 
     n 2                # seats
+    cart               # the bedside cart opens the poll (wish 9); the server does where this line is left out
     propose 0 3        # SEAT VALUE
     turn 0             # SEAT
     crash 1            # SEAT
 
-Blank lines, and what follows a #, are ignored. The line n is needed, once, anywhere. Only what is not understood or does not
-fit its bytes is an error here (exit code 1, nothing is written); refusing an operation is left to the poll.
+Blank lines, and what follows a #, are ignored. The line n is needed, once, and the line cart may stand once, both anywhere. Only
+what is not understood or does not fit its bytes is an error here (exit code 1, nothing is written); refusing an opening or an
+operation is left to the poll.
 
-The bytes: one for n; two for how many operations there are, the low one first; and for each operation six: its kind (0 propose,
-1 turn, 2 crash), its seat, and four for its value, the low one first, 0 where it has none.
+The bytes: one for who opens the poll, 0 the server, 1 the cart; one for n; two for how many operations there are, the low one
+first; and for each operation six: its kind (0 propose, 1 turn, 2 crash), its seat, and four for its value, the low one first, 0
+where it has none.
 """
 
 import struct
@@ -22,7 +25,9 @@ sys.dont_write_bytecode = True
 import sheet
 
 # The program reads 65,536 bytes.
-MOST_OPERATIONS = (65_536 - 3) // 6
+MOST_OPERATIONS = (65_536 - 4) // 6
+SERVER, CART = "server", "cart"
+CALLERS = {SERVER: 0, CART: 1}
 KINDS = {"propose": 0, "turn": 1, "crash": 2}
 SHAPES = {"propose": ("seat", "value"), "turn": ("seat",), "crash": ("seat",)}
 SIZES = ("n",)
@@ -30,33 +35,42 @@ SIZES = ("n",)
 
 def operation(words):
     """The six bytes of one operation, from the words of its line."""
-    return sheet.entry(words, KINDS, SHAPES, SIZES)
+    return sheet.entry(words, KINDS, SHAPES, (*SIZES, CART))
 
 
 class Lines(sheet.Lines):
-    """A poll's lines: n, and the words of each operation."""
+    """A poll's lines: who opens it, n, and the words of each operation."""
 
     def __init__(self):
         super().__init__(SIZES)
-        self.operations = []
+        self.caller, self.operations = SERVER, []
 
     def add(self, words):
-        """Takes in an operation that has its six bytes."""
-        operation(words)
-        self.operations.append(words)
+        """Takes in the line cart, or an operation that has its six bytes."""
+        name, *rest = words
+        if name != CART:
+            operation(words)
+            self.operations.append(words)
+        elif self.caller == CART:
+            raise sheet.Wrong(f"{name} is given twice")
+        elif rest:
+            raise sheet.Wrong(f"{name} takes nothing, not {' '.join(rest)}")
+        else:
+            self.caller = CART
 
 
 def listed(text):
-    """What a poll's text gives: n and the words of each operation."""
+    """What a poll's text gives: who opens it, n and the words of each operation."""
     lines = Lines()
-    return *lines.read(text), lines.operations
+    [n] = lines.read(text)
+    return lines.caller, n, lines.operations
 
 
-def poll(n, operations):
+def poll(caller, n, operations):
     """The bytes of the whole poll."""
     if len(operations) > MOST_OPERATIONS:
         raise sheet.Wrong(f"{len(operations)} operations are too many: the program reads {MOST_OPERATIONS} at most")
-    return struct.pack("<BH", n, len(operations)) + b"".join(map(operation, operations))
+    return struct.pack("<BBH", CALLERS[caller], n, len(operations)) + b"".join(map(operation, operations))
 
 
 if __name__ == "__main__":

@@ -35,6 +35,13 @@
  *
  *   A run may have length 0. Bytes in no run are ignored. A sheet has 4 to 65,535 bytes, so it has 10,921 entries at most.
  *   janus_write makes the header and the pairs, so that nobody counts offsets by hand.
+ *
+ * WHOSE LIMITS
+ *
+ *   64 seats and 256 rounds are the clinic server's limits, and the three functions here use them. Those of the bedside cart, 16
+ *   seats and 64 rounds, are for callers in Rattle: sheet_run::run and sheet_write::write with Caller::Cart. A sheet does not say
+ *   whose it is. One that the cart has written is read here as it is, since the limits here are wider; one of more than 16 seats
+ *   or 64 rounds the cart refuses with 1 or 2.
  */
 #ifndef JANUS_H
 #define JANUS_H

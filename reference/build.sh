@@ -1,16 +1,17 @@
 #!/bin/sh
 # Builds the reference program, its unit tests, polls, which compares it with the
 # program use_poll, and short_windows, which breaks the agreement rule at windows
-# that are too short, into target/reference/ and runs the tests. With the path of a
-# libjanus.a it also builds the programs that compare that library with the
-# reference: differential and writes.
+# that are too short, into target/reference/ and runs the tests. With the paths of a
+# libjanus.a and a libjanus_callers.a it also builds the programs that compare those
+# with the reference: differential, writes and callers.
 #
-# usage: reference/build.sh [LIBRARY]
+# usage: reference/build.sh [LIBRARY CALLERS]
 set -eu
 
 library=
 if [ $# -gt 0 ]; then
     library=$(cd "$(dirname "$1")" && pwd)
+    callers=$(cd "$(dirname "$2")" && pwd)
 fi
 cd "$(dirname "$0")/.."
 out=target/reference
@@ -29,9 +30,9 @@ for program in polls short_windows; do
 done
 build --test --crate-name tests reference/src/lib.rs -o "$out/tests"
 if [ -n "$library" ]; then
-    for program in differential writes; do
+    for program in differential writes callers; do
         build --crate-name "$program" $uses \
-            -L native="$library" -l static=janus \
+            -L native="$library" -l static=janus -L native="$callers" -l static=janus_callers \
             "reference/$program.rs" -o "$out/$program"
     done
 fi

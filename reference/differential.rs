@@ -1,7 +1,8 @@
 //! Runs random sheets through the library under test and through the reference
 //! and compares what the C entry answers and leaves in its buffer, and the board
 //! report's text, which has the counts. Contested must be the number of marked
-//! rounds of the session that a sheet leaves.
+//! rounds of the session that a sheet leaves. The report is compared once more of each
+//! sheet that is run as the bedside cart. (02, wish 9.)
 //!
 //! `differential [COUNT] [SEED]`: so many sheets (100,000 where left out) from
 //! that seed (the clock where left out). Sheet I of a seed is the same whatever
@@ -26,13 +27,14 @@ use std::process::{Command, ExitCode, Stdio};
 use std::time::{Duration, Instant};
 
 use harness::{
-    ends, least_limit, raw, same_bytes, shorter, size, ByN, Comparison, Entry, Random, Reached,
-    GUARD, MOST_ENTRIES, ONE_SEAT,
+    cart, cart_size, ends, least_limit, most, raw, same_bytes, same_text, shorter, size, text_by,
+    ByN, Comparison, Entry, Random, Reached, GUARD, MOST_ENTRIES, ONE_SEAT,
 };
 use janus_reference::runner::BUFFER;
 use janus_reference::sheet::MAX_BYTES;
 use janus_reference::{
-    entry, run, window, Access, Counts, Operation, Phase, Process, Refusal, Session, Sheet,
+    entry, report, report_of, run, window, Access, Caller, Counts, Operation, Phase, Process,
+    Refusal, Session, Sheet,
 };
 
 // ---------------------------------------------------------------- sheets
@@ -98,7 +100,7 @@ impl<'r> Composer<'r> {
             current: random.below(n),
             asleep: random.word(),
             runner: None,
-            session: Session::open(n, limit).expect("a size within bounds"),
+            session: Session::open(Caller::Server, n, limit).expect("a size within bounds"),
             counts: Counts::default(),
             entries: Vec::new(),
             random,
@@ -359,7 +361,11 @@ fn assemble(random: &mut Random, n: u8, limit: u16, entries: &[Entry]) -> Vec<u8
 
 /// A sheet of so many entries or somewhat more, in order but for its end.
 fn composed(random: &mut Random, most: usize) -> Vec<u8> {
-    let (n, limit) = size(random);
+    let size = size(random);
+    composed_of(random, size, most)
+}
+
+fn composed_of(random: &mut Random, (n, limit): (usize, usize), most: usize) -> Vec<u8> {
     let mut composer = Composer::new(random, n, limit);
     composer.proposals();
     let target = composer.random.between(0, most);
@@ -509,6 +515,64 @@ fn damaged(random: &mut Random) -> Vec<u8> {
     sheet
 }
 
+/// A sheet about the cart's most seats and rounds.
+fn of_cart(random: &mut Random, most: usize) -> Vec<u8> {
+    let size = cart_size(random);
+    composed_of(random, size, most)
+}
+
+/// One with some of the faults that a reader looks for one after another, those that it
+/// finds last being made first.
+fn of_cart_with_faults(random: &mut Random) -> Vec<u8> {
+    let mut sheet = of_cart(random, 20);
+    for fault in [cut_run, misplace_run, wrong_limit, wrong_seats, spoil] {
+        if random.once_in(3) {
+            fault(random, &mut sheet);
+        }
+    }
+    sheet
+}
+
+/// 12: some run that has entries ends within its last one.
+fn cut_run(random: &mut Random, sheet: &mut Vec<u8>) {
+    let pairs = usize::from(sheet[1]);
+    let start = random.below(pairs.max(1));
+    let mut runs = (start..pairs).chain(0..start);
+    let length = |run: &usize| u16::from_le_bytes([sheet[4 * run + 6], sheet[4 * run + 7]]);
+    if let Some(run) = runs.find(|run| length(run) > 0) {
+        let cut = length(&run) - random.between(1, 5) as u16;
+        sheet[4 * run + 6..4 * run + 8].copy_from_slice(&cut.to_le_bytes());
+    }
+}
+
+/// 11: the first run starts within the pairs, or past the sheet.
+fn misplace_run(random: &mut Random, sheet: &mut Vec<u8>) {
+    if sheet[1] > 0 {
+        let offset = random.pick(&[0, 7, sheet.len() + 1]) as u16;
+        sheet[4..6].copy_from_slice(&offset.to_le_bytes());
+    }
+}
+
+/// 2, for one of the callers or for both.
+fn wrong_limit(random: &mut Random, sheet: &mut Vec<u8>) {
+    let limit: u16 = random.pick(&[0, 1, 65, 65, 66, 256, 257]);
+    sheet[2..4].copy_from_slice(&limit.to_le_bytes());
+}
+
+/// 1, for one of the callers or for both.
+fn wrong_seats(random: &mut Random, sheet: &mut Vec<u8>) {
+    sheet[0] = random.pick(&[0, 17, 17, 18, 64, 65]);
+}
+
+/// 10: over the most bytes, over 16 pairs, or too short for its pairs.
+fn spoil(random: &mut Random, sheet: &mut Vec<u8>) {
+    match random.below(6) {
+        0 => sheet[1] = random.pick(&[17, 255]),
+        1 => sheet.truncate(3 + 4 * usize::from(sheet[1])),
+        _ => sheet.resize(MAX_BYTES + 1, 0),
+    }
+}
+
 /// One sheet with the budgets and the buffer length to try it with.
 struct Case {
     sheet: Vec<u8>,
@@ -517,7 +581,8 @@ struct Case {
 }
 
 fn entries_of(bytes: &[u8]) -> u64 {
-    Sheet::read(bytes).map_or(0, |sheet| sheet.entries().count() as u64)
+    let sheet = Sheet::read(Caller::Server, bytes);
+    sheet.map_or(0, |sheet| sheet.entries().count() as u64)
 }
 
 impl Case {
@@ -525,7 +590,9 @@ impl Case {
         let kind = random.below(1000);
         let sheet = match kind {
             0..=99 => short(random),
-            100..=599 => composed(random, 600),
+            100..=539 => composed(random, 600),
+            540..=569 => of_cart(random, 600),
+            570..=599 => of_cart_with_faults(random),
             600..=829 => damaged(random),
             830..=909 => border(random),
             910..=959 => noise(random),
@@ -668,7 +735,46 @@ events! {
     Marked: "session with marked rounds" at least 10_000,
     MarkedAgain: "session with a round marked again" at least 10_000,
     MarkedByTwo: "session with a round marked by two seats" at least 10_000,
+    CartOpened: "cart: opened" at least 10_000,
+    CartMostSeats: "cart: opened, n = 16" at least 1_000,
+    CartMostRounds: "cart: opened, L = 64" at least 500,
+    CartMost: "cart: opened, n = 16, L = 64" at least 100,
+    CartCommit: "cart: D filled" at least 10_000,
+    CartDecided: "cart: a seat decided" at least 10_000,
+    CartRefused: "cart: entry refused" at least 1_000,
+    CartBudget: "cart: 100" at least 1_000,
+    CartNoSeats: "cart: 1, no seats" at least 100,
+    CartSeventeen: "cart: 1, n = 17, the server opens" at least 500,
+    CartManySeats: "cart: 1, n = 18 to 64, the server opens" at least 1_000,
+    CartLimitLow: "cart: 2, L below W" at least 500,
+    CartSixtyFive: "cart: 2, L = 65, the server opens" at least 500,
+    CartManyRounds: "cart: 2, L = 66 to 256, the server opens" at least 1_000,
+    CartTenOne: "cart: 10 where 1 would follow" at least 20,
+    CartTenTwo: "cart: 10 where 2 would follow" at least 20,
+    CartTenEleven: "cart: 10 where 11 would follow" at least 20,
+    CartTenTwelve: "cart: 10 where 12 would follow" at least 20,
+    CartOneTwo: "cart: 1 where 2 would follow" at least 20,
+    CartOneEleven: "cart: 1 where 11 would follow" at least 20,
+    CartOneTwelve: "cart: 1 where 12 would follow" at least 20,
+    CartTwoEleven: "cart: 2 where 11 would follow" at least 20,
+    CartTwoTwelve: "cart: 2 where 12 would follow" at least 20,
+    CartElevenTwelve: "cart: 11 where 12 would follow" at least 20,
 }
+
+/// The order of a sheet's refusals as the cart: which is told where the other would
+/// follow.
+const CART_ORDER: [(u32, u32, Event); 10] = [
+    (10, 1, Event::CartTenOne),
+    (10, 2, Event::CartTenTwo),
+    (10, 11, Event::CartTenEleven),
+    (10, 12, Event::CartTenTwelve),
+    (1, 2, Event::CartOneTwo),
+    (1, 11, Event::CartOneEleven),
+    (1, 12, Event::CartOneTwelve),
+    (2, 11, Event::CartTwoEleven),
+    (2, 12, Event::CartTwoTwelve),
+    (11, 12, Event::CartElevenTwelve),
+];
 
 const STANCES: [&str; 13] = [
     "out",
@@ -721,7 +827,14 @@ struct Coverage {
     least: ByN,
     below: ByN,
     shorter: Shorter,
+    cart: Cart,
     entries: u64,
+}
+
+/// Sheets run as the cart, to a commit and to a decision. (02, wish 9.)
+struct Cart {
+    commits: ByN,
+    decisions: ByN,
 }
 
 /// Sheets with an L from W up to below 01's window, refused with 2 before 02, wish 8:
@@ -745,6 +858,10 @@ impl Coverage {
                 commits: ByN::none_of("L below 01's window and a commit"),
                 looks: ByN::none_of("L below 01's window and a decision"),
             },
+            cart: Cart {
+                commits: ByN::none_for(1..=16, "a commit as the cart"),
+                decisions: ByN::none_for(1..=16, "a decision as the cart"),
+            },
             entries: 0,
         }
     }
@@ -760,7 +877,7 @@ impl Coverage {
     /// Runs the sheet once more, entry by entry, noting what it reaches. Tells
     /// what is wrong with the session that it leaves.
     fn observe(&mut self, bytes: &[u8], budget: u64) -> Result<(), String> {
-        let sheet = match Sheet::read(bytes) {
+        let sheet = match Sheet::read(Caller::Server, bytes) {
             Ok(sheet) => sheet,
             Err(refusal) => {
                 self.sheet_refused(bytes, refusal);
@@ -896,7 +1013,7 @@ impl Coverage {
         self.below.note_if(limit + 1 == least_limit(n), n);
         let mut opened = sheet.to_vec();
         opened[2..4].copy_from_slice(&256u16.to_le_bytes());
-        let next = Sheet::read(&opened).err();
+        let next = Sheet::read(Caller::Server, &opened).err();
         self.note_if(next == Some(Refusal::Pairs), Event::TwoFirst);
     }
 
@@ -961,9 +1078,95 @@ impl Coverage {
             255 => Event::Buffer255,
             _ => Event::Buffer257,
         });
-        let refused = Sheet::read(&case.sheet).is_err();
+        let refused = Sheet::read(Caller::Server, &case.sheet).is_err();
         self.note_if(refused, Event::FifteenFirst);
     }
+}
+
+// ---------------------------------------------------------------- as the cart
+
+impl Coverage {
+    /// Notes what a sheet reaches as the cart under a budget, its report being this text.
+    fn as_cart(&mut self, bytes: &[u8], budget: u64, text: &str) {
+        match Sheet::read(Caller::Cart, bytes) {
+            Ok(sheet) => self.run_by_cart(&sheet, budget, text),
+            Err(refusal) => self.refused_by_cart(bytes, refusal),
+        }
+    }
+
+    fn run_by_cart(&mut self, sheet: &Sheet, budget: u64, text: &str) {
+        let Session { n, limit, .. } = sheet.open();
+        let (seats, rounds) = most(Caller::Cart);
+        let (most_seats, most_rounds) = (n == seats, limit as usize == rounds);
+        self.note(Event::CartOpened);
+        self.note_if(most_seats, Event::CartMostSeats);
+        self.note_if(most_rounds, Event::CartMostRounds);
+        self.note_if(most_seats && most_rounds, Event::CartMost);
+        let refused = text.starts_with("outcome refused ");
+        let ended = !refused && budget < sheet.entries().count() as u64;
+        self.note_if(refused, Event::CartRefused);
+        self.note_if(ended, Event::CartBudget);
+        let board = text.lines().find(|line| line.starts_with("board "));
+        let commit = board.is_some_and(|line| !line.ends_with(" 0"));
+        let decision = text.contains(" decided ");
+        self.note_if(commit, Event::CartCommit);
+        self.note_if(decision, Event::CartDecided);
+        self.cart.commits.note_if(commit, n);
+        self.cart.decisions.note_if(decision, n);
+    }
+
+    /// Notes why the cart refused a sheet, and what it would have been told next.
+    fn refused_by_cart(&mut self, sheet: &[u8], refusal: Refusal) {
+        let opened = Sheet::read(Caller::Server, sheet).is_ok();
+        let (seats, rounds) = most(Caller::Cart);
+        match refusal {
+            Refusal::Processes => {
+                let n = usize::from(sheet[0]);
+                self.note_if(n == 0, Event::CartNoSeats);
+                self.note_if(opened && n == seats + 1, Event::CartSeventeen);
+                self.note_if(opened && n > seats + 1, Event::CartManySeats);
+            }
+            Refusal::Limit => {
+                let limit = usize::from(u16::from_le_bytes([sheet[2], sheet[3]]));
+                self.note_if(limit <= rounds, Event::CartLimitLow);
+                self.note_if(opened && limit == rounds + 1, Event::CartSixtyFive);
+                self.note_if(opened && limit > rounds + 1, Event::CartManyRounds);
+            }
+            _ => {}
+        }
+        let next = mended(sheet, refusal).and_then(|sheet| Sheet::read(Caller::Cart, &sheet).err());
+        let follows = |row: &&(u32, u32, Event)| {
+            row.0 == refusal.code() && next.is_some_and(|next| next.code() == row.1)
+        };
+        if let Some((_, _, event)) = CART_ORDER.iter().find(follows) {
+            self.note(*event);
+        }
+    }
+}
+
+/// The sheet without the fault that a refusal as the cart names, but for 12, the last.
+fn mended(sheet: &[u8], refusal: Refusal) -> Option<Vec<u8>> {
+    let mut sheet = sheet.to_vec();
+    match refusal {
+        Refusal::Sheet if sheet.len() < 4 => return None,
+        Refusal::Sheet if sheet.len() > MAX_BYTES => sheet.truncate(MAX_BYTES),
+        Refusal::Sheet => sheet[1] = 0,
+        Refusal::Processes => sheet[0] = 1,
+        Refusal::Limit => sheet[2..4].copy_from_slice(&64u16.to_le_bytes()),
+        Refusal::Pairs => lay_anew(&mut sheet),
+        _ => return None,
+    }
+    Some(sheet)
+}
+
+/// Puts runs of the same lengths behind the pairs, one after another.
+fn lay_anew(sheet: &mut Vec<u8>) {
+    let mut free = 4 + 4 * usize::from(sheet[1]);
+    for pair in sheet[4..free].chunks_exact_mut(4) {
+        pair[..2].copy_from_slice(&(free as u16).to_le_bytes());
+        free += usize::from(u16::from_le_bytes([pair[2], pair[3]]));
+    }
+    sheet.resize(sheet.len().max(free), 0);
 }
 
 /// A session whose turns are noted.
@@ -1154,6 +1357,8 @@ impl Coverage {
             opened,
             commits,
             looks,
+            &self.cart.commits,
+            &self.cart.decisions,
         ] {
             by_n.print(&mut missing);
         }
@@ -1194,6 +1399,9 @@ struct Clock {
     /// The time spent in the library's report, and how often its program was run.
     report: Duration,
     programs: u64,
+    /// The same of the report as the cart.
+    cart: Duration,
+    carts: u64,
 }
 
 /// Calls both sides with equal buffers; what differs, in words.
@@ -1214,22 +1422,16 @@ fn compare(case: &Case, budget: u64, fill: u8, clock: &mut Clock) -> Result<(), 
     same_bytes(&format!("code {answer}, buffer"), &theirs, &ours)
 }
 
-/// No report's text is longer. (include/janus.h.)
-const REPORT_LENGTH: usize = 5120;
-
 /// Compares the report's text, and its contested with the marked rounds of the
 /// session that the sheet leaves.
 fn compare_report(case: &Case, fill: u8, clock: &mut Clock) -> Result<(), String> {
-    let mut room = [fill; GUARD + REPORT_LENGTH + GUARD];
-    let start = Instant::now();
-    let size = library::report(&case.sheet, &mut room[GUARD..GUARD + REPORT_LENGTH]);
-    clock.report += start.elapsed();
-    let (before, rest) = room.split_at(GUARD);
-    let (text, behind) = rest.split_at(size.min(REPORT_LENGTH));
-    if before.iter().chain(behind).any(|byte| *byte != fill) {
-        return Err("report: a byte beside the text is changed".to_string());
-    }
-    let text = same_text(text, case)?;
+    let text = text_by(fill, |buffer| {
+        let start = Instant::now();
+        let size = library::report(&case.sheet, buffer);
+        clock.report += start.elapsed();
+        size
+    })?;
+    same_text(&text, &report(&case.sheet))?;
     let (contested, marked) = (contested(&text), marked_rounds(&case.sheet));
     if contested != marked {
         return Err(format!(
@@ -1239,14 +1441,23 @@ fn compare_report(case: &Case, fill: u8, clock: &mut Clock) -> Result<(), String
     Ok(())
 }
 
-/// The text of a report, if it is the reference's.
-fn same_text(text: &[u8], case: &Case) -> Result<String, String> {
-    let expected = janus_reference::report(&case.sheet);
-    if text == expected.as_bytes() {
-        return Ok(expected);
-    }
-    let text = String::from_utf8_lossy(text);
-    Err(format!("report: library\n{text}reference\n{expected}"))
+/// Compares the text of the sheet's report as the cart under a budget.
+fn compare_cart(
+    case: &Case,
+    caller: u8,
+    budget: u64,
+    fill: u8,
+    clock: &mut Clock,
+) -> Result<String, String> {
+    let text = text_by(fill, |buffer| {
+        let start = Instant::now();
+        let size = library::report_as(caller, &case.sheet, budget, buffer);
+        clock.cart += start.elapsed();
+        size
+    })?;
+    clock.carts += 1;
+    same_text(&text, &report_of(Caller::Cart, budget, &case.sheet))?;
+    Ok(text)
 }
 
 /// The third number of a report's tally line; none where the sheet is refused.
@@ -1257,7 +1468,7 @@ fn contested(text: &str) -> Option<u32> {
 
 /// The marked rounds of the session that a sheet leaves; none where it is refused.
 fn marked_rounds(bytes: &[u8]) -> Option<u32> {
-    let sheet = Sheet::read(bytes).ok()?;
+    let sheet = Sheet::read(Caller::Server, bytes).ok()?;
     let (mut session, mut counts) = (sheet.open(), Counts::default());
     run(&sheet, u64::MAX, &mut session, &mut counts);
     Some(session.marked_rounds())
@@ -1294,7 +1505,7 @@ fn compare_program(index: u64, case: &Case, clock: &mut Clock) -> Result<(), Str
     }
     let text = reported(&program, &case.sheet).map_err(|error| error.to_string())?;
     clock.programs += 1;
-    same_text(&text, case).map(|_| ())
+    same_text(&String::from_utf8_lossy(&text), &report(&case.sheet))
 }
 
 fn print_clock(count: u64, coverage: &Coverage, clock: &Clock) {
@@ -1302,6 +1513,8 @@ fn print_clock(count: u64, coverage: &Coverage, clock: &Clock) {
     println!("{count} sheets, {calls} calls, {entries} entries carried out");
     let (seconds, programs) = (clock.report.as_secs_f64(), clock.programs);
     println!("{count} reports in {seconds:.3} s, {programs} by the program");
+    let (seconds, carts) = (clock.cart.as_secs_f64(), clock.carts);
+    println!("{carts} reports as the cart in {seconds:.3} s");
     for (name, time) in [("library", clock.library), ("reference", clock.reference)] {
         let seconds = time.as_secs_f64();
         let (sheets, rate) = (calls as f64 / seconds, entries as f64 / seconds);
@@ -1333,7 +1546,7 @@ impl Comparison for Sheets {
         Case::of(random)
     }
 
-    /// Each of the case's budgets, then its report.
+    /// Each of the case's budgets, then its report, and each budget as the cart.
     fn compare(&mut self, index: u64, case: &Case, random: &mut Random) -> Result<(), String> {
         let (clock, fill) = (&mut self.clock, random.byte());
         for &budget in &case.budgets {
@@ -1342,6 +1555,12 @@ impl Comparison for Sheets {
                 .map_err(|words| format!("budget {budget}, buffer {}: {words}", case.buffer))?;
         }
         compare_report(case, fill, clock)?;
+        let caller = cart(random);
+        for &budget in &case.budgets {
+            let text = compare_cart(case, caller, budget, fill, clock)
+                .map_err(|words| format!("caller {caller}, budget {budget}: {words}"))?;
+            self.coverage.as_cart(&case.sheet, budget, &text);
+        }
         compare_program(index, case, clock)
     }
 

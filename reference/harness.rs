@@ -1,15 +1,19 @@
 //! What the programs share that compare the library with the reference: random
-//! words, parts of random sheets, the table of what was reached, and the run of
-//! many cases by a process that is watched.
+//! words, parts of random sheets, the callers, the table of what was reached, and the
+//! run of many cases by a process that is watched.
+
+// No program uses all of it.
+#![allow(dead_code)]
 
 use std::io::{self, Read, Write};
+use std::ops::RangeInclusive;
 use std::process::{Command, ExitCode, Stdio};
 use std::sync::mpsc::{channel, Receiver, RecvTimeoutError};
 use std::time::{Duration, SystemTime, UNIX_EPOCH};
 
 pub use janus_reference::random::Random;
 use janus_reference::session::MAX_PROCESSES;
-use janus_reference::window;
+use janus_reference::{window, Caller};
 
 // ---------------------------------------------------------------- parts of sheets
 
@@ -36,6 +40,20 @@ pub fn size(random: &mut Random) -> (usize, usize) {
         4..=6 => random.between(least, least + 8),
         7 | 8 => random.between(least, 64),
         _ => random.pick(&[255, 256, 128, 200]),
+    };
+    (n, limit)
+}
+
+/// Seats and round limit about the cart's most, and below.
+pub fn cart_size(random: &mut Random) -> (usize, usize) {
+    let (seats, rounds) = most(Caller::Cart);
+    let n = match random.below(3) {
+        0 => random.between(1, seats),
+        _ => random.between(seats - 1, seats + 1),
+    };
+    let limit = match random.below(3) {
+        0 => random.between(window(n) as usize, rounds),
+        _ => random.between(rounds - 1, rounds + 1),
     };
     (n, limit)
 }
@@ -69,6 +87,33 @@ pub fn ends(random: &mut Random, entries: usize, runs: usize) -> Vec<usize> {
         ends.push(entries);
     }
     ends
+}
+
+// ---------------------------------------------------------------- the callers
+
+/// The byte that names the server.
+pub const SERVER: u8 = 0;
+
+/// One that names the cart: any other does.
+pub fn cart(random: &mut Random) -> u8 {
+    random.pick(&[1, 2, 128, 255])
+}
+
+/// A caller in a word.
+pub fn word(caller: Caller) -> &'static str {
+    match caller {
+        Caller::Server => "server",
+        Caller::Cart => "cart",
+    }
+}
+
+/// A caller's most seats and rounds in the words of 02, wish 9, by which coverage is
+/// counted: "at most 16 seats and 64 rounds; the server stays at 64 and 256".
+pub fn most(caller: Caller) -> (usize, usize) {
+    match caller {
+        Caller::Server => (64, 256),
+        Caller::Cart => (16, 64),
+    }
 }
 
 // ---------------------------------------------------------------- what is reached
@@ -125,13 +170,23 @@ impl Reached {
 /// How often something was reached with each number of processes.
 pub struct ByN {
     name: &'static str,
+    expected: RangeInclusive<usize>,
     times: [u64; MAX_PROCESSES + 1],
 }
 
 impl ByN {
+    /// Each n from 1 to 64 is expected.
     pub fn none_of(name: &'static str) -> ByN {
+        ByN::none_for(1..=MAX_PROCESSES, name)
+    }
+
+    pub fn none_for(expected: RangeInclusive<usize>, name: &'static str) -> ByN {
         let times = [0; MAX_PROCESSES + 1];
-        ByN { name, times }
+        ByN {
+            name,
+            expected,
+            times,
+        }
     }
 
     pub fn note(&mut self, n: usize) {
@@ -145,13 +200,16 @@ impl ByN {
     }
 
     /// Prints for how many n it was reached, and how often for the n with the fewest
-    /// times; each n from 1 to 64 is expected, or it is missing.
+    /// times; each one expected that was not is missing.
     pub fn print(&self, missing: &mut Vec<String>) {
-        let (name, times) = (self.name, &self.times[1..]);
-        let reached = times.iter().filter(|times| **times > 0).count();
-        let fewest = times.iter().min().expect("an n of 1 or more");
-        println!("n with {name}: {reached} of {MAX_PROCESSES}, each {fewest} times or more");
-        if reached < MAX_PROCESSES {
+        let (name, times) = (self.name, &self.times[self.expected.clone()]);
+        let (reached, all) = (
+            times.iter().filter(|times| **times > 0).count(),
+            times.len(),
+        );
+        let fewest = times.iter().min().expect("some n is expected");
+        println!("n with {name}: {reached} of {all}, each {fewest} times or more");
+        if reached < all {
             missing.push(format!("{name} for every n"));
         }
     }
@@ -173,6 +231,29 @@ pub fn same_bytes(what: &str, theirs: &[u8], ours: &[u8]) -> Result<(), String> 
             "{what} byte {byte}: library {theirs}, reference {ours}"
         ))
     })
+}
+
+/// No report's text is longer. (include/janus.h.)
+const REPORT_LENGTH: usize = 5120;
+
+/// The text that a report of the library writes to a buffer full of one byte.
+pub fn text_by(fill: u8, report: impl FnOnce(&mut [u8]) -> usize) -> Result<String, String> {
+    let mut room = [fill; GUARD + REPORT_LENGTH + GUARD];
+    let size = report(&mut room[GUARD..GUARD + REPORT_LENGTH]);
+    let (before, rest) = room.split_at(GUARD);
+    let (text, behind) = rest.split_at(size.min(REPORT_LENGTH));
+    if before.iter().chain(behind).any(|byte| *byte != fill) {
+        return Err("report: a byte beside the text is changed".to_string());
+    }
+    Ok(String::from_utf8_lossy(text).into_owned())
+}
+
+/// The text of a report must be the reference's.
+pub fn same_text(text: &str, expected: &str) -> Result<(), String> {
+    if text == expected {
+        return Ok(());
+    }
+    Err(format!("report: library\n{text}reference\n{expected}"))
 }
 
 /// A program that compares the two sides on random cases.

@@ -1,6 +1,7 @@
 //! Runs random polls in close contention through use_poll, a program of the proved
 //! crates, and through the reference, and compares what they print, byte for byte.
-//! (02, wish 6.) The format is described in `src/polls.rs`.
+//! (02, wish 6.) The format is described in `src/polls.rs`. Polls are those of the server
+//! or of the bedside cart. (02, wish 9.)
 //!
 //! Of every poll it checks, beside that, what the wish claims: each answer's value
 //! was proposed before; if one answer is committed v, all answers carry v; if all
@@ -18,8 +19,6 @@
 //! with 1, too, if anything was not reached as often as the table expects; fewer may
 //! be too few for that, and it says so.
 
-// Only the table of what is reached, and how bytes are put together, is used here.
-#[allow(dead_code)]
 #[macro_use]
 mod harness;
 
@@ -28,21 +27,21 @@ use std::process::{Child, Command, ExitCode, Stdio};
 use std::sync::mpsc::{channel, Receiver};
 use std::time::{Duration, Instant};
 
-use harness::{raw, shorter, ByN, Entry, Reached, ONE_SEAT};
-use janus_reference::random::Random;
+use harness::{cart, raw, shorter, word, ByN, Entry, Random, Reached, ONE_SEAT, SERVER};
 use janus_reference::{
-    poll_bytes, polls, window, Answer, Call, Counts, Phase, Poll, Process, Refusal, Voter,
+    poll_bytes, polls, window, Answer, Call, Caller, Counts, Phase, Poll, Process, Refusal, Voter,
 };
 
 // ---------------------------------------------------------------- polls
 
 /// The most bytes of an input, and so the most calls of a poll.
 const MOST_BYTES: usize = 60_000;
-const MOST_CALLS: usize = (MOST_BYTES - 3) / 6;
+const MOST_CALLS: usize = (MOST_BYTES - 4) / 6;
 
 /// One poll in bytes. So many of them are cut off at the end, which ends the input.
 #[derive(Clone)]
 struct Case {
+    caller: u8,
     n: u8,
     calls: Vec<Entry>,
     cut: usize,
@@ -50,24 +49,38 @@ struct Case {
 
 impl Case {
     fn of(random: &mut Random) -> Case {
-        let (n, calls) = match random.below(40) {
-            0 => refused_opening(random),
-            1 | 2 => (random.between(1, 64) as u8, noise(random)),
+        let (n, calls) = match random.below(44) {
+            0 | 1 => refused_opening(random),
+            2 | 3 => (random.between(1, 64) as u8, noise(random)),
+            4..=8 => (random.between(17, 64) as u8, noise(random)),
             _ => composed(random),
         };
         let length = 6 * calls.len();
         let cut = match random.below(100) {
-            0 => length + random.below(3),
+            0 => length + random.below(4),
             1 | 2 => random.between(0, length.min(120)),
             _ => 0,
         };
-        Case { n, calls, cut }
+        Case {
+            caller: some_caller(random, n, calls.len()),
+            n,
+            calls,
+            cut,
+        }
     }
 
     fn bytes(&self) -> Vec<u8> {
-        let mut bytes = poll_bytes(self.n, &self.calls);
+        let mut bytes = poll_bytes(self.caller, self.n, &self.calls);
         bytes.truncate(bytes.len() - self.cut);
         bytes
+    }
+
+    /// The number of seats that the bytes tell: none where they end before it.
+    fn seats(&self) -> usize {
+        match self.cut > 6 * self.calls.len() + 2 {
+            true => 0,
+            false => usize::from(self.n),
+        }
     }
 
     /// The calls that are whole.
@@ -77,7 +90,21 @@ impl Case {
     }
 }
 
-/// A number of seats that is refused, and calls that are then skipped.
+/// Either caller. Where the cart alone is refused, it is the cart if there are few calls,
+/// and mostly the server if there are many.
+fn some_caller(random: &mut Random, n: u8, calls: usize) -> u8 {
+    let as_cart = match n {
+        17..=64 if calls < 12 => !random.once_in(5),
+        17..=64 => random.once_in(20),
+        _ => random.once_in(2),
+    };
+    match as_cart {
+        true => cart(random),
+        false => SERVER,
+    }
+}
+
+/// A number of seats that either caller is refused, and calls that are then skipped.
 fn refused_opening(random: &mut Random) -> (u8, Vec<Entry>) {
     let n = random.pick(&[0, 0, 65, 66, 128, 255]);
     (n, noise(random))
@@ -148,7 +175,8 @@ fn seats(random: &mut Random) -> usize {
     match random.below(64) {
         0..=3 => 1,
         4..=36 => random.between(2, 4),
-        37..=50 => random.between(5, 8),
+        37..=47 => random.between(5, 8),
+        48..=50 => random.between(9, 16),
         51..=62 => random.between(9, 63),
         _ => 64,
     }
@@ -173,7 +201,7 @@ impl<'r> Composer<'r> {
             early,
         ];
         Composer {
-            poll: Poll::open(n).expect("a size within bounds"),
+            poll: Poll::open(Caller::Server, n).expect("a size within bounds"),
             counts: Counts::default(),
             calls: Vec::new(),
             values: values(random),
@@ -387,6 +415,14 @@ events! {
     Seats2To8: "opened, n = 2 to 8" at least 1_000,
     Seats9To63: "opened, n = 9 to 63" at least 100,
     Seats64: "opened, n = 64" at least 20,
+    CartNoSeats: "cart: 1, no seats" at least 5,
+    CartNextSeats: "cart: 1, n = 17" at least 1,
+    CartOther: "cart: 1, n = 18 to 64" at least 100,
+    CartManySeats: "cart: 1, over 64 seats" at least 5,
+    CartSeats: "cart: opened, n below 16" at least 1_000,
+    CartMostSeats: "cart: opened, n = 16" at least 5,
+    CartCommitted: "cart: committed" at least 1_000,
+    CartAdopted: "cart: adopted" at least 500,
     CutShort: "poll that the input's end cuts short" at least 20,
     Proposed: "proposal" at least 5_000,
     ProposedLate: "proposal after another seat's turn" at least 1_000,
@@ -476,7 +512,10 @@ impl Longest {
 
 struct Coverage {
     reached: Reached,
+    /// Answers in polls of either caller, and openings that the cart alone is refused.
     answers: ByN,
+    cart_answers: ByN,
+    cart_refused: ByN,
     longest: Longest,
     calls: u64,
 }
@@ -485,7 +524,9 @@ impl Coverage {
     fn new() -> Coverage {
         Coverage {
             reached: Reached::none_of(EVENTS),
-            answers: ByN::none_of("an answer"),
+            answers: ByN::none_of("an answer as the server"),
+            cart_answers: ByN::none_for(1..=16, "an answer as the cart"),
+            cart_refused: ByN::none_for(17..=64, "1 as the cart, the server opens"),
             longest: Longest {
                 turns: 0,
                 bound: 1,
@@ -507,21 +548,13 @@ impl Coverage {
     /// not hold of it.
     fn case(&mut self, case: &Case) -> Result<(), String> {
         self.note_if(case.cut > 0, Event::CutShort);
-        let n = usize::from(case.n);
-        let Ok(poll) = Poll::open(n) else {
-            self.note(match n {
-                0 => Event::NoSeats,
-                _ => Event::ManySeats,
-            });
+        let (caller, n) = (Caller::named(case.caller), case.seats());
+        let Ok(poll) = Poll::open(caller, n) else {
+            self.refused(caller, n);
             return Ok(());
         };
-        self.note(match n {
-            1 => Event::Seats1,
-            2..=8 => Event::Seats2To8,
-            9..=63 => Event::Seats9To63,
-            _ => Event::Seats64,
-        });
-        let mut observer = Observer::of(poll);
+        self.opened(caller, n);
+        let mut observer = Observer::of(caller, poll);
         for call in case.calls() {
             observer.call(call, self)?;
             self.calls += 1;
@@ -529,9 +562,41 @@ impl Coverage {
         observer.left(self)
     }
 
+    /// Notes a refused opening.
+    fn refused(&mut self, caller: Caller, n: usize) {
+        self.note(match (caller, n) {
+            (Caller::Server, 0) => Event::NoSeats,
+            (Caller::Server, _) => Event::ManySeats,
+            (Caller::Cart, 0) => Event::CartNoSeats,
+            (Caller::Cart, 17) => Event::CartNextSeats,
+            (Caller::Cart, 18..=64) => Event::CartOther,
+            (Caller::Cart, _) => Event::CartManySeats,
+        });
+        let server_opens = Poll::open(Caller::Server, n).is_ok();
+        self.cart_refused.note_if(server_opens, n);
+    }
+
+    /// Notes an opening.
+    fn opened(&mut self, caller: Caller, n: usize) {
+        self.note(match n {
+            1 => Event::Seats1,
+            2..=8 => Event::Seats2To8,
+            9..=63 => Event::Seats9To63,
+            _ => Event::Seats64,
+        });
+        if caller == Caller::Cart {
+            self.note(match n {
+                16 => Event::CartMostSeats,
+                _ => Event::CartSeats,
+            });
+        }
+    }
+
     fn print(&self) -> Vec<String> {
         let mut missing = self.reached.print();
-        self.answers.print(&mut missing);
+        for by_n in [&self.answers, &self.cart_answers, &self.cart_refused] {
+            by_n.print(&mut missing);
+        }
         let Longest { turns, bound, n } = self.longest;
         let ratio = self.longest.ratio();
         println!("most turns before an answer: {turns} of {bound} (n {n}), ratio {ratio:.3}");
@@ -541,6 +606,7 @@ impl Coverage {
 
 /// A poll whose calls are noted.
 struct Observer {
+    caller: Caller,
     poll: Poll,
     counts: Counts,
     /// Of each process: its turns, its proposal, and what it last saw in a filled
@@ -554,8 +620,9 @@ struct Observer {
 }
 
 impl Observer {
-    fn of(poll: Poll) -> Observer {
+    fn of(caller: Caller, poll: Poll) -> Observer {
         Observer {
+            caller,
             poll,
             counts: Counts::default(),
             turns: [0; 64],
@@ -643,7 +710,14 @@ impl Observer {
         };
         let (n, round) = (self.poll.n, round as usize);
         let (shorter, committed) = (shorter(n, round), matches!(answer, Answer::Committed(_)));
-        coverage.answers.note(n);
+        match (self.caller, committed) {
+            (Caller::Server, _) => coverage.answers.note(n),
+            (Caller::Cart, true) => coverage.note(Event::CartCommitted),
+            (Caller::Cart, false) => coverage.note(Event::CartAdopted),
+        }
+        coverage
+            .cart_answers
+            .note_if(self.caller == Caller::Cart, n);
         coverage.note_if(shorter && committed, Event::CommittedShorter);
         coverage.note_if(shorter && !committed, Event::AdoptedShorter);
         let one_seat = (n, round) == ONE_SEAT;
@@ -914,7 +988,7 @@ fn in_small(program: &str, mut case: Case) -> io::Result<Case> {
             let mut fewer = case.clone();
             let end = fewer.calls.len().min(start + length);
             fewer.calls.drain(start..end);
-            fewer.cut = fewer.cut.min(6 * fewer.calls.len() + 2);
+            fewer.cut = fewer.cut.min(6 * fewer.calls.len() + 3);
             if differs(program, &fewer)?.is_some() {
                 case = fewer;
             } else {
@@ -963,7 +1037,8 @@ fn tell(program: &str, seed: u64, index: u64, case: Case) -> io::Result<()> {
     let line = |text: &str| text.lines().nth(first).unwrap_or("nothing").to_string();
     let (proved, reference) = (line(&theirs), line(&ours));
     println!("difference: seed {seed} index {index}: proved {proved}, reference {reference}");
-    println!("in small: n {}: {}", small.n, words(&small));
+    let caller = word(Caller::named(small.caller));
+    println!("in small: {caller}, n {}: {}", small.n, words(&small));
     println!("proved from there on:\n  {}", lines_from(&theirs, first));
     println!("reference:\n  {}", lines_from(&ours, first));
     let file = format!("difference-{seed}-{index}.poll");

@@ -4,11 +4,13 @@
 //! it. (02, wish 3.) In each sheet that is written the reference's reader must find
 //! the n, the L, the entries and the run lengths that were given; both sides must
 //! run it alike; and the library must write the same bytes again from what was read.
+//! Each call is made as the server and as the bedside cart (02, wish 9), whose sheets
+//! must be the server's too.
 //!
 //! `writes [COUNT] [SEED]`: so many calls (200,000 where left out) from that seed
 //! (the clock where left out). Call I of a seed is the same whatever the COUNT. It
-//! prints the seed and a table of what the calls reached. It ends with 1 at the
-//! first difference, after telling the arguments and writing the entries to
+//! prints the seed and a table of what the calls reached as either caller. It ends with
+//! 1 at the first difference, after telling the arguments and writing the entries to
 //! `difference-SEED-INDEX.entries`; a fault or an endless run of the library counts
 //! as one. From 200,000 calls on it ends with 1, too, if anything was not reached as
 //! often as the table expects.
@@ -20,18 +22,19 @@ mod library;
 use std::process::ExitCode;
 
 use harness::{
-    ends, least_limit, raw, same_bytes, shorter, size, ByN, Comparison, Entry, Random, Reached,
-    GUARD, MOST_ENTRIES, ONE_SEAT,
+    cart, cart_size, ends, least_limit, most, raw, same_bytes, same_text, shorter, size, text_by,
+    word, ByN, Comparison, Entry, Random, Reached, GUARD, MOST_ENTRIES, ONE_SEAT, SERVER,
 };
 use janus_reference::runner::BUFFER;
 use janus_reference::sheet::{ENTRY, MAX_BYTES};
-use janus_reference::{entry, window, write, Operation, Refusal, Sheet};
+use janus_reference::{entry, report_of, window, write, Caller, Operation, Refusal, Sheet};
 
 // ---------------------------------------------------------------- calls
 
-/// The arguments of one call, the output by its length.
+/// The arguments of one call, the output by its length and the caller by its byte.
 #[derive(Clone)]
 struct Call {
+    caller: u8,
     n: usize,
     limit: usize,
     entries: Vec<u8>,
@@ -148,12 +151,14 @@ impl Call {
     fn of(random: &mut Random) -> Call {
         let (n, limit) = match random.below(20) {
             0 => border(random),
+            1 => cart_size(random),
             _ => size(random),
         };
         let runs = some_runs(random);
         let entries = some_entries(random, n, runs.iter().sum());
         let room = 0;
         let mut call = Call {
+            caller: SERVER,
             n,
             limit,
             entries,
@@ -169,6 +174,15 @@ impl Call {
 
     fn size(&self) -> usize {
         size_of_sheet(self.runs.len(), self.entries.len())
+    }
+
+    fn caller(&self) -> Caller {
+        Caller::named(self.caller)
+    }
+
+    /// The caller's most seats and rounds.
+    fn most(&self) -> (usize, usize) {
+        most(self.caller())
     }
 
     /// The length of the output: often just enough or one byte less.
@@ -256,7 +270,7 @@ impl Call {
         let mut call = self.clone();
         match refusal {
             Refusal::Processes => call.n = 1,
-            Refusal::Limit => call.limit = 256,
+            Refusal::Limit => call.limit = self.most().1,
             Refusal::RunLength => call.entries.truncate(self.entries.len() / ENTRY * ENTRY),
             Refusal::Cuts => {
                 call.entries.truncate(ENTRY * MOST_ENTRIES);
@@ -269,12 +283,17 @@ impl Call {
 
     /// The reference's answer, with an output of the call's length.
     fn write(&self, output: &mut [u8]) -> Result<usize, Refusal> {
-        write(self.n, self.limit, &self.entries, &self.runs, output)
+        let (n, limit) = (self.n, self.limit);
+        write(self.caller(), n, limit, &self.entries, &self.runs, output)
     }
 
     /// The library's number, its size being told where it is not refused.
     fn library(&self, output: &mut [u8], size: &mut usize) -> u32 {
-        library::write(self.n, self.limit, &self.entries, &self.runs, output, size)
+        let (n, limit, entries, runs) = (self.n, self.limit, &self.entries, &self.runs);
+        match self.caller {
+            SERVER => library::write(n, limit, entries, runs, output, size),
+            cart => library::write_as(cart, (n, limit), entries, runs, output, size),
+        }
     }
 }
 
@@ -282,12 +301,14 @@ impl Call {
 
 events! {
     NoSeats: "1: no seats" at least 100,
-    ManySeats: "1: over 64 seats" at least 100,
-    SeatsCut: "1: over 255 seats, 1 to 64 in a byte" at least 100,
+    ManySeats: "1: over the most seats" at least 100,
+    NextSeats: "1: one over the most seats" at least 100,
+    SeatsCut: "1: over 255 seats, 1 to the most in a byte" at least 100,
     LimitLow: "2: L below W" at least 100,
     LimitLast: "2: L = W - 1" at least 100,
-    LimitHigh: "2: L above 256" at least 100,
-    LimitCut: "2: L above 65,535, 1 to 256 in two bytes" at least 100,
+    LimitHigh: "2: L above the most" at least 100,
+    LimitNext: "2: L one above the most" at least 100,
+    LimitCut: "2: L over 65,535, 1 to the most in two bytes" at least 100,
     Ragged1: "12: one byte too many" at least 100,
     Ragged: "12: two to four bytes too many" at least 100,
     Ragged5: "12: one byte too few" at least 100,
@@ -343,8 +364,8 @@ events! {
     LeastLimit: "written: L = W" at least 100,
     Shorter: "written: L below 01's window" at least 10_000,
     OneSeat: "written: n = 1, L = 2" at least 1_000,
-    MostLimit: "written: L = 256" at least 100,
-    MostSeats: "written: 64 seats" at least 10,
+    MostLimit: "written: the most L" at least 100,
+    MostSeats: "written: the most seats" at least 10,
     RunFinished: "run to its end" at least 1_000,
     RunRefused: "run to a refused entry" at least 1_000,
     RunDecided: "run to a decision" at least 100,
@@ -371,7 +392,25 @@ const ORDER: [(u32, u32, Event); 15] = [
     (13, 15, Event::ThirteenFifteen),
 ];
 
-/// What the calls reached.
+/// Calls that one caller gets a sheet for and the other is refused: how often a full run
+/// must reach them. (02, wish 9.)
+const APART: &[(&str, u64)] = &[
+    ("1 as the cart, written as the server: n = 17", 100),
+    ("1 as the cart, written as the server: n above", 1_000),
+    ("2 as the cart, written as the server: L = 65", 100),
+    ("2 as the cart, written as the server: L above", 1_000),
+];
+
+/// The place of such a call there.
+fn apart(call: &Call, refusal: Refusal) -> usize {
+    let (seats, rounds) = call.most();
+    match refusal {
+        Refusal::Processes => usize::from(call.n > seats + 1),
+        _ => 2 + usize::from(call.limit > rounds + 1),
+    }
+}
+
+/// What the calls of one caller reached.
 struct Coverage {
     reached: Reached,
     /// Sheets with L = W, refusals of L = W - 1, and sheets with an L from W up to below
@@ -381,15 +420,35 @@ struct Coverage {
     shorter: ByN,
 }
 
+impl Coverage {
+    fn new(caller: Caller) -> Coverage {
+        let by_n = |name| ByN::none_for(1..=most(caller).0, name);
+        Coverage {
+            reached: Reached::none_of(EVENTS),
+            least: by_n("L = W written"),
+            below: by_n("L = W - 1 refused"),
+            shorter: by_n("L below 01's window written"),
+        }
+    }
+
+    /// Prints what was reached; returns what was expected and was not, with the caller.
+    fn print(&self, caller: Caller) -> Vec<String> {
+        let caller = word(caller);
+        println!("as the {caller}:");
+        let mut missing = self.reached.print();
+        for by_n in [&self.least, &self.below, &self.shorter] {
+            by_n.print(&mut missing);
+        }
+        let named = |name| format!("{caller}: {name}");
+        missing.into_iter().map(named).collect()
+    }
+}
+
 /// Notes why a call was refused, and what would have been told next.
 fn note_refused(call: &Call, refusal: Refusal, coverage: &mut Coverage) {
     let Coverage { reached, below, .. } = coverage;
     match refusal {
-        Refusal::Processes => reached.note(match call.n {
-            0 => Event::NoSeats,
-            n if n > 255 && (1..=64).contains(&(n as u8)) => Event::SeatsCut,
-            _ => Event::ManySeats,
-        }),
+        Refusal::Processes => note_seats(call, reached),
         Refusal::Limit => note_limit(call, reached, below),
         Refusal::RunLength => reached.note(match call.entries.len() % ENTRY {
             1 => Event::Ragged1,
@@ -416,14 +475,26 @@ fn note_refused(call: &Call, refusal: Refusal, coverage: &mut Coverage) {
     }
 }
 
+fn note_seats(call: &Call, reached: &mut Reached) {
+    let (n, (most, _)) = (call.n, call.most());
+    let cut = usize::from(n as u8);
+    reached.note(match n {
+        0 => Event::NoSeats,
+        _ if n > 255 && (1..=most).contains(&cut) => Event::SeatsCut,
+        _ => Event::ManySeats,
+    });
+    reached.note_if(n == most + 1, Event::NextSeats);
+}
+
 fn note_limit(call: &Call, reached: &mut Reached, below: &mut ByN) {
-    let least = least_limit(call.n);
+    let (least, (_, most)) = (least_limit(call.n), call.most());
     let cut = usize::from(call.limit as u16);
     reached.note(match call.limit {
         limit if limit < least => Event::LimitLow,
-        limit if limit > 65_535 && (1..=256).contains(&cut) => Event::LimitCut,
+        limit if limit > 65_535 && (1..=most).contains(&cut) => Event::LimitCut,
         _ => Event::LimitHigh,
     });
+    reached.note_if(call.limit == most + 1, Event::LimitNext);
     let last = call.limit == least - 1;
     reached.note_if(last, Event::LimitLast);
     below.note_if(last, call.n);
@@ -482,8 +553,9 @@ fn note_size(call: &Call, coverage: &mut Coverage) {
     reached.note_if(least, Event::LeastLimit);
     reached.note_if(shorter, Event::Shorter);
     reached.note_if((n, limit) == ONE_SEAT, Event::OneSeat);
-    reached.note_if(limit == 256, Event::MostLimit);
-    reached.note_if(n == 64, Event::MostSeats);
+    let (most_seats, most_rounds) = call.most();
+    reached.note_if(limit == most_rounds, Event::MostLimit);
+    reached.note_if(n == most_seats, Event::MostSeats);
 }
 
 fn note_written(call: &Call, reached: &mut Reached) {
@@ -544,13 +616,14 @@ fn compare(call: &Call, fill: u8) -> Result<Result<Vec<u8>, Refusal>, String> {
 }
 
 /// What the reference's reader finds in a sheet, as a call with an exact fit.
-fn read(bytes: &[u8]) -> Result<Call, String> {
-    let sheet = Sheet::read(bytes).map_err(|refusal| {
+fn read(caller: u8, bytes: &[u8]) -> Result<Call, String> {
+    let sheet = Sheet::read(Caller::named(caller), bytes).map_err(|refusal| {
         let code = refusal.code();
         format!("the sheet is refused with {code}")
     })?;
     let session = sheet.open();
     Ok(Call {
+        caller,
         n: session.n,
         limit: session.limit as usize,
         entries: sheet.runs().flatten().copied().collect(),
@@ -561,7 +634,7 @@ fn read(bytes: &[u8]) -> Result<Call, String> {
 
 /// A sheet is read as it was given, and what was read is written as it was.
 fn round_trip(call: &Call, sheet: &[u8], fill: u8) -> Result<(), String> {
-    let found = read(sheet)?;
+    let found = read(call.caller, sheet)?;
     if (found.n, found.limit) != (call.n, call.limit) {
         return Err(format!("read: n {}, L {}", found.n, found.limit));
     }
@@ -578,8 +651,9 @@ fn round_trip(call: &Call, sheet: &[u8], fill: u8) -> Result<(), String> {
     }
 }
 
-/// Both sides run the sheet of a call.
-fn run_both(call: &Call, sheet: &[u8], fill: u8, reached: &mut Reached) -> Result<(), String> {
+/// Both sides run a sheet by the C entry, which is the server's: whether it finished, and
+/// whether a seat decided.
+fn run_entry(sheet: &[u8], fill: u8) -> Result<(bool, bool), String> {
     let mut ours = [fill; GUARD + BUFFER + GUARD];
     let mut theirs = ours;
     let lent = GUARD..GUARD + BUFFER;
@@ -589,12 +663,31 @@ fn run_both(call: &Call, sheet: &[u8], fill: u8, reached: &mut Reached) -> Resul
         return Err(format!("run: library {code}, reference {expected}"));
     }
     same_bytes(&format!("run: code {code}, buffer"), &theirs, &ours)?;
-    reached.note(match code {
-        0 => Event::RunFinished,
-        _ => Event::RunRefused,
+    let decided = ours[lent].iter().any(|byte| *byte != 0);
+    Ok((code == 0, decided))
+}
+
+/// The same by the report as the cart.
+fn run_cart(caller: u8, sheet: &[u8], fill: u8) -> Result<(bool, bool), String> {
+    let text = text_by(fill, |buffer| {
+        library::report_as(caller, sheet, u64::MAX, buffer)
+    })?;
+    same_text(&text, &report_of(Caller::Cart, u64::MAX, sheet))?;
+    let finished = text.starts_with("outcome finished ");
+    Ok((finished, text.contains(" decided ")))
+}
+
+/// Both sides run the sheet of a call as its caller.
+fn run_both(call: &Call, sheet: &[u8], fill: u8, reached: &mut Reached) -> Result<(), String> {
+    let (finished, decided) = match call.caller {
+        SERVER => run_entry(sheet, fill)?,
+        cart => run_cart(cart, sheet, fill)?,
+    };
+    reached.note(match finished {
+        true => Event::RunFinished,
+        false => Event::RunRefused,
     });
     let (n, limit) = (call.n, call.limit);
-    let decided = ours[lent].iter().any(|byte| *byte != 0);
     reached.note_if(decided, Event::RunDecided);
     reached.note_if(decided && shorter(n, limit), Event::RunShorter);
     reached.note_if(decided && (n, limit) == ONE_SEAT, Event::RunOneSeat);
@@ -603,21 +696,48 @@ fn run_both(call: &Call, sheet: &[u8], fill: u8, reached: &mut Reached) -> Resul
 
 /// Random calls of the writer.
 struct Writes {
-    coverage: Coverage,
+    server: Coverage,
+    cart: Coverage,
+    apart: Reached,
     bytes: usize,
 }
 
+/// Compares a call, and what becomes of its sheet: the sheet, or the refusal.
+fn check(
+    call: &Call,
+    fill: u8,
+    coverage: &mut Coverage,
+) -> Result<Result<Vec<u8>, Refusal>, String> {
+    let answer = compare(call, fill)?;
+    match &answer {
+        Err(refusal) => note_refused(call, *refusal, coverage),
+        Ok(sheet) => {
+            note_size(call, coverage);
+            note_written(call, &mut coverage.reached);
+            round_trip(call, sheet, fill)?;
+            run_both(call, sheet, fill, &mut coverage.reached)?;
+        }
+    }
+    Ok(answer)
+}
+
 impl Writes {
-    fn check(&mut self, call: &Call, fill: u8) -> Result<(), String> {
-        match compare(call, fill)? {
-            Err(refusal) => note_refused(call, refusal, &mut self.coverage),
-            Ok(sheet) => {
-                self.bytes += sheet.len();
-                note_size(call, &mut self.coverage);
-                note_written(call, &mut self.coverage.reached);
-                round_trip(call, &sheet, fill)?;
-                run_both(call, &sheet, fill, &mut self.coverage.reached)?;
-            }
+    /// The call as either caller. A sheet of the cart is one of the server too, byte for
+    /// byte, and so it is run as either.
+    fn check(&mut self, call: &Call, cart: u8, fill: u8) -> Result<(), String> {
+        let server = check(call, fill, &mut self.server)?;
+        let call = Call {
+            caller: cart,
+            ..call.clone()
+        };
+        let cart = check(&call, fill, &mut self.cart)
+            .map_err(|words| format!("caller {cart}: {words}"))?;
+        self.bytes += server.as_ref().map_or(0, Vec::len);
+        match (server, cart) {
+            (Ok(server), Ok(cart)) if server == cart => {}
+            (_, Ok(_)) => return Err("the sheet of the cart is none of the server".to_string()),
+            (Ok(_), Err(refusal)) => self.apart.note(apart(&call, refusal)),
+            _ => {}
         }
         Ok(())
     }
@@ -632,12 +752,9 @@ impl Comparison for Writes {
 
     fn new() -> Writes {
         Writes {
-            coverage: Coverage {
-                reached: Reached::none_of(EVENTS),
-                least: ByN::none_of("L = W written"),
-                below: ByN::none_of("L = W - 1 refused"),
-                shorter: ByN::none_of("L below 01's window written"),
-            },
+            server: Coverage::new(Caller::Server),
+            cart: Coverage::new(Caller::Cart),
+            apart: Reached::none_of(APART),
             bytes: 0,
         }
     }
@@ -647,23 +764,17 @@ impl Comparison for Writes {
     }
 
     fn compare(&mut self, _: u64, call: &Call, random: &mut Random) -> Result<(), String> {
-        self.check(call, random.byte())
+        let (fill, cart) = (random.byte(), cart(random));
+        self.check(call, cart, fill)
             .map_err(|words| format!("{}: {words}", Writes::words(call)))
     }
 
     fn print(&self, _: u64) -> Vec<String> {
-        let Coverage {
-            reached,
-            least,
-            below,
-            shorter,
-        } = &self.coverage;
-        let mut missing = reached.print();
-        for by_n in [least, below, shorter] {
-            by_n.print(&mut missing);
-        }
-        println!("{} bytes of sheets written", self.bytes);
-        missing
+        let server = self.server.print(Caller::Server);
+        let cart = self.cart.print(Caller::Cart);
+        let apart = self.apart.print();
+        println!("{} bytes of sheets written as the server", self.bytes);
+        [server, cart, apart].concat()
     }
 
     fn words(call: &Call) -> String {

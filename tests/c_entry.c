@@ -73,6 +73,9 @@ static void openings(void)
     opened("L below the window", 1, 1, JANUS_BAD_ROUND_LIMIT);
     opened("64 seats, L = 15", 64, 15, JANUS_BAD_ROUND_LIMIT);
     opened("64 seats, L = 16", 64, 16, JANUS_FINISHED);
+    opened("64 seats, L = 256", JANUS_SEATS_MAX, JANUS_ROUNDS_MAX, JANUS_FINISHED);
+    opened("16 seats, L = 65, over the cart's rounds", 16, 65, JANUS_FINISHED);
+    opened("17 seats, L = 64, over the cart's seats", 17, 64, JANUS_FINISHED);
     opened("no seat", 0, 2, JANUS_BAD_SEAT_COUNT);
     opened("65 seats", 65, JANUS_ROUNDS_MAX, JANUS_BAD_SEAT_COUNT);
 }

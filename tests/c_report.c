@@ -43,6 +43,18 @@ static void decision(void)
     lines("a decision", "outcome finished 14\ntally 10 3 0\nboard 2 7\nseat 0 decided 7\n");
 }
 
+/* Over the limits of the bedside cart (02, wish 9), within the server's. */
+static void server_limits(void)
+{
+    const char opened[] = "outcome finished 0\ntally 0 0 0\nboard 0 0\nseat 0 out\n";
+    const uint16_t sizes[][2] = {{16, 65}, {17, 64}, {JANUS_SEATS_MAX, JANUS_ROUNDS_MAX}};
+    for (size_t i = 0; i < sizeof sizes / sizeof *sizes; i++) {
+        header((uint8_t)sizes[i][0], 0, sizes[i][1], 4);
+        const size_t size = janus_report(sheet, sheet_length, text, JANUS_REPORT_LENGTH);
+        check(size > strlen(opened) && memcmp(text, opened, strlen(opened)) == 0, "seats or rounds over the cart's limits", "opened");
+    }
+}
+
 static void refused_sheets(void)
 {
     header(1, 0, 2, 0);
@@ -140,6 +152,7 @@ int main(int argc, char **argv)
     if (argc > 1)
         return print_text();
     decision();
+    server_limits();
     refused_sheets();
     refused_entries();
     marks();

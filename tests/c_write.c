@@ -267,6 +267,8 @@ static void sizes(void)
         refused("L = W - 1", JANUS_BAD_ROUND_LIMIT);
         start(n, JANUS_ROUNDS_MAX);
         written("L = 256");
+        start(n, 65);
+        written("L = 65, over the cart's rounds");
     }
     for (size_t length = 0; length < 3 * JANUS_ENTRY_LENGTH; length++) {
         start(1, 2);

@@ -2,8 +2,9 @@
 # The proved library beside the separately written program on random sheets, by the C entry and by the report's text: no difference may be
 # found, contested must be the number of marked rounds, and in a run of 100,000 sheets or more every kind of step, stance and refusal must be
 # reached, flags of unmarked and of marked rounds many times; and for every n (02, wish 8) L = W opened, L = W - 1 refused, and a commit and a
-# decision with an L below 01's window. The seed and the counts are printed. Every 50th of the first 100,000 sheets goes through the report's
-# program too.
+# decision with an L below 01's window. Each sheet is run as the bedside cart too (02, wish 9), by the report's text: a commit and a decision
+# for every n from 1 to 16, 1 and 2 at its limits where the server opens, and each refusal of a sheet in front of each later one. The seed and
+# the counts are printed. Every 50th of the first 100,000 sheets goes through the report's program too.
 #
 # usage: tests/differential.sh [SHEETS [SEED]]      as long as one likes; 100,000 sheets from seed 1 in the gate
 set -euo pipefail

@@ -4,8 +4,9 @@
     paper_cases.py check     fails if a table differs, an arrow of the picture, or the text of a poll
     paper_cases.py write     writes the tables and the texts anew
 
-A table stands between `<!-- NAME -->` and `<!-- end -->`. `rules`, `turns`, `refusals`, `counts`, `windows`, `poll-rules` and
-`poll-refusals` are made of paper_rules.py; `case NAME` has the turns of examples/NAME.sheet, played by those rules, and each of its
+A table stands between `<!-- NAME -->` and `<!-- end -->`. `rules`, `turns`, `refusals`, `counts`, `windows`, `opening-refusals`,
+`poll-rules` and `poll-refusals` are made of paper_rules.py; so is `openings`, worked for either caller, and each of its answers must be
+the separately written program's; `case NAME` has the turns of examples/NAME.sheet, played by those rules, and each of its
 lines must be the trace's; `form` is the same table with nothing in it; `poll NAME` has the turns of examples/NAME.poll, played by
 the rules of a poll. What stands at `turns-alone` is written and held by turns.py, and here left alone. The text of each
 examples/NAME.poll as it is played, answers, counts, registers and seats, stands in examples/NAME.out and must be the separately
@@ -18,9 +19,9 @@ import xml.etree.ElementTree
 from itertools import zip_longest
 
 sys.dont_write_bytecode = True
-from paper_lists import LISTS, POLLS, ROOT, poll, poll_texts, printed
-from paper_play import POLL, SESSION, Play, Poll, Turn, shown
-from paper_rules import COUNTS, MOST_SEATS, NEVER_IN_POLLS, RULES, STANCES, WINDOW, window
+from paper_lists import LISTS, POLLS, ROOT, poll, poll_texts, printed, read_by, sheet
+from paper_play import POLL, SESSION, Opening, Play, Poll, Turn, shown
+from paper_rules import COUNTS, LIMITS, MOST_SEATS, NEVER_IN_POLLS, OPENING_REFUSALS, RULES, STANCES, WINDOW, window
 
 EXAMPLES = ROOT / "examples"
 PAGE = ROOT / "docs" / "PAPER-CASES.md"
@@ -110,11 +111,53 @@ def windows_table():
     return f"W is {WINDOW}.\n\n" + table(["n", *spans], [["**W**", *ranges]])
 
 
+# ---------------------------------------------------------------- the openings
+
+# What is opened: sessions of n and L, polls of n, and sheets, by their bytes.
+SESSIONS = [(0, 64), (1, 1), (1, 2), (1, 64), (1, 65), (1, 256), (1, 257), (16, 7), (16, 8), (16, 64), (16, 65), (17, 64), (17, 65)]
+SESSIONS += [(64, 15), (64, 16), (64, 256), (64, 257), (65, 256)]
+POLL_SEATS = [0, 16, 17, 64, 65]
+SHEETS = [[16, 0, 64, 0], [16, 0, 65, 0], [17, 0, 64, 0], [17, 0, 65, 0], [17, 0, 65], [17, 1, 65, 0], [17, 17, 65, 0]]
+
+
+def opening_refusals_table():
+    """The limits of each caller, and what an opening beyond them gets."""
+    limits = table(["Who opens", "The most seats", "The most rounds"], [[f"the {caller}", *most] for caller, most in LIMITS.items()])
+    return limits + "\n" + table(["Refused with", "Opened", "If"], OPENING_REFUSALS)
+
+
+def worked_openings(caller):
+    """Each opening by a caller: what is opened, with n and L; its refusal by the rules, and its number by the separately written program."""
+    for n, limit in SESSIONS:
+        yield "session", n, limit, Opening(caller, "session", n, limit), read_by(caller, sheet.sheet(n, limit, []))
+    for n in POLL_SEATS:
+        [[line, *_]] = poll_texts([poll.poll(caller, n, [])])
+        yield "poll", n, "", Opening(caller, "poll", n), int(line.split()[2])
+    for data in map(bytes, SHEETS):
+        limit = int.from_bytes(data[2:], "little") if len(data) > 3 else ""
+        yield f"sheet of the bytes {', '.join(map(str, data))}", data[0], limit, Opening.of_sheet(caller, data), read_by(caller, data)
+
+
+def openings_table():
+    """The openings, worked by the rules for each caller; each answer must be the separately written program's, and each row is met."""
+    rows, met = {}, set()
+    for caller in LIMITS:
+        for what, n, limit, ours, theirs in worked_openings(caller):
+            if ours.number != theirs:
+                sys.exit(f"paper cases: the {caller}, {what}, n {n}, L {limit}: the rules give {ours.number}, the separately written program {theirs}")
+            row = rows.setdefault((what, n, limit), [what, n, limit, window(n) if 1 <= n <= MOST_SEATS else ""])
+            row.append(f"refused with {ours.number}" if ours.number else "opened")
+            met.add((caller, ours.place))
+    if len(met) != len(LIMITS) * (1 + len(OPENING_REFUSALS)):
+        sys.exit(f"paper cases: of the refusals of an opening these alone are met: {met}")
+    return table(["Opened", "n", "L", "W", *[f"By the {caller}" for caller in LIMITS]], rows.values())
+
+
 # ---------------------------------------------------------------- the cases
 
-def trace(sheet):
+def trace(data):
     """The columns of each line that the separately written program traces."""
-    return [[part.strip() for part in line.split("|")] for line in printed("trace", sheet)]
+    return [[part.strip() for part in line.split("|")] for line in printed("trace", data)]
 
 
 def columns(board):
@@ -138,9 +181,9 @@ def played(play, words):
 
 def case_table(name):
     """A case, played by the rules; each line must be the trace's."""
-    sheet = (EXAMPLES / f"{name}.sheet").read_bytes()
-    play, rows = Play(sheet[0], int.from_bytes(sheet[2:4], "little")), []
-    for index, words, *expected in trace(sheet):
+    data = (EXAMPLES / f"{name}.sheet").read_bytes()
+    play, rows = Play(data[0], int.from_bytes(data[2:4], "little")), []
+    for index, words, *expected in trace(data):
         line, told = played(play, words)
         if told != expected:
             sys.exit(f"paper cases: {name}, turn {index}, {words}: the rules give {told}, the trace {expected}")
@@ -150,10 +193,10 @@ def case_table(name):
 
 def played_poll(name):
     """A sample poll, played by the rules: the page's lines, and its text, which must be the separately written program's."""
-    n, operations = poll.listed((EXAMPLES / f"{name}.poll").read_text(encoding="utf-8"))
-    play = Poll(n)
-    rows = [[index, *played(play, " ".join(words))[0]] for index, words in enumerate(operations)]
-    [expected] = poll_texts([poll.poll(n, operations)])
+    caller, n, operations = poll.listed((EXAMPLES / f"{name}.poll").read_text(encoding="utf-8"))
+    play = Poll(caller, n)
+    rows = [[index, *played(play, " ".join(words))[0]] for index, words in enumerate(operations if play.opened else [])]
+    [expected] = poll_texts([poll.poll(caller, n, operations)])
     for ours, theirs in zip_longest(play.text(), expected):
         if ours != theirs:
             sys.exit(f"paper cases: {name}: the rules give {ours}, the separately written program {theirs}")
@@ -187,6 +230,8 @@ TABLES = {
     "refusals": refusals_table,
     "counts": counts_table,
     "windows": windows_table,
+    "opening-refusals": opening_refusals_table,
+    "openings": openings_table,
     "form": form_table,
     "case": case_table,
     "poll-rules": poll_rules_table,

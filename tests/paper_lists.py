@@ -7,8 +7,8 @@ program has: the trace of a list, the text of a poll.
 Every rule and every refusal must be met, and marks of rounds that are unmarked and of rounds that are marked. Each list and each poll
 must leave as many rounds marked as contested says. Seats must become spent by turns with hint no, and take a further turn. In polls too
 every rule and every refusal must be met, but for the rules that the page says are never taken; every answer must be a number that
-was proposed, the same for all seats where one has committed, and committed where all propose the same. The windows must be the
-program's for every n.
+was proposed, the same for all seats where one has committed, and committed where all propose the same. Some polls are the cart's, with
+its most seats and with more among them. What opening answers to either caller must be the program's for every n.
 """
 import random
 import subprocess
@@ -22,12 +22,13 @@ sys.dont_write_bytecode = True
 sys.path.append(str(ROOT / "examples"))
 import poll
 import sheet
-from paper_play import POLL, SESSION, Play, Poll
-from paper_rules import ANSWERS, COUNTS, MOST_SEATS, NEVER_IN_POLLS, window
+from paper_play import POLL, SESSION, Opening, Play, Poll
+from paper_rules import ANSWERS, COUNTS, LIMITS, MOST_SEATS, NEVER_IN_POLLS, window
 
 LISTS, SEED = 3000, 1
 POLLS = LISTS // 3
 MOST_TURNS = 130
+CART_SEATS, _ = LIMITS["cart"]
 
 
 class Composer:
@@ -125,19 +126,25 @@ class Composer:
 
 
 class PollComposer(Composer):
-    """Makes up a poll, in which a refused turn ends nothing. One that is asleep may sleep until another one has committed."""
+    """Makes up a poll, in which a refused turn ends nothing. One that is asleep may sleep until another one has committed. Now and then
+    the cart opens one with all its seats, or is refused one with more."""
 
     def opened(self, n):
         self.waking = self.chance.choice(["check-value", "committed"])
-        return Poll(n)
+        caller = self.chance.choice(list(LIMITS))
+        if caller == "cart" and self.chance.random() < 0.2:
+            n = self.chance.choice([CART_SEATS, CART_SEATS + 1, self.chance.randint(CART_SEATS + 1, MOST_SEATS)])
+        return Poll(caller, n)
 
     def words_after_proposal(self):
         _, crash, _ = self.odds
         return f"{'crash' if self.chance.random() < crash else 'turn'} {self.seat}"
 
     def compose(self):
-        """The whole poll: turns that are not refused, to the answers of most seats, and some that may be."""
-        for _ in range(self.chance.randrange(3 * MOST_TURNS * self.play.n)):
+        """The whole poll: turns that are not refused, to the answers of most seats, and some that may be; any turns if it is not opened."""
+        if not self.play.opened:
+            self.turns = [self.any_words() for _ in range(self.chance.randrange(MOST_TURNS))]
+        for _ in range(self.chance.randrange(3 * MOST_TURNS * self.play.n) if self.play.opened else 0):
             words = self.words()
             if self.play.legal(words):
                 self.add(words)
@@ -153,12 +160,17 @@ class PollComposer(Composer):
 
     def poll(self):
         """The poll's bytes."""
-        return poll.poll(self.play.n, [words.split() for words in self.turns])
+        return poll.poll(self.play.caller, self.play.n, [words.split() for words in self.turns])
 
 
 def printed(what, data):
     """The lines that the program prints of the data."""
-    return subprocess.run([PROGRAM, what], input=data, capture_output=True, check=True).stdout.decode().splitlines()
+    return subprocess.run([PROGRAM, *what.split()], input=data, capture_output=True, check=True).stdout.decode().splitlines()
+
+
+def read_by(caller, data):
+    """The program's number for a sheet without entries that a caller reads, 0 where it is opened."""
+    return int(printed({"server": "run 0 0", "cart": "run 0 0 cart"}[caller], data)[0].split()[0])
 
 
 def traces(sheets):
@@ -188,7 +200,7 @@ def compare(what, lists, found):
     for number, (one, expected) in enumerate(zip(lists, found, strict=True)):
         for ours, theirs in zip(one.lines + ["the end"], expected + ["the end"]):
             if ours != theirs:
-                turns = "\n".join([f"n {one.play.n}", f"L {one.play.limit}", *one.turns])
+                turns = "\n".join([one.play.caller, f"n {one.play.n}", f"L {one.play.limit}", *one.turns])
                 sys.exit(f"paper lists: {what} {number}\n{turns}\nby the rules {ours}\nby the program {theirs}")
 
 
@@ -243,12 +255,32 @@ def check_answers(polls):
     return both
 
 
-def check_windows():
-    """Fails unless W is the least L that the program opens, for every n."""
-    sizes = [(n, window(n) + less) for n in range(1, MOST_SEATS + 1) for less in (0, -1)]
-    for (n, limit), lines in zip(sizes, traces([sheet.sheet(n, limit, []) for n, limit in sizes]), strict=True):
-        if lines != ["sheet refused 2"] * (limit < window(n)):
-            sys.exit(f"paper lists: n {n}, L {limit}, W {window(n)}: {lines}")
+def check_carts(polls):
+    """Fails if few polls are the cart's with all its seats, or are refused with one seat more."""
+    carts = Counter((one.play.caller, one.play.n, one.play.opened) for one in polls)
+    full, over = carts["cart", CART_SEATS, True], carts["cart", CART_SEATS + 1, False]
+    if min(full, over) * 100 < len(polls):
+        sys.exit(f"paper lists: {full} polls of the cart with {CART_SEATS} seats, and {over} refused with one more, are too few")
+    return sum(one.play.caller == "cart" for one in polls), full, sum(not one.play.opened for one in polls)
+
+
+def openings(caller):
+    """Each poll, by its n, and each session, about W and the limits of both callers, with its number by the rules and by the program."""
+    for n, text in enumerate(poll_texts([poll.poll(caller, n, []) for n in range(256)])):
+        yield f"poll, n {n}", Opening(caller, "poll", n).number, int(text[0].split()[2])
+    for n in range(MOST_SEATS + 2):
+        for most in [window(n) - 1, *(rounds for _, rounds in LIMITS.values())]:
+            for limit in {max(most, 0), most + 1}:
+                yield f"session, n {n}, L {limit}", Opening(caller, "session", n, limit).number, read_by(caller, sheet.sheet(n, limit, []))
+
+
+def check_openings():
+    """Fails unless the numbers of either caller's openings are the program's; how many they are."""
+    found = [(caller, *one) for caller in LIMITS for one in openings(caller)]
+    for caller, what, ours, theirs in found:
+        if ours != theirs:
+            sys.exit(f"paper lists: the {caller}'s {what}: by the rules {ours}, by the program {theirs}")
+    return len(found)
 
 
 def checked(what, lists, found, rules, never=()):
@@ -267,11 +299,13 @@ def main():
     lists = [Composer(chance).compose() for _ in range(count)]
     told = checked("list", lists, traces([one.sheet() for one in lists]), SESSION)
     spent, later = check_spent(lists)
-    check_windows()
     print(f"paper lists: seed {seed}, {told}; {spent} seats spent by hint no, {later} refused a turn after that")
     polls = [PollComposer(chance).compose() for _ in range(count * POLLS // LISTS)]
     told = checked("poll", polls, poll_texts([one.poll() for one in polls]), POLL, NEVER_IN_POLLS)
-    print(f"paper lists: {told}; {check_answers(polls)} polls with both answers")
+    carts, full, refused = check_carts(polls)
+    print(f"paper lists: {told}; {check_answers(polls)} polls with both answers; {carts} polls of the cart's, {full} with {CART_SEATS} seats, "
+          f"{refused} refused")
+    print(f"paper lists: {check_openings()} openings, by the server and by the cart, answered as the program answers them")
 
 
 if __name__ == "__main__":

@@ -6,7 +6,8 @@ program use_poll writes.
 """
 import re
 
-from paper_rules import ANSWERS, COUNTS, POLL_REFUSALS, POLL_RULES, POLL_STANCES, POLL_TURNS, REFUSALS, RULES, STANCES, window
+from paper_rules import ANSWERS, COUNTS, LIMITS, OPENING_REFUSALS, POLL_REFUSALS, POLL_RULES, POLL_STANCES, POLL_TURNS
+from paper_rules import REFUSALS, RULES, STANCES, window
 
 BLANK = {"T": 0, "C": False, "D": 0}
 
@@ -48,6 +49,8 @@ class Turn:
 # ---------------------------------------------------------------- words that name a number
 
 NAMES = ["n", "L", "W", "r", "k", "i", "the seat's number", "the number proposed"]
+# Of an opening alone.
+NAMES += ["the most seats", "the most rounds", "p", "4p", "length"]
 
 
 def value(words):
@@ -87,6 +90,7 @@ COMPARED = [
     (r"the seat is not (\w+)", lambda head: lambda turn: turn.seat.head != head),
     (r"the seat is (\w+)", lambda head: lambda turn: turn.seat.head == head),
     (r"(.+) is below (.+)", lambda a, b: lambda turn, a=value(a), b=value(b): a(turn) < b(turn)),
+    (r"(.+) is above (.+)", lambda a, b: lambda turn, a=value(a), b=value(b): a(turn) > b(turn)),
     (r"(.+) is (.+) or more", lambda a, b: lambda turn, a=value(a), b=value(b): a(turn) >= b(turn)),
     (r"(.+) is (.+)", lambda a, b: lambda turn, a=value(a), b=value(b): a(turn) == b(turn)),
 ]
@@ -272,12 +276,30 @@ class Rules:
 SESSION = Rules(STANCES, RULES, REFUSALS)
 POLL = Rules(POLL_STANCES, POLL_RULES, POLL_REFUSALS, POLL_TURNS)
 COUNTED = [counted(made) for _, made, _ in COUNTS]
+OPENINGS = [(place, number, kinds.split(", "), condition(met)) for place, (number, kinds, met) in enumerate(OPENING_REFUSALS)]
+
+
+class Opening:
+    """What a caller opens: the numbers that a row's words name; the place of the row that refuses it, or None, and its number, or 0."""
+
+    def __init__(self, caller, kind, n, limit=0, pairs=0, length=0):
+        seats, rounds = LIMITS[caller]
+        self.names = {"n": n, "L": limit, "W": window(n), "p": pairs, "4p": 4 * pairs, "length": length}
+        self.names |= {"the most seats": seats, "the most rounds": rounds}
+        refusals = ((place, number) for place, number, kinds, met in OPENINGS if kind in kinds and met(self))
+        self.place, self.number = next(refusals, (None, 0))
+
+    @classmethod
+    def of_sheet(cls, caller, data):
+        """A sheet that is read; bytes that it lacks are taken for 0."""
+        n, pairs, *limit = (data + bytes(4))[:4]
+        return cls(caller, "sheet", n, int.from_bytes(limit, "little"), pairs, len(data))
 
 
 class Play:
     """A board with its seats, and the turns played on it."""
 
-    rules = SESSION
+    rules, caller = SESSION, "server"
 
     def __init__(self, n, limit):
         self.n, self.limit, self.window = n, limit, window(n)
@@ -309,13 +331,14 @@ class Play:
 
 
 class Poll(Play):
-    """A poll, and the text that the program use_poll writes of it."""
+    """A poll, and the text that the program use_poll writes of it. One that is not opened takes no turn."""
 
     rules = POLL
 
-    def __init__(self, n):
+    def __init__(self, caller, n):
         super().__init__(n, window(n))
-        self.lines = [f"poll {n} 0"]
+        self.caller, refused = caller, Opening(caller, "poll", n).number
+        self.opened, self.lines = not refused, [f"poll {n} {refused}"]
 
     def turn(self, words):
         """Plays one turn, and keeps its line."""
@@ -341,7 +364,9 @@ class Poll(Play):
         return self.answer(seat) or f"working {record.round} {record.own}"
 
     def text(self):
-        """The whole text: the turns played so far, the counts, the registers and the seats."""
+        """The whole text: the turns played so far, the counts, the registers and the seats; or the refusal."""
+        if not self.opened:
+            return self.lines
         values, marks = self.board["T"], self.board["C"]
         rounds = range(1, self.limit + 1)
         return [

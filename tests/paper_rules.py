@@ -3,8 +3,8 @@
 paper_cases.py makes the page's tables of these rows and holds the picture docs/walk.svg to them; paper_lists.py plays random
 lists and polls by them, in these very words (paper_play.py knows what each word does), beside the separately written program.
 
-In the rows r is the seat's round, k or i the number that stands with its stance, n the number of seats, L the round limit and
-W the window.
+In the rows r is the seat's round, k or i the number that stands with its stance, n the number of seats, L the round limit, W
+the window and p the number of a sheet's pairs.
 """
 
 STANCES = [
@@ -100,7 +100,22 @@ COUNTS = [
     ("contested", "mark of an unmarked round", "so it is the number of marked rounds"),
 ]
 
-MOST_SEATS = 64
+# 02, wish 9: "A cart runs the same library with at most 16 seats and 64 rounds; the server stays at 64 and 256."
+LIMITS = {"server": (64, 256), "cart": (16, 64)}
+MOST_SEATS, MOST_ROUNDS = LIMITS["server"]
+
+# Number, what is opened, if: tried from top to bottom, before there is a board. The most seats and the most rounds are those of who
+# opens. A poll has no L of its own. A sheet is opened by reading it, and length is that of its bytes: of 10 here is what a short one
+# meets, and 11 and 12, of pairs and runs, come behind 2.
+OPENING_REFUSALS = [
+    (10, "sheet", "p is above 16"),
+    (10, "sheet", "length is below 4 + 4p"),
+    (1, "session, poll, sheet", "n is 0"),
+    (1, "session, poll, sheet", "n is above the most seats"),
+    (2, "session, sheet", "L is below W"),
+    (2, "session, sheet", "L is above the most rounds"),
+]
+
 # 02, wish 8. 01 had 2 times the root of n, rounded up to a whole number, plus 1.
 WINDOW = "the smallest whole number that, multiplied by itself, gives 4 times n or more"
 

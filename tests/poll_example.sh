@@ -8,4 +8,6 @@ for poll in examples/*.poll; do
     examples/poll.sh "$poll" | cmp - "${poll%.poll}.out"
     count=$((count + 1))
 done
+# The line cart alone makes the difference.
+[[ $(examples/poll.sh <(grep -v '^cart$' examples/cart.poll)) == "poll 17 0"$'\n'* ]]
 echo "poll example: $count polls as they are played on paper"

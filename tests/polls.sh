@@ -1,8 +1,8 @@
 #!/usr/bin/env bash
 # The program use_poll beside the separately written one on random polls in close contention (02, wish 6): no difference may be found, the
 # claims of the wish and the bound on turns must hold of every poll, and in a run of 4,000 polls or more every answer, by each of its
-# reasons, every refusal and every kind of turn must be reached, and answers for every n, in rounds below 01's window (02, wish 8). Then that
-# wrong programs are found.
+# reasons, every refusal and every kind of turn must be reached, and answers for every n, in rounds below 01's window (02, wish 8); and as the
+# bedside cart (02, wish 9) answers for every n from 1 to 16 and refusals of every one from 17 to 64. Then that wrong programs are found.
 #
 # usage: tests/polls.sh [POLLS [SEED]]      as long as one likes; 4,000 polls from seed 1, and the wrong programs, in the gate
 set -euo pipefail
@@ -65,6 +65,10 @@ wrong "has 01's window" session.rs 's/smallest \* smallest < 4 \* n/smallest * s
     'proved (turn [0-9]+ 0 (committed|adopted) [0-9]+, reference turn [0-9]+ 0 none|seat 0 [a-z0-9 ]+, reference round [0-9]+ [0-9]+ (un)?marked)$'
 wrong "has a window one less than the smallest" session.rs 's/= smallest as u32;/= (smallest as u32).saturating_sub(1);/' \
     'proved (turn [0-9]+ 0 none, reference turn [0-9]+ 0 (committed|adopted) [0-9]+|round [0-9]+ [0-9]+ (un)?marked, reference seat 0 [a-z0-9 ]+)$'
+wrong "opens the cart's polls by the server's limits" poll.rs 's/caller.limits()/(caller, Caller::Server).1.limits()/' \
+    'proved poll [0-9]+ 1, reference poll [0-9]+ 0$'
+wrong "has soundness by the cart's seats" sound.rs 's/check_opening(Caller::Server/check_opening(Caller::Cart/' \
+    'proved [a-z]+ [0-9 ]+ [04]( none)?, reference [a-z]+ [0-9 ]+ 3( none)?$'
 
 # On both sides, where nothing differs, the claims find it.
 untrue() { # WHAT EDIT CLAIM

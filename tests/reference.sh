@@ -25,6 +25,8 @@ gcc -x c -c - -o "$out/janus.o" <<'END'
 unsigned janus_run(void) { return 0; }
 unsigned long janus_report(void) { return 0; }
 unsigned janus_write(void) { return 0; }
+unsigned long caller_report(void) { return 0; }
+unsigned caller_write(void) { return 0; }
 END
 for name in differential writes; do
     harness "$name" --extern janus_reference=target/reference/libjanus_reference.rlib -C link-arg="$out/janus.o"
@@ -39,7 +41,7 @@ wrong() { # NAME FILE WHAT EDIT DIFFERENCE: the copy, its file edited by sed, di
     sed -i "$4" "$out/src/$2"
     if cmp -s "reference/src/$2" "$out/src/$2"; then echo "reference: nothing to edit: $4" && exit 1; fi
     rustc --edition 2021 -C overflow-checks=off --crate-type rlib --crate-name janus_reference "$out/src/lib.rs" -o "$out/libjanus_reference.rlib"
-    harness "$1" --extern janus_reference="$out/libjanus_reference.rlib" -L native=target/staticlib -l static=janus
+    harness "$1" --extern janus_reference="$out/libjanus_reference.rlib" -L native=target/staticlib -l static=janus -l static=janus_callers
     differs ".*: $5"
     echo "$1: a program that $3 is found in 200 cases"
 }
@@ -63,8 +65,12 @@ miswrites "returns 15 at an exact fit" 's/output.len() < size/output.len() <= si
 # The windows that 02, wish 8, shuts out.
 miswindows() { # WHAT EDIT: other sheets are refused with 2, or a seat commits earlier or later
     wrong differential session.rs "has $1 for its window" "$2" '\(code: library [0-9]*, reference [0-9]*\|report: library\)$'
-    wrong writes session.rs "has $1 for its window" "$2" 'code: library \(2, reference [0-9]*\|[0-9]*, reference 2\)$'
+    wrong writes session.rs "has $1 for its window" "$2" '\(code: library \(2, reference [0-9]*\|[0-9]*, reference 2\)\|report: library\)$'
 }
 miswindows "2 times the rounded-up root of n, plus 1," 's/smallest \* smallest < 4 \* n/smallest * smallest < n/; s/= smallest as u32;/= 2 * smallest as u32 + 1;/'
 miswindows "one less than the smallest" 's/= smallest as u32;/= (smallest as u32).saturating_sub(1);/'
 miswindows "the root of 4n, rounded down," 's/while smallest \* smallest < 4 \* n {/while (smallest + 1) * (smallest + 1) <= 4 * n {/'
+# A cart that has the server's limits. (02, wish 9.)
+as_server='s/caller.limits()/(caller, Caller::Server).1.limits()/'
+wrong differential sheet.rs "reads the cart's sheets by the server's limits" "$as_server" 'caller [0-9]*, budget [0-9]*: report: library$'
+miswrites "writes the cart's sheets by the server's limits" "$as_server" 'caller [0-9]*: code: library [12], reference [0-9]*$'

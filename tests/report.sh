@@ -1,6 +1,7 @@
 #!/usr/bin/env bash
 # The board report's program beside the separately written one: the sample that README runs first, the sample sheets, the unstarred
-# cases on sheets, and the least L of one seat and of 64.
+# cases on sheets, the least L of one seat and of 64, and sheets over the bedside cart's limits (02, wish 9: "the C entry and the report
+# use the server's").
 set -euo pipefail
 cd "$(dirname "$0")/.."
 crate=use_report
@@ -37,6 +38,12 @@ opens
 same "64 seats, L = 15" < <(printf '\100\0\17\0')
 [[ $(cat "$out/ours.txt") == "sheet refused 2" ]]
 same "64 seats, L = 16" < <(printf '\100\0\20\0')
+opens
+same "16 seats, L = 65" < <(printf '\20\0\101\0')
+opens
+same "17 seats, L = 64" < <(printf '\21\0\100\0')
+opens
+same "64 seats, L = 256" < <(printf '\100\0\0\1')
 opens
 same "a sheet of 65,536 bytes" < <(head -c 65536 /dev/zero)
 [[ $(cat "$out/ours.txt") == "sheet refused 10" ]]

@@ -1,16 +1,18 @@
 #!/usr/bin/env python3
 """Runs sheets under budgets through the proved program and the separate one, and compares the two lines that each prints: how the run
-ends, and the standing values of the session that it leaves, read out to a buffer.
+ends, and the standing values of the session that it leaves, read out to a buffer. Each sheet is run as the server and as the bedside cart
+(document 02, wish 9).
 
 usage: run.py PROVED SEPARATE
 
 Document 01's case "Budget 0 with one entry: budget ended, 0", the sample sheets under every budget up to 20 and some larger ones,
-random sheets from one seed, some of them damaged, and boards whose registers hold given values, read out to buffers of several lengths.
-Ends with 1 at the first difference, or where the cases reach too little.
+random sheets from one seed, some of them damaged or about the cart's limits, and boards whose registers hold given values, read out to
+buffers of several lengths. Ends with 1 at the first difference, or where the cases reach too little.
 """
 
 import collections
 import glob
+import itertools
 import random
 import struct
 import subprocess
@@ -25,6 +27,14 @@ RANDOM_SHEETS = 300
 MOST = 2**32 - 1
 # The random sheets must end in every way that a sheet of this length can.
 ENDINGS = {0, 1, 2, *range(4, 14), 100}
+# A sheet that ends so is not run.
+REFUSED_SHEETS = {1, 2, 10, 11, 12}
+# The bytes that name the callers: "at most 16 seats and 64 rounds", and any byte but 0.
+SERVER = 0
+CARTS = itertools.cycle([1, 2, 255])
+CART_SEATS, CART_ROUNDS = 16, 64
+# What the random sheets must show of the cart: sheets that are run and read out, and what only the server runs.
+OF_THE_CART = {"run", "read out", "n 16", "L 64", "1 alone", "2 alone", "n 17: 1 alone", "L 65: 2 alone"}
 # What a place of the buffer holds at first.
 MARKER = str(2**32 - 1)
 MOST_PLACES = 256
@@ -36,20 +46,23 @@ def printed(words, told):
     return subprocess.run(words, input=told, capture_output=True, check=True).stdout.decode()
 
 
-def proved(sheet, budget, places=0):
-    return printed([PROVED], struct.pack("<IH", budget, places) + sheet)
+def proved(caller, sheet, budget, places=0):
+    return printed([PROVED], struct.pack("<BIH", caller, budget, places) + sheet)
 
 
-def separate(sheet, budget, places=0):
-    return printed([SEPARATE, "run", str(budget), str(places)], sheet)
+def separate(caller, sheet, budget, places=0):
+    return printed([SEPARATE, "run", str(budget), str(places)] + ["cart"] * (caller != SERVER), sheet)
 
 
 def same(what, sheet, budget, places=0):
-    """The two lines, which must be the same from both."""
-    ours, theirs = proved(sheet, budget, places), separate(sheet, budget, places)
-    if ours != theirs:
-        sys.exit(f"run: {what}, budget {budget}, {places} places: {ours!r}, and the separate program has {theirs!r}")
-    return ours.splitlines()
+    """The two lines as the server and as the cart, which must be the same from both programs."""
+    told = []
+    for caller in (SERVER, next(CARTS)):
+        ours, theirs = (program(caller, sheet, budget, places) for program in (proved, separate))
+        if ours != theirs:
+            sys.exit(f"run: {what}, caller {caller}, budget {budget}, {places} places: {ours!r}, and the separate program has {theirs!r}")
+        told.append(ours.splitlines())
+    return told
 
 
 def entries(rng, n):
@@ -74,16 +87,41 @@ def joined(n, limit, runs):
     return made + b"".join(entry for run in data for entry in run)
 
 
+def size(rng):
+    """n and L; one pair in four is about the cart's limits."""
+    if rng.random() < 0.25:
+        return rng.randint(CART_SEATS - 1, CART_SEATS + 1), rng.randint(CART_ROUNDS - 1, CART_ROUNDS + 1)
+    n = rng.randint(1, 6)
+    return n, rng.choice([window(n), 20, 256])
+
+
 def sheet(rng):
     """A sheet of one or two runs; one in five is damaged."""
-    n = rng.randint(1, 6)
+    n, limit = size(rng)
     data = entries(rng, n)
     cut = rng.randint(0, len(data))
     runs = [data] if rng.random() < 0.5 else [data[:cut], data[cut:]]
-    made = bytearray(joined(n, rng.choice([window(n), 20, 256]), runs))
+    made = bytearray(joined(n, limit, runs))
     if rng.random() < 0.2:
         made[rng.randrange(min(12, len(made)))] = rng.randrange(256)
     return bytes(made)
+
+
+def of_the_cart(made, server, cart):
+    """What a sheet shows of the cart, by the lines of either caller."""
+    ran, code = (int(lines[0].split()[0]) for lines in (server, cart))
+    n, limit = made[0], int.from_bytes(made[2:4], "little")
+    if code not in REFUSED_SHEETS:
+        yield "run"
+        yield from [f"n {n}"] * (n == CART_SEATS) + [f"L {limit}"] * (limit == CART_ROUNDS)
+        if not cart[1].startswith(("0 0", "15 ")):
+            yield "read out"
+        if server != cart:
+            sys.exit(f"run: the server has {server} where the cart has {cart}")
+    elif ran not in REFUSED_SHEETS:
+        yield f"{code} alone"
+        yield f"n {n}: {code} alone"
+        yield f"L {limit}: {code} alone"
 
 
 # ---------------------------------------------------------------- boards with given values
@@ -117,7 +155,7 @@ def read_out(values, listed):
         told = listed if places >= len(listed) else []
         lent = min(places, MOST_PLACES)
         expected = " ".join([f"0 {len(told)}" if told else "15 0", *map(str, told), *[MARKER] * (lent - len(told))])
-        if same(f"a board of {values}", made, MOST, places)[1] != expected:
+        if [lines[1] for lines in same(f"a board of {values}", made, MOST, places)] != [expected] * 2:
             sys.exit(f"run: the standing values of {values} to {places} places are not {expected!r}")
         yield kind
 
@@ -145,7 +183,8 @@ def boards(rng):
 
 def main():
     one = joined(1, window(1), [[(0, 0, 1)]])
-    if same("one entry", one, 0) != ["100 0 0 0 0", "0 0"] or same("one entry", one, 1, 1) != ["0 1 0 0 0", f"0 0 {MARKER}"]:
+    ended, finished = ["100 0 0 0 0", "0 0"], ["0 1 0 0 0", f"0 0 {MARKER}"]
+    if same("one entry", one, 0) != [ended] * 2 or same("one entry", one, 1, 1) != [finished] * 2:
         sys.exit("run: a sheet of one entry does not end as document 01 has it")
     count = 2
     for name in sorted(glob.glob("examples/*.sheet")):
@@ -154,22 +193,32 @@ def main():
         for budget in [*range(21), 100, 10_921, MOST]:
             same(name, sample, budget)
             count += 1
-    reached, read = collections.Counter(), collections.Counter()
+    reached, read, cart = collections.Counter(), collections.Counter(), collections.Counter()
     rng = random.Random(SEED)
     for index in range(RANDOM_SHEETS):
         made = sheet(rng)
         budget = rng.choice([rng.randint(0, 70), 65_536 * rng.randint(0, 9), MOST])
-        ending, standing = same(f"random sheet {index} of seed {SEED}", made, budget, rng.randint(0, 4))
+        lines = same(f"random sheet {index} of seed {SEED}", made, budget, rng.randint(0, 4))
+        cart.update(of_the_cart(made, *lines))
+        ending, standing = lines[SERVER]
         reached[int(ending.split()[0])] += 1
         read[int(standing.split()[0])] += 1
         count += 1
     if ENDINGS - set(reached) or {0, 3, 15} - set(read):
         sys.exit(f"run: no random sheet ends with {sorted(ENDINGS - set(reached))}, or is read out with {sorted({0, 3, 15} - set(read))}")
+    if OF_THE_CART - set(cart):
+        sys.exit(f"run: no random sheet shows this of the cart: {sorted(OF_THE_CART - set(cart))}")
     kinds = boards(rng)
-    # The comparison sees a budget that is one too large, and a buffer.
-    if proved(one, 1) == separate(one, 0) or proved(one, 1, 1) == separate(one, 1, 0):
-        sys.exit("run: a wrong budget or buffer is not seen")
-    print(f"run: {count} runs of a sheet as the separate program has them; random sheets end with {dict(sorted(reached.items()))}")
+    # The comparison sees a budget that is one too large, a buffer, and a caller.
+    large = joined(CART_SEATS + 1, CART_ROUNDS, [])
+    if (
+        proved(SERVER, one, 1) == separate(SERVER, one, 0)
+        or proved(SERVER, one, 1, 1) == separate(SERVER, one, 1, 0)
+        or proved(SERVER, large, 0) == separate(next(CARTS), large, 0)
+    ):
+        sys.exit("run: a wrong budget, buffer or caller is not seen")
+    print(f"run: {count} runs by either caller as the separate program has them; random sheets end with {dict(sorted(reached.items()))}")
+    print(f"run: as the cart: { {kind: cart[kind] for kind in sorted(OF_THE_CART)} }")
     print(f"run: their standing values are read out with {dict(sorted(read.items()))}; boards and buffers: {dict(sorted(kinds.items()))}")
 
 

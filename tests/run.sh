@@ -1,5 +1,5 @@
 #!/usr/bin/env bash
-# The program use_run beside the separately written one, line by line (tests/run.py).
+# The program use_run beside the separately written one, line by line and as either caller of 02, wish 9 (tests/run.py).
 set -euo pipefail
 cd "$(dirname "$0")/.."
 ./build.sh use_run reference

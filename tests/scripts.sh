@@ -85,11 +85,14 @@ told 2 'try --help' "$sheet" --what
 
 # ---------------------------------------------------------------- poll.py, which reads its lines as sheet.py does
 poll=$root/examples/poll.py
-same <(printf 'n 2\npropose 1 258\nturn 1 # a remark\ncrash 0\n' | "$poll") <(printf '\2\3\0\0\1\2\1\0\0\1\1\0\0\0\0\2\0\0\0\0\0')
+same <(printf 'n 2\npropose 1 258\nturn 1 # a remark\ncrash 0\n' | "$poll") <(printf '\0\2\3\0\0\1\2\1\0\0\1\1\0\0\0\0\2\0\0\0\0\0')
+same <(printf 'turn 1\ncart # a remark\nn 17\n' | "$poll") <(printf '\1\21\1\0\1\1\0\0\0\0')
 "$poll" --help >"$out/help"
 grep -q '^usage: poll.py \[POLL \[BYTES\]\]' "$out/help"
 told 1 'line 2: turn takes SEAT, not 0 yes' "$poll" <(printf 'n 2\nturn 0 yes\n')
-told 1 'L is none of n, propose, turn, crash' "$poll" <(printf 'n 2\nL 3\n')
+told 1 'L is none of n, cart, propose, turn, crash' "$poll" <(printf 'n 2\nL 3\n')
+told 1 'line 3: cart is given twice' "$poll" <(printf 'cart\nn 2\ncart\n')
+told 1 'line 2: cart takes nothing, not 1' "$poll" <(printf 'n 2\ncart 1\n')
 told 1 'there is no line n' "$poll" <(echo turn 0)
 told 1 'n 256 is out of range' "$poll" <(echo n 256)
 told 1 '10923 operations are too many' "$poll" <(echo n 1; yes turn 0 | head -n 10923)

@@ -96,7 +96,7 @@ wrong_machine() { # WHAT FILE EDIT WORDS
     rustc --edition 2021 --crate-type rlib --crate-name janus_reference "$out/src/lib.rs" -o "$out/libjanus_reference.rlib"
     found "a machine that $1" "$4" reference "$out"
 }
-wrong_machine "opens at the window in service" session.rs 's/check_opening(|_| window, n, limit)?;/check_opening(|n| self::window(n).max(window), n, limit)?;/' \
+wrong_machine "opens at the window in service" session.rs 's/|_| window, n, limit)?;/|n| self::window(n).max(window), n, limit)?;/' \
     'W 2, poll of 2 seats: refused 2'
 wrong_machine "walks at a window one larger" session.rs 's/^            window: window(self.n),/            window: window(self.n) + 1,/' \
     'W 2, 2 seats: call [0-9]+, work 1 yes: left unsound'

@@ -1,16 +1,18 @@
 #!/usr/bin/env python3
 """Edits of the machines' definitions of which the agreement rule, the rule of polls, that contested is the number of marked rounds, or a paper
-case is false, of the two rules' bound on the window, and of contracts on which they rest.
+case is false, of the two rules' bounds on the window and on the limits, and of contracts on which they rest.
 
     theorem_edits.py             tries every edit
     theorem_edits.py PATTERN     tries those whose file name matches, as 'root*.edit': for work on one
 
 Each file of tests/theorem-edits names a file, a text of it and another text, or several such pairs, the crate to check after the change, and the
-file and lemma at which the check must refuse it first. It also has a list of calls: the processes and rounds of the opening, the
-proposals of process 0, 1, .., and the steps, `p*k` for k steps of process p; and what they commit and write, or how many rounds are
-contested and marked after a sheet of them. From these a proof that the rule is false of the changed machine is made, and that must be
-accepted. Where the edit has a window, the calls are at that window and the rule that is false is the one at every window, or the claim of Safe.antt that
-it names; where it has none, the one in service. A list that is one proposal has the number that it returns, 3, in place of what is committed and written.
+file and lemma at which the check must refuse it first; several lemmas where the first of them is true and only its proof fails. It also has a
+list of calls: the processes and rounds of the opening, the proposals of process 0, 1, .., and the steps, `p*k` for k steps of process p; and
+what they commit and write, or how many rounds are contested and marked after a sheet of them. From these a proof that the rule is false of the
+changed machine is made, and that must be accepted. Where the edit has a window, the calls are at that window and the rule that is false is the
+one at every window, or the claim of Safe.antt that it names; where it has none, the one in service. Where it has limits, processes and rounds,
+the opening is within those; where it has none, within the server's. A list that is one proposal has the number that it returns, 3, in place of
+what is committed and written.
 
 An edit of polls has the claim that it refutes, one of those that a file polls_CLAIM.template is for. Its opening has no rounds and
 its steps are turns; it has the answers that the calls give, none where the field is left out, and the number that the last of them returns where
@@ -72,12 +74,10 @@ def check(copy, crate):
     return subprocess.run(["rt", "check", crate], cwd=copy, capture_output=True, text=True)
 
 
-def first_error(output):
-    for line in output.splitlines():
-        found = re.search(r"(crates/\S+?\.antt):\d+:\d+: (?:error: )?`([^`]+)`", line)
-        if found:
-            return f"{found[1]} {found[2]}"
-    return "no error"
+def refused(output, number=1):
+    """The file and the lemmas of the first errors, as an edit names them; an error that is another lemma's does not count."""
+    errors = re.findall(r"(crates/\S+?\.antt):\d+:\d+: (?:error: )?`([^`]+)`(?!.* was not admitted)", output)[:number]
+    return f"{errors[0][0]} {', '.join(lemma for file, lemma in errors if file == errors[0][0])}" if errors else "no error"
 
 
 def calls(edit):
@@ -105,13 +105,21 @@ def sheet(edit):
     return header + (8).to_bytes(2, "little") + (6 * len(entries)).to_bytes(2, "little") + b"".join(entries)
 
 
+def limits(edit):
+    """The limits within which the calls are made: the edit's own, or the server's."""
+    if "limits" not in edit:
+        return "limitsOf Server"
+    processes, rounds = edit["limits"].split()
+    return f"record {{ processes = {processes}; rounds = {rounds} }}"
+
+
 def claimed(edit, in_service, at_every_window, *numbers):
     """The window as a function of n, the claim, and what it is applied to, as the templates have them: in service, or at the window of the edit."""
     given = " ".join(edit[number] for number in numbers)
     if "window" in edit:
         claim = edit.get("claim", at_every_window)
-        return {"w": f"λ m. {edit['window']}", "claim": claim, "file": "Safe" if "claim" in edit else "Rule", "of": f"w {given} (omega arith)"}
-    return {"w": "window", "claim": in_service, "file": "Rule", "of": given}
+        return {"w": f"λ m. {edit['window']}", "claim": claim, "file": "Safe" if "claim" in edit else "Rule", "of": f"w {given} (omega arith) most up"}
+    return {"w": "window", "claim": in_service, "file": "Rule", "of": f"{given} most up"}
 
 
 def poll_refutation(edit):
@@ -152,7 +160,7 @@ def refutation(edit):
 def write_refutation(copy, edit):
     templates, uses, values = refutation(edit)
     text = "".join((EDITS / template).read_text(encoding="utf-8") for template in templates)
-    for key, value in values.items():
+    for key, value in {"most": limits(edit), **values}.items():
         text = text.replace(f"@{key}@", value)
     crate = copy / "crates" / "refuted"
     (crate / "src").mkdir(parents=True)
@@ -173,10 +181,10 @@ def case_stands(copy, path, row):
     if len(one) != 1:
         return f"'{row}' stands {len(one)} times in the table"
     text = text.replace(part, f"table =\n    {one[0]}\n    ∷ []\n\n").replace("every holds table ≡ true", "every holds table ≡ false")
-    text = re.sub(r"(?<=use mathlib\.Core\.Bool\.)\{.*\}", "{true, false}", text)
+    text = re.sub(r"(?<=use mathlib\.Core\.Bool\.\{)(?!.*\bfalse\b)", "false, ", text)
     table.write_text(text, encoding="utf-8")
     run = check(copy, Path(path).parts[1])
-    return None if run.returncode == 0 else f"the row is not false of it: {first_error(run.stdout + run.stderr)}"
+    return None if run.returncode == 0 else f"the row is not false of it: {refused(run.stdout + run.stderr)}"
 
 
 def fault_of(path):
@@ -197,7 +205,7 @@ def fault_of(path):
         run = check(copy, edit["check"])
         if run.returncode == 0:
             return "it was proved"
-        seen = first_error(run.stdout + run.stderr)
+        seen = refused(run.stdout + run.stderr, edit["refused"].count(",") + 1)
         if seen != edit["refused"]:
             return f"refused first at {seen}, not at {edit['refused']}"
         if "proved" in edit:
@@ -206,7 +214,7 @@ def fault_of(path):
             return case_stands(copy, edit["refused"].split()[0], edit["row"])
         write_refutation(copy, edit)
         run = check(copy, "refuted")
-        return None if run.returncode == 0 else f"its list of calls refutes nothing: {first_error(run.stdout + run.stderr)}"
+        return None if run.returncode == 0 else f"its list of calls refutes nothing: {refused(run.stdout + run.stderr)}"
 
 
 def main():

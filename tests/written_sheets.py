@@ -15,11 +15,11 @@ ROOT = Path(__file__).resolve().parent.parent
 sys.dont_write_bytecode = True
 sys.path.append(str(ROOT / "examples"))
 import sheet
-from paper_rules import MOST_SEATS, window
+from paper_rules import MOST_ROUNDS, MOST_SEATS, window
 
 PROGRAM = sys.argv[1]
 LISTS, SEED = 170, 1
-MOST_RUNS, MOST_ROUNDS, MOST_ENTRIES = 16, 256, 10_921
+MOST_RUNS, MOST_ENTRIES = 16, 10_921
 
 
 def written(n, limit, runs):

@@ -12,11 +12,12 @@
 //! - `reference entry BUDGET` prints `code CODE`, the C entry's answer, and a
 //!   line `seat S decided VALUE` for each place of the buffer that is not 0
 //!   (01, "Turn sheets").
-//! - `reference run BUDGET PLACES` prints two lines: the C entry's number, the
+//! - `reference run BUDGET PLACES [cart]` prints two lines: the C entry's number, the
 //!   entries carried out, and the reads, writes and contested writes; and of the
 //!   session that is left the read-out of the standing values to a buffer of so
 //!   many places, 256 at most: its number, its count and the places after it,
-//!   which hold 4294967295 before.
+//!   which hold 4294967295 before. With `cart` the sheet is read as the bedside cart
+//!   (02, wish 9).
 
 use std::io::{self, Read, Write};
 use std::process::ExitCode;
@@ -24,11 +25,11 @@ use std::process::ExitCode;
 use janus_reference::runner::BUFFER;
 use janus_reference::sheet::MAX_BYTES;
 use janus_reference::{
-    entry, polls, report, run, trace, trace_at, traces, Counts, Refusal, Session, Sheet,
+    entry, polls, report, run, trace, trace_at, traces, Caller, Counts, Refusal, Session, Sheet,
 };
 
 const USAGE: &str =
-    "usage: reference report | trace [WINDOW] | traces | polls | entry BUDGET | run BUDGET PLACES   (sheet or polls on standard input)";
+    "usage: reference report | trace [WINDOW] | traces | polls | entry BUDGET | run BUDGET PLACES [cart]   (sheet or polls on standard input)";
 
 fn main() -> ExitCode {
     let arguments: Vec<String> = std::env::args().skip(1).collect();
@@ -42,10 +43,13 @@ fn main() -> ExitCode {
         ["traces"] => (u64::MAX, |sheets, _| traces(sheets)),
         ["polls"] => (u64::MAX, |bytes, _| polls(bytes)),
         ["entry", _] => (one, entry_text),
-        ["run", _, _] => (one, run_text),
+        ["run", _, _] => (one, |sheet, told| run_text(Caller::Server, sheet, told)),
+        ["run", _, _, "cart"] => (one, |sheet, told| run_text(Caller::Cart, sheet, told)),
         _ => return fail(USAGE),
     };
-    let Ok(numbers) = words[1..].iter().map(|word| word.parse()).collect() else {
+    // Two at most are numbers.
+    let numbers = words[1..].iter().take(2).map(|word| word.parse());
+    let Ok(numbers) = numbers.collect() else {
         return fail(USAGE);
     };
     match answer_input(most, answer, numbers) {
@@ -88,9 +92,9 @@ fn entry_text(sheet: &[u8], numbers: &[u64]) -> String {
     text
 }
 
-fn run_text(bytes: &[u8], numbers: &[u64]) -> String {
+fn run_text(caller: Caller, bytes: &[u8], numbers: &[u64]) -> String {
     let mut counts = Counts::default();
-    let (code, carried_out, session) = match Sheet::read(bytes) {
+    let (code, carried_out, session) = match Sheet::read(caller, bytes) {
         Ok(sheet) => {
             let mut session = sheet.open();
             let ending = run(&sheet, numbers[0], &mut session, &mut counts);

@@ -3,10 +3,8 @@
 use crate::board::{Access, Board, Counts, Registers};
 use crate::phase::{Bounds, Phase, Process};
 use crate::refusal::Refusal;
-use crate::session::{
-    board, check_opening, check_processes, present, window, Session, MAX_PROCESSES,
-};
-use crate::sound::{blank_past, record, sound};
+use crate::session::{board, check_processes, present, window, Caller, Session, MAX_PROCESSES};
+use crate::sound::{blank_past, record, sound, sound_size};
 
 /// What a process gets from a poll, with its value.
 #[derive(Clone, Copy, PartialEq, Eq, Debug)]
@@ -54,9 +52,10 @@ pub struct Poll {
 }
 
 impl Poll {
-    /// Opens a poll. (Order: 1.)
-    pub fn open(n: usize) -> Result<Poll, Refusal> {
-        check_processes(n)?;
+    /// Opens a poll. (Order: 1; 02, wish 9: "Opening, of polls too". No 2: the W of the
+    /// most seats is below the most rounds of either caller.)
+    pub fn open(caller: Caller, n: usize) -> Result<Poll, Refusal> {
+        check_processes(caller.limits(), n)?;
         Poll::open_at(window(n), n)
     }
 
@@ -206,7 +205,7 @@ impl Poll {
     /// With the window that `window` gives for an n of 1 to 64.
     fn is_sound_by(&self, window: impl Fn(usize) -> u32) -> bool {
         let limit = self.limit as usize;
-        if check_opening(&window, self.n, limit).is_err() || self.limit != window(self.n) {
+        if !sound_size(&window, self.n, limit) || self.limit != window(self.n) {
             return false;
         }
         let (seated, rest) = self.voters.split_at(self.n);

@@ -1,12 +1,13 @@
 //! Many polls in bytes, and what becomes of them in words, as the program use_poll
 //! reads and prints them. (02, wish 6.)
 //!
-//! The bytes of a poll, which another may follow: n; the number of its calls in 16
-//! bits, low byte first; and 6 bytes for each call: kind, seat, 32-bit value, low
-//! byte first. Kind 0 is a proposal of the value; the other kinds ignore it. Kind 1 is
-//! a turn, 2 a crash, and any other kind the session's read-out of the seat, which
-//! shows 3 where the poll is no sound session. Where the bytes end early, so does the
-//! poll: the calls that are whole are carried out.
+//! The bytes of a poll, which another may follow: the caller, 0 the server and any other
+//! the cart (02, wish 9); n; the number of its calls in 16 bits, low byte first; and 6
+//! bytes for each call: kind, seat, 32-bit value, low byte first. Kind 0 is a proposal
+//! of the value; the other kinds ignore it. Kind 1 is a turn, 2 a crash, and any other
+//! kind the session's read-out of the seat, which shows 3 where the poll is no sound
+//! session. Where the bytes end early, so does the poll: an n that is missing is 0, and
+//! the calls that are whole are carried out.
 //!
 //! The lines of a poll, whose tally is empty at first:
 //!
@@ -29,6 +30,7 @@ use crate::board::Counts;
 use crate::poll::{Answer, Poll, Voter};
 use crate::refusal::Refusal;
 use crate::report::write_seat;
+use crate::session::Caller;
 use crate::sheet::ENTRY;
 
 /// One call on a poll.
@@ -89,9 +91,11 @@ impl Call {
 /// The lines of many polls, each ended by a line feed.
 pub fn polls(bytes: &[u8]) -> String {
     let (mut text, mut rest) = (String::new(), bytes);
-    while let [n, after @ ..] = rest {
+    while let [caller, after @ ..] = rest {
+        let (n, after) = after.split_first().unwrap_or((&0, &[]));
         let (calls, after) = split_calls(after);
-        write_poll(&mut text, *n, calls).expect("a string takes every line");
+        let caller = Caller::named(*caller);
+        write_poll(&mut text, caller, *n, calls).expect("a string takes every line");
         rest = after;
     }
     text
@@ -106,14 +110,15 @@ fn split_calls(bytes: &[u8]) -> (&[u8], &[u8]) {
     calls.split_at(length.min(calls.len()))
 }
 
-/// The bytes of a poll of these calls, of which there are at most 65,535.
-pub fn poll_bytes(n: u8, calls: &[[u8; ENTRY]]) -> Vec<u8> {
+/// The bytes of a poll of these calls, of which there are at most 65,535. The caller is
+/// one that `Caller::named` tells apart.
+pub fn poll_bytes(caller: u8, n: u8, calls: &[[u8; ENTRY]]) -> Vec<u8> {
     let [low, high] = (calls.len() as u16).to_le_bytes();
-    [&[n, low, high], calls.as_flattened()].concat()
+    [&[caller, n, low, high], calls.as_flattened()].concat()
 }
 
-fn write_poll(text: &mut String, n: u8, calls: &[u8]) -> fmt::Result {
-    let mut poll = match Poll::open(usize::from(n)) {
+fn write_poll(text: &mut String, caller: Caller, n: u8, calls: &[u8]) -> fmt::Result {
+    let mut poll = match Poll::open(caller, usize::from(n)) {
         Ok(poll) => poll,
         Err(refusal) => return writeln!(text, "poll {n} {}", refusal.code()),
     };

@@ -1,13 +1,13 @@
-//! The numbers returned. (01, "Numbers returned"; 02, wishes 3 and 6.)
+//! The numbers returned. (01, "Numbers returned"; 02, wishes 3, 6 and 9.)
 
 /// A row of the table in 01, "Numbers returned", or a number that 02 adds to it;
 /// `code` gives its number.
 #[derive(Clone, Copy, PartialEq, Eq, Debug)]
 #[repr(u8)]
 pub enum Refusal {
-    /// Seats not 1 to 64.
+    /// Seats not 1 to the caller's most. (02, wish 9.)
     Processes = 1,
-    /// L below W or above 256.
+    /// L below W or above the caller's most rounds. (02, wish 9.)
     Limit = 2,
     /// Session or poll not sound.
     Unsound = 3,

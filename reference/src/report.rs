@@ -5,7 +5,7 @@ use std::fmt::Write;
 use crate::board::Counts;
 use crate::phase::{Phase, Process};
 use crate::runner::{run, Ending};
-use crate::session::Session;
+use crate::session::{Caller, Session};
 use crate::sheet::Sheet;
 
 /// The program's budget, as many entries as a sheet can hold.
@@ -13,13 +13,18 @@ pub const BUDGET: u64 = 10_921;
 
 /// The lines printed for a sheet, each ended by a line feed.
 pub fn report(bytes: &[u8]) -> String {
-    let sheet = match Sheet::read(bytes) {
+    report_of(Caller::Server, BUDGET, bytes)
+}
+
+/// The same lines of a run as either caller, under a budget. (02, wish 9.)
+pub fn report_of(caller: Caller, budget: u64, bytes: &[u8]) -> String {
+    let sheet = match Sheet::read(caller, bytes) {
         Ok(sheet) => sheet,
         Err(refusal) => return format!("sheet refused {}\n", refusal.code()),
     };
     let mut session = sheet.open();
     let mut counts = Counts::default();
-    let ending = run(&sheet, BUDGET, &mut session, &mut counts);
+    let ending = run(&sheet, budget, &mut session, &mut counts);
     let mut text = String::new();
     write_report(&mut text, ending, &counts, &session).expect("a string takes every line");
     text

@@ -2,7 +2,7 @@
 
 use crate::board::Counts;
 use crate::refusal::Refusal;
-use crate::session::{Session, MAX_PROCESSES};
+use crate::session::{Caller, Session, MAX_PROCESSES};
 use crate::sheet::{Operation, Sheet, ENTRY};
 
 /// The C entry's answer where the budget ended. (01, "Turn sheets".)
@@ -61,12 +61,13 @@ pub fn run(sheet: &Sheet, budget: u64, session: &mut Session, counts: &mut Count
 }
 
 /// What the clinic server gets. (01, "Turn sheets", the C entry: 15 first; the
-/// buffer is written unless the answer is 15, 1, 2, 10, 11 or 12.)
+/// buffer is written unless the answer is 15, 1, 2, 10, 11 or 12. 02, wish 9: "the C
+/// entry and the report use the server's".)
 pub fn entry(bytes: &[u8], budget: u64, buffer: &mut [u8]) -> u32 {
     if buffer.len() != BUFFER {
         return Refusal::Buffer.code();
     }
-    let sheet = match Sheet::read(bytes) {
+    let sheet = match Sheet::read(Caller::Server, bytes) {
         Ok(sheet) => sheet,
         Err(refusal) => return refusal.code(),
     };

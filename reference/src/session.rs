@@ -11,6 +11,52 @@ pub const MAX_PROCESSES: usize = 64;
 /// The most rounds of a session. (01: round limit L, at most 256.)
 pub const MAX_ROUNDS: usize = 256;
 
+/// The most processes and the most rounds of what a caller opens, reads or writes. (02,
+/// wish 9: "the caller's limits".)
+#[derive(Clone, Copy, PartialEq, Eq, Debug)]
+pub struct Limits {
+    /// The most seats.
+    pub processes: usize,
+    /// The most rounds.
+    pub rounds: usize,
+}
+
+/// Who opens a session or a poll, or reads or writes a sheet. (02, wish 9: "a call names
+/// only which of the two it is".)
+#[derive(Clone, Copy, PartialEq, Eq, Debug)]
+pub enum Caller {
+    /// The clinic server: "the server stays at 64 and 256".
+    Server,
+    /// The bedside cart: "at most 16 seats and 64 rounds".
+    Cart,
+}
+
+impl Caller {
+    /// The caller that a byte names to a test's program: 0 the server, any other the
+    /// cart.
+    pub const fn named(byte: u8) -> Caller {
+        match byte {
+            0 => Caller::Server,
+            _ => Caller::Cart,
+        }
+    }
+
+    /// "one pair for each of the two callers".
+    #[inline]
+    pub const fn limits(self) -> Limits {
+        match self {
+            Caller::Server => Limits {
+                processes: MAX_PROCESSES,
+                rounds: MAX_ROUNDS,
+            },
+            Caller::Cart => Limits {
+                processes: 16,
+                rounds: 64,
+            },
+        }
+    }
+}
+
 /// W for each n. (02, wish 8: "the smallest whole number with W times W at least 4n".
 /// 01 had 2 times the root of n, rounded up, plus 1.)
 const WINDOWS: [u32; MAX_PROCESSES + 1] = windows();
@@ -47,10 +93,11 @@ pub struct Session {
     pub processes: [Process; MAX_PROCESSES],
 }
 
-/// 01, "Numbers returned", opening: 1.
+/// 01, "Numbers returned", opening: 1. (02, wish 9: "1 and 2 speak of the caller's
+/// limits".)
 #[inline]
-pub(crate) fn check_processes(n: usize) -> Result<(), Refusal> {
-    if n == 0 || n > MAX_PROCESSES {
+pub(crate) fn check_processes(most: Limits, n: usize) -> Result<(), Refusal> {
+    if n == 0 || n > most.processes {
         return Err(Refusal::Processes);
     }
     Ok(())
@@ -60,30 +107,32 @@ pub(crate) fn check_processes(n: usize) -> Result<(), Refusal> {
 /// an n of 1 to 64. (02, wish 7: "the window a parameter of the machine".)
 #[inline]
 pub(crate) fn check_opening(
+    most: Limits,
     window: impl FnOnce(usize) -> u32,
     n: usize,
     limit: usize,
 ) -> Result<(), Refusal> {
-    check_processes(n)?;
-    if limit < window(n) as usize || limit > MAX_ROUNDS {
+    check_processes(most, n)?;
+    if limit < window(n) as usize || limit > most.rounds {
         return Err(Refusal::Limit);
     }
     Ok(())
 }
 
 impl Session {
-    /// Opens a session. (01, order: 1, 2.)
+    /// Opens a session, which does not keep its caller: every other operation takes it
+    /// as it is. (01, order: 1, 2; 02, wish 9.)
     #[inline]
-    pub fn open(n: usize, limit: usize) -> Result<Session, Refusal> {
-        check_opening(window, n, limit)?;
+    pub fn open(caller: Caller, n: usize, limit: usize) -> Result<Session, Refusal> {
+        check_opening(caller.limits(), window, n, limit)?;
         Ok(Session::blank(n, limit as u32))
     }
 
     /// Opens a session at a window, which the session does not keep: each operation is
-    /// told it again. (02, wish 7; order: 1, 2.)
+    /// told it again. (02, wish 7; order: 1, 2, with the server's limits.)
     #[inline]
     pub fn open_at(window: u32, n: usize, limit: usize) -> Result<Session, Refusal> {
-        check_opening(|_| window, n, limit)?;
+        check_opening(Caller::Server.limits(), |_| window, n, limit)?;
         Ok(Session::blank(n, limit as u32))
     }
 

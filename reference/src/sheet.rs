@@ -1,7 +1,7 @@
 //! Sheets in bytes. (01, "Turn sheets".)
 
 use crate::refusal::Refusal;
-use crate::session::{check_opening, window, Session};
+use crate::session::{check_opening, window, Caller, Limits, Session};
 
 /// The most bytes of a sheet. (01, "Numbers returned", 10.)
 pub const MAX_BYTES: usize = 65_535;
@@ -70,15 +70,17 @@ pub struct Sheet<'a> {
 
 impl<'a> Sheet<'a> {
     /// Reads a sheet's bytes. (01, order: 10, 1, 2, 11 over all pairs, 12 over all
-    /// runs.)
-    pub fn read(bytes: &'a [u8]) -> Result<Sheet<'a>, Refusal> {
-        Sheet::read_by(window, bytes)
+    /// runs; 02, wish 9.)
+    #[inline]
+    pub fn read(caller: Caller, bytes: &'a [u8]) -> Result<Sheet<'a>, Refusal> {
+        Sheet::read_by(caller.limits(), window, bytes)
     }
 
     /// The same, 2 being tested with the window that `window` gives for n. (02, wish
     /// 7.)
     #[inline]
     pub(crate) fn read_by(
+        most: Limits,
         window: impl FnOnce(usize) -> u32,
         bytes: &'a [u8],
     ) -> Result<Sheet<'a>, Refusal> {
@@ -93,7 +95,7 @@ impl<'a> Sheet<'a> {
         };
         let n = usize::from(n);
         let limit = usize::from(u16::from_le_bytes([limit_low, limit_high]));
-        check_opening(window, n, limit)?;
+        check_opening(most, window, n, limit)?;
         let sheet = Sheet {
             bytes,
             pairs,

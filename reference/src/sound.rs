@@ -4,7 +4,7 @@
 use crate::board::Registers;
 use crate::phase::{Phase, Process};
 use crate::refusal::Refusal;
-use crate::session::{check_opening, window, Session};
+use crate::session::{check_opening, window, Caller, Session};
 
 impl Session {
     /// 01, "Numbers returned", 3.
@@ -30,7 +30,7 @@ impl Session {
     /// With the window that `window` gives for an n of 1 to 64.
     #[inline]
     fn is_sound_by(&self, window: impl Fn(usize) -> u32) -> bool {
-        if check_opening(&window, self.n, self.limit as usize).is_err() {
+        if !sound_size(&window, self.n, self.limit as usize) {
             return false;
         }
         let (limit, window) = (self.limit, window(self.n));
@@ -39,6 +39,13 @@ impl Session {
             && seated.iter().all(|process| record(process, limit, window))
             && rest.iter().all(|process| *process == Process::IDLE)
     }
+}
+
+/// Whether an opening of that size is accepted, whoever made it. (02, wish 9:
+/// "soundness, 3, stays with the server's".)
+#[inline]
+pub(crate) fn sound_size(window: impl FnOnce(usize) -> u32, n: usize, limit: usize) -> bool {
+    check_opening(Caller::Server.limits(), window, n, limit).is_ok()
 }
 
 /// Sound, or 3.

@@ -1,6 +1,7 @@
-//! The paper cases of document 01, each number that it and 02 return, polls, and the
-//! window as a parameter.
+//! The paper cases of document 01, each number that it and 02 return, polls, the window
+//! as a parameter, and both callers.
 
+mod callers;
 mod operations;
 mod paper;
 mod polls;
@@ -10,7 +11,7 @@ mod soundness;
 mod windows;
 mod writer;
 
-use crate::{Counts, Operation, Process, Refusal, Session};
+use crate::{Caller, Counts, Operation, Process, Refusal, Session};
 
 /// A session and its counts, with operations that must be accepted.
 struct Case {
@@ -21,7 +22,7 @@ struct Case {
 impl Case {
     fn open(n: usize, limit: usize) -> Case {
         Case {
-            session: Session::open(n, limit).expect("an opening within bounds"),
+            session: Session::open(Caller::Server, n, limit).expect("an opening within bounds"),
             counts: Counts::default(),
         }
     }
@@ -108,6 +109,10 @@ fn header(n: u8, limit: u16, pairs: &[(u16, u16)]) -> Vec<u8> {
 }
 
 const YES: u32 = 1;
+
+/// The bytes that name a caller in the bytes of a poll.
+const SERVER: u8 = 0;
+const CARTS: [u8; 4] = [1, 2, 128, 255];
 
 /// One seat alone: its proposal, so many turns with hint yes, and a look.
 fn alone_sheet(limit: u16, turns: usize) -> Vec<u8> {

@@ -37,7 +37,7 @@ use std::fmt::Write;
 use crate::board::{Access, Counts};
 use crate::phase::{Phase, Process};
 use crate::refusal::Refusal;
-use crate::session::{window, Session};
+use crate::session::{window, Caller, Session};
 use crate::sheet::{Operation, Sheet};
 
 /// The trace of a sheet, each line ended by a line feed.
@@ -53,7 +53,7 @@ pub fn trace_at(window: u32, bytes: &[u8]) -> String {
 
 /// The trace with the window that `window` gives for n.
 fn trace_by(window: impl Fn(usize) -> u32, bytes: &[u8]) -> String {
-    let sheet = match Sheet::read_by(&window, bytes) {
+    let sheet = match Sheet::read_by(Caller::Server.limits(), &window, bytes) {
         Ok(sheet) => sheet,
         Err(refusal) => return format!("sheet refused {}\n", refusal.code()),
     };

@@ -1,21 +1,23 @@
 //! The writer of sheets. (02, wish 3.)
 
 use crate::refusal::Refusal;
-use crate::session::{check_opening, window};
+use crate::session::{check_opening, window, Caller};
 use crate::sheet::{ENTRY, HEADER, MAX_BYTES, MAX_PAIRS, PAIR};
 
 /// Writes the sheet of n, L and these entries to the first bytes of the output,
 /// cut into runs of so many entries each, and returns its size. The first run
 /// starts right behind the pairs, and the others follow without gaps. Refused, it
-/// writes nothing. (02, wish 3, order: 1, 2, 12 for the entry buffer, 17, 13, 15.)
+/// writes nothing. (02, wish 3, order: 1, 2, 12 for the entry buffer, 17, 13, 15; wish
+/// 9.)
 pub fn write(
+    caller: Caller,
     n: usize,
     limit: usize,
     entries: &[u8],
     runs: &[usize],
     output: &mut [u8],
 ) -> Result<usize, Refusal> {
-    check_opening(window, n, limit)?;
+    check_opening(caller.limits(), window, n, limit)?;
     if entries.len() % ENTRY != 0 {
         return Err(Refusal::RunLength);
     }

@@ -7,7 +7,11 @@ use crate::{entry, report, window, Phase};
 
 #[test]
 fn openings() {
-    let refused = |n, limit| Session::open(n, limit).err().map(Refusal::code);
+    let refused = |n, limit| {
+        Session::open(Caller::Server, n, limit)
+            .err()
+            .map(Refusal::code)
+    };
     assert_eq!(refused(0, 2), Some(1));
     assert_eq!(refused(65, 256), Some(1));
     assert_eq!(refused(64, 15), Some(2));
@@ -20,7 +24,11 @@ fn openings() {
 
 #[test]
 fn opening_one_before_two() {
-    let refused = |n, limit| Session::open(n, limit).err().map(Refusal::code);
+    let refused = |n, limit| {
+        Session::open(Caller::Server, n, limit)
+            .err()
+            .map(Refusal::code)
+    };
     assert_eq!(refused(0, 0), Some(1));
     assert_eq!(refused(65, 257), Some(1));
     assert_eq!(refused(usize::MAX, usize::MAX), Some(1));
@@ -42,8 +50,8 @@ fn every_window_is_the_smallest() {
     for n in 1..=64 {
         let w = window(n) as usize;
         assert!(w * w >= 4 * n && (w - 1) * (w - 1) < 4 * n, "n = {n}");
-        assert!(Session::open(n, w).is_ok());
-        assert_eq!(Session::open(n, w - 1), Err(Refusal::Limit));
+        assert!(Session::open(Caller::Server, n, w).is_ok());
+        assert_eq!(Session::open(Caller::Server, n, w - 1), Err(Refusal::Limit));
     }
 }
 
@@ -54,7 +62,10 @@ fn the_least_limit_falls_for_every_n() {
         let before = 2 * root + 1;
         assert!((window(n) as usize) < before, "n = {n}");
         for limit in window(n) as usize..=before {
-            assert!(Session::open(n, limit).is_ok(), "n = {n}, L = {limit}");
+            assert!(
+                Session::open(Caller::Server, n, limit).is_ok(),
+                "n = {n}, L = {limit}"
+            );
         }
     }
 }

@@ -14,7 +14,7 @@ struct Round {
 impl Round {
     /// The first seats propose these values.
     fn open(n: usize, values: &[u32]) -> Round {
-        let mut poll = Poll::open(n).expect("an opening within bounds");
+        let mut poll = Poll::open(Caller::Server, n).expect("an opening within bounds");
         for (process, value) in values.iter().enumerate() {
             assert_eq!(poll.propose(process, *value), Ok(()));
         }
@@ -83,13 +83,16 @@ fn late_writer() -> Round {
 #[test]
 fn openings() {
     for n in [0, 65, 66, 257, 65_537, usize::MAX] {
-        assert_eq!(Poll::open(n).err(), Some(Refusal::Processes));
+        assert_eq!(
+            Poll::open(Caller::Server, n).err(),
+            Some(Refusal::Processes)
+        );
     }
     for n in 1..=64 {
-        let poll = Poll::open(n).expect("an opening within bounds");
+        let poll = Poll::open(Caller::Server, n).expect("an opening within bounds");
         assert_eq!(poll.limit, window(n));
         assert!(poll.is_sound());
-        let session = Session::open(n, window(n) as usize);
+        let session = Session::open(Caller::Server, n, window(n) as usize);
         assert_eq!(poll.session(), session);
     }
 }
@@ -359,8 +362,8 @@ fn text_of_two_polls() {
     let mut calls = vec![raw(0, 0, 7), raw(0, 1, 8), raw(1, 1, 99), raw(3, 0, 0)];
     calls.extend([raw(1, 0, 0); 19]);
     calls.extend([raw(255, 1, 0), raw(2, 1, 5), raw(1, 1, 0), raw(0, 9, 1)]);
-    let refused = poll_bytes(65, &[raw(0, 0, 7)]);
-    let text = polls(&[poll_bytes(2, &calls), refused].concat());
+    let refused = poll_bytes(SERVER, 65, &[raw(0, 0, 7)]);
+    let text = polls(&[poll_bytes(SERVER, 2, &calls), refused].concat());
     let lines: Vec<&str> = text.lines().collect();
     let first = "poll 2 0, propose 0 7 0, propose 1 8 0, turn 1 0 none, session 0 0";
     assert_eq!(lines[..5].join(", "), first);
@@ -382,7 +385,7 @@ fn text_of_marked_rounds_and_adopted_seats() {
     let mut calls = vec![raw(0, 0, 7), raw(0, 1, 8), raw(1, 1, 0)];
     calls.extend([raw(1, 0, 0); 19]);
     calls.extend([raw(1, 1, 0); 14]);
-    let text = polls(&poll_bytes(2, &calls));
+    let text = polls(&poll_bytes(SERVER, 2, &calls));
     for line in ["turn 1 0 adopted 7", "round 1 8 marked", "seat 1 adopted 7"] {
         assert!(text.contains(&format!("\n{line}\n")), "{line}\n{text}");
     }
@@ -390,18 +393,19 @@ fn text_of_marked_rounds_and_adopted_seats() {
 
 #[test]
 fn bytes_that_end_early() {
-    let bytes = poll_bytes(1, &[raw(0, 0, 7), raw(1, 0, 0)]);
+    let bytes = poll_bytes(SERVER, 1, &[raw(0, 0, 7), raw(1, 0, 0)]);
     let end = "tally 0 0 0\nround 1 0 unmarked\nround 2 0 unmarked\n";
-    for length in 9..15 {
+    for length in 10..16 {
         let text = format!("poll 1 0\npropose 0 7 0\n{end}seat 0 working 0 7\n");
         assert_eq!(polls(&bytes[..length]), text);
     }
-    for length in 1..9 {
+    for length in 2..10 {
         assert_eq!(
             polls(&bytes[..length]),
             format!("poll 1 0\n{end}seat 0 out\n")
         );
     }
+    assert_eq!(polls(&[SERVER]), "poll 0 1\n");
     assert_eq!(polls(&[]), "");
 }
 

@@ -132,7 +132,9 @@ fn a_sheet_gives_what_its_entries_give() {
     for seed in 1000..1100 {
         let (case, accepted, _) = random_list(seed, 500);
         let bytes = sheet(case.session.n as u8, case.session.limit as u16, &accepted);
-        let sheet = Sheet::read(&bytes).ok().expect("a sheet in order");
+        let sheet = Sheet::read(Caller::Server, &bytes)
+            .ok()
+            .expect("a sheet in order");
         let (mut session, mut counts) = (sheet.open(), Counts::default());
         let ending = run(&sheet, u64::MAX, &mut session, &mut counts);
         assert_eq!(ending, Ending::Finished(accepted.len() as u64));

@@ -177,7 +177,9 @@ fn runs_are_read_in_order_past_ignored_bytes() {
     bytes.extend(raw(3, 1, 0));
     bytes.extend(raw(0, 0, 258));
     bytes.push(200);
-    let sheet = Sheet::read(&bytes).ok().expect("a sheet in order");
+    let sheet = Sheet::read(Caller::Server, &bytes)
+        .ok()
+        .expect("a sheet in order");
     let (mut session, mut counts) = (sheet.open(), Counts::default());
     let ending = run(&sheet, 99, &mut session, &mut counts);
     assert_eq!(ending, Ending::Finished(3));

@@ -5,7 +5,7 @@ use crate::{window, Phase};
 
 /// A session of two seats, window 3, limit 10; seat 0 at gate in round 6.
 fn sample() -> Session {
-    let mut session = Session::open(2, 10).expect("an opening within bounds");
+    let mut session = Session::open(Caller::Server, 2, 10).expect("an opening within bounds");
     session.propose(0, 7).expect("a first proposal");
     session.processes[0].round = 6;
     assert!(session.is_sound());
@@ -61,7 +61,7 @@ fn sizes() {
 #[test]
 fn limits_at_the_window_of_every_n() {
     for n in 1..=64 {
-        let mut session = Session::open(n, 256).expect("an opening within bounds");
+        let mut session = Session::open(Caller::Server, n, 256).expect("an opening within bounds");
         session.limit = window(n);
         assert!(session.is_sound(), "n = {n}");
         session.limit = window(n) - 1;

@@ -10,7 +10,7 @@ fn refused<T>(answer: Result<T, Refusal>) -> Option<u32> {
 #[test]
 fn openings() {
     let at = |window, n, limit| refused(Session::open_at(window, n, limit));
-    assert_eq!(refused(Session::open(3, 3)), Some(2));
+    assert_eq!(refused(Session::open(Caller::Server, 3, 3)), Some(2));
     assert_eq!(at(2, 3, 3), None);
     assert_eq!(at(2, 3, 2), None);
     assert_eq!(at(2, 3, 1), Some(2));
@@ -29,9 +29,9 @@ fn openings_in_service_are_at_its_window() {
     for n in 1..=64 {
         for limit in [0, 1, 2, 3, 4, 5, 6, 15, 16, 17, 256, 257] {
             let at = Session::open_at(window(n), n, limit);
-            assert_eq!(Session::open(n, limit), at);
+            assert_eq!(Session::open(Caller::Server, n, limit), at);
         }
-        assert_eq!(Poll::open(n), Poll::open_at(window(n), n));
+        assert_eq!(Poll::open(Caller::Server, n), Poll::open_at(window(n), n));
     }
 }
 

@@ -15,7 +15,7 @@ fn answer(
     length: usize,
 ) -> (Result<usize, u32>, Vec<u8>) {
     let mut output = vec![OLD; length];
-    let answer = write(n, limit, entries, runs, &mut output);
+    let answer = write(Caller::Server, n, limit, entries, runs, &mut output);
     (answer.map_err(Refusal::code), output)
 }
 
@@ -63,7 +63,7 @@ fn written((n, limit): (usize, usize), entries: &[u8], runs: &[usize]) -> Vec<u8
 
 /// What the reader finds: n, L, the entries and the run lengths.
 fn read(bytes: &[u8]) -> (usize, usize, Vec<u8>, Vec<usize>) {
-    let sheet = Sheet::read(bytes).expect("a sheet in order");
+    let sheet = Sheet::read(Caller::Server, bytes).expect("a sheet in order");
     let session = sheet.open();
     let runs = sheet.runs().map(|run| run.len() / 6).collect();
     let entries = sheet.runs().flatten().copied().collect();
