@@ -5,7 +5,7 @@ ghost use Rattle.model.specs.declared.Caller.the-variants.{Server};
 ghost use Rattle.model.specs.Runner.{run as runOf};
 ghost use Rattle.model.specs.Export.{exportCode, exportBuffer};
 ghost use Rattle.model_report.specs.ReportExport.{reportCode, reportBuffer};
-ghost use Rattle.model_write.specs.WriteExport.{writeExport};
+ghost use Rattle.model_write.specs.WriteExport.{exportOf, writeExport};
 use model::Caller;
 use model::Ending;
 use model::Ran;
@@ -61,9 +61,7 @@ pub extern "C" fn janus_write(
     sheet: &mut [u8],
     size: &mut usize,
 ) -> u32
-    ensures code { λ r. ⌜ r ≡ writeExport Server n limit (now (entries .entry)) (now (lengths .entry)) (now (sheet .entry)) (now (size .entry)) .code ⌝ }
-    ensures writes { λ _. ⌜ now (sheet .exit) ≡ writeExport Server n limit (now (entries .entry)) (now (lengths .entry)) (now (sheet .entry)) (now (size .entry)) .buffer ⌝ }
-    ensures size { λ _. ⌜ now (size .exit) ≡ writeExport Server n limit (now (entries .entry)) (now (lengths .entry)) (now (sheet .entry)) (now (size .entry)) .size ⌝ }
+    ensures { λ r. ⌜ exportOf r (now (sheet .exit)) (now (size .exit)) ≡ writeExport Server n limit (now (entries .entry)) (now (lengths .entry)) (now (sheet .entry)) (now (size .entry)) ⌝ }
 {
     janus_written::write(Caller::Server, n, limit, entries, lengths, sheet, size)
 }

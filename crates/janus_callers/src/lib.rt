@@ -6,7 +6,7 @@ ghost use Rattle.model.specs.Runner.{run as runOf};
 ghost use Rattle.model_poll.specs.Machine.{pollOpening};
 ghost use Rattle.model_report.specs.Report.{reportOf};
 ghost use Rattle.model_report.specs.ReportExport.{textCode, textBuffer};
-ghost use Rattle.model_write.specs.WriteExport.{writeExport};
+ghost use Rattle.model_write.specs.WriteExport.{exportOf, writeExport};
 ghost use Rattle.part_caller.specs.Named.{callerOf};
 use part_caller::caller_of;
 
@@ -46,9 +46,7 @@ pub extern "C" fn caller_write(
     sheet: &mut [u8],
     size: &mut usize,
 ) -> u32
-    ensures code { λ r. ⌜ r ≡ writeExport (callerOf caller) n limit (now (entries .entry)) (now (lengths .entry)) (now (sheet .entry)) (now (size .entry)) .code ⌝ }
-    ensures writes { λ _. ⌜ now (sheet .exit) ≡ writeExport (callerOf caller) n limit (now (entries .entry)) (now (lengths .entry)) (now (sheet .entry)) (now (size .entry)) .buffer ⌝ }
-    ensures size { λ _. ⌜ now (size .exit) ≡ writeExport (callerOf caller) n limit (now (entries .entry)) (now (lengths .entry)) (now (sheet .entry)) (now (size .entry)) .size ⌝ }
+    ensures { λ r. ⌜ exportOf r (now (sheet .exit)) (now (size .exit)) ≡ writeExport (callerOf caller) n limit (now (entries .entry)) (now (lengths .entry)) (now (sheet .entry)) (now (size .entry)) ⌝ }
 {
     janus_written::write(caller_of(caller), n, limit, entries, lengths, sheet, size)
 }

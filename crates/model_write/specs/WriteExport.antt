@@ -14,6 +14,9 @@ pub record WriteExport : Type 0 where
   pub buffer : List ℕ
   pub size : ℕ
 
+abbrev pub exportOf : (code : ℕ) (buffer : List ℕ) (size : ℕ) → WriteExport
+exportOf code buffer size = record { code = code; buffer = buffer; size = size }
+
 -- The size where the call was accepted, else the number as it was.
 abbrev pub sizeLeft : CountAnswer → (size : ℕ) → ℕ
 sizeLeft a before = cond (eqb (a .code) 0) (a .count) before
@@ -22,4 +25,4 @@ sizeLeft a before = cond (eqb (a .code) 0) (a .count) before
 unfoldable pub writeExport : Caller → (n L : ℕ) (entries lengths output : List ℕ) (size : ℕ) → WriteExport
 writeExport caller n L es ms out size =
     let w = written (limitsOf caller) n L es ms out in
-    record { code = w .answer .code; buffer = w .buffer; size = sizeLeft (w .answer) size }
+    exportOf (w .answer .code) (w .buffer) (sizeLeft (w .answer) size)

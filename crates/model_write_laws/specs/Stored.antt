@@ -6,7 +6,7 @@ use Rattle.model.specs.Bytes.{bytes16}
 use Rattle.model.specs.declared.CountAnswer.{CountAnswer}
 use Rattle.model.specs.Board.{limitsOf}
 use Rattle.model_write.specs.Write.{laidOut, pairBytes, sheetOf, writeRefusal, Written, wrote, written}
-use Rattle.model_write.specs.WriteExport.{sizeLeft, writeExport}
+use Rattle.model_write.specs.WriteExport.{exportOf, sizeLeft, writeExport}
 use Rattle.model_write_laws.specs.Sizes.{length-laidOut, length-pairBytes}
 
 module _ (n L : ℕ) (es ms out : List ℕ) where
@@ -41,8 +41,6 @@ module _ (most : Limits) (n L : ℕ) (es ms out : List ℕ) where
 -- What C gets of a call within a caller's limits.
 pub exported : (caller : Caller) (n L : ℕ) (es ms out : List ℕ) (before : ℕ) {a : CountAnswer} {after : List ℕ} {size : ℕ}
     → wrote a after ≡ written (limitsOf caller) n L es ms out → size ≡ sizeLeft a before
-    → let x = writeExport caller n L es ms out before in
-    (a .code ≡ x .code) × ((after ≡ x .buffer) × (size ≡ x .size))
+    → exportOf (a .code) after size ≡ writeExport caller n L es ms out before
 unfolding writeExport
-exported caller n L es ms out before e s =
-    (ap (λ (w : Written). w .answer .code) e, (ap (λ (w : Written). w .buffer) e, s ∙ ap (λ (w : Written). sizeLeft (w .answer) before) e))
+exported caller n L es ms out before e s = rw s (ap (λ (w : Written). exportOf (w .answer .code) (w .buffer) (sizeLeft (w .answer) before)) e)
