@@ -57,6 +57,12 @@ def body(crate, function):
     return found[0] if found else None
 
 
+def calls(text, crate, function):
+    """Whether the text calls that function: by its name alone, or behind its crate or a module of it, and not another crate's."""
+    named = re.findall(rf"(?:\b(\w+)::)?\b{function}\(", text)
+    return any(name == crate or name not in crates() for name in named)
+
+
 def way(block, faults):
     """Each line of the block is a function that the one above it calls."""
     above = []
@@ -66,7 +72,7 @@ def way(block, faults):
         text = body(crate, function)
         if text is None:
             faults.append(f"{word} is no function")
-        elif depth and not re.search(rf"\b{function}\(", above[depth - 1] or ""):
+        elif depth and not calls(above[depth - 1] or "", crate, function):
             faults.append(f"{word} is not called where the page says")
         above[depth:] = [text]
 
