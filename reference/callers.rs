@@ -21,6 +21,8 @@ use janus_reference::{report_of, write, Caller, Poll, Refusal, Session};
 const CALLERS: [u8; 4] = [SERVER, 1, 2, 255];
 
 const HIGHEST: usize = 300;
+/// What the size is before a call, and after a refused one.
+const UNTOLD: usize = 77;
 const HUGE: [usize; 13] = [
     256 + 64,
     512 + 5,
@@ -51,7 +53,7 @@ fn code<T>(answer: Result<T, Refusal>) -> u32 {
 }
 
 /// The numbers of the two sides must be equal.
-fn same(what: impl Display, found: u32, wanted: u32) -> Result<(), String> {
+fn same<T: PartialEq + Display>(what: impl Display, found: T, wanted: T) -> Result<(), String> {
     if found == wanted {
         return Ok(());
     }
@@ -93,10 +95,10 @@ fn headers(byte: u8, caller: Caller) -> Result<usize, String> {
     Ok(headers().count())
 }
 
-/// The header alone is written.
+/// The header alone is written, and its size told.
 fn written(byte: u8, caller: Caller) -> Result<usize, String> {
     for (n, limit) in both() {
-        let (mut theirs, mut ours, mut size) = ([byte; 4], [byte; 4], 0);
+        let (mut theirs, mut ours, mut size) = ([byte; 4], [byte; 4], UNTOLD);
         let found = library::write_as(byte, (n, limit), &[], &[], &mut theirs, &mut size);
         let wanted = code(write(caller, n, limit, &[], &[], &mut ours));
         same(format_args!("writing, n {n}, L {limit}"), found, wanted)?;
@@ -105,6 +107,8 @@ fn written(byte: u8, caller: Caller) -> Result<usize, String> {
                 "writing, n {n}, L {limit}: library {theirs:?}, reference {ours:?}"
             ));
         }
+        let told = if wanted == 0 { ours.len() } else { UNTOLD };
+        same(format_args!("size, n {n}, L {limit}"), size, told)?;
     }
     Ok(both().count())
 }

@@ -51,7 +51,7 @@ endingBuffer (Refused k i) qs b = decidedBytes qs
 endingBuffer BudgetEnded qs b = decidedBytes qs
 endingBuffer (Rejected k) qs b = b
 
--- "A buffer of exactly 256 bytes .. 15 is tested first." 02, wish 9: "The C entry and the report use the server's."
+-- "A buffer of exactly 256 bytes .. 15 is tested first." 02, wish 9: "the C entry and the report use the server's" limits.
 unfoldable pub exportCode : (sheet : List ℕ) (budget : ℕ) (buffer : List ℕ) → ℕ
 exportCode s budget b = cond (eqb (length b) 256) (endingCode (run Server s budget .ending)) 15
 

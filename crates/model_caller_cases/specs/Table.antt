@@ -54,7 +54,7 @@ table =
     ∷ record { call = opens 64 257; server = 2; cart = 1 }
     ∷ record { call = opens 65 256; server = 1; cart = 1 }
     ∷ record { call = opens 1 257; server = 2; cart = 2 }
-    -- polls: "1 above 16" for the cart, above 64 for the server
+    -- polls: 1 above 16 for the cart, above 64 for the server
     ∷ record { call = opensPoll 0; server = 1; cart = 1 }
     ∷ record { call = opensPoll 16; server = 0; cart = 0 }
     ∷ record { call = opensPoll 17; server = 0; cart = 1 }
@@ -64,21 +64,28 @@ table =
     ∷ record { call = reads (16 ∷ 0 ∷ 64 ∷ 0 ∷ []); server = 0; cart = 0 }
     ∷ record { call = reads (17 ∷ 0 ∷ 64 ∷ 0 ∷ []); server = 0; cart = 1 }
     ∷ record { call = reads (16 ∷ 0 ∷ 65 ∷ 0 ∷ []); server = 0; cart = 2 }
-    -- in the sheet's own order, "10, 1, 2, 11, 12": 17 pairs; 1 before 2; a pair that begins in the header, behind 1 and behind 2; a run of one byte
+    -- in the sheet's own order, "Sheet 10, 1, 2, 11 over all pairs, 12 over all runs": 17 pairs; 1 before 2; a pair that begins in the header, behind 1
+    -- and behind 2; a run of one byte, likewise
     ∷ record { call = reads (17 ∷ 17 ∷ 65 ∷ 0 ∷ []); server = 10; cart = 10 }
     ∷ record { call = reads (17 ∷ 0 ∷ 65 ∷ 0 ∷ []); server = 0; cart = 1 }
     ∷ record { call = reads (17 ∷ 1 ∷ 64 ∷ 0 ∷ 0 ∷ 0 ∷ 0 ∷ 0 ∷ []); server = 11; cart = 1 }
     ∷ record { call = reads (16 ∷ 1 ∷ 65 ∷ 0 ∷ 0 ∷ 0 ∷ 0 ∷ 0 ∷ []); server = 11; cart = 2 }
+    ∷ record { call = reads (17 ∷ 1 ∷ 64 ∷ 0 ∷ 8 ∷ 0 ∷ 1 ∷ 0 ∷ 0 ∷ []); server = 12; cart = 1 }
     ∷ record { call = reads (16 ∷ 1 ∷ 65 ∷ 0 ∷ 8 ∷ 0 ∷ 1 ∷ 0 ∷ 0 ∷ []); server = 12; cart = 2 }
     -- the writer, with no entries, likewise: an output of four bytes is long enough, and one of three is not
     ∷ record { call = writes 16 64 [] [] 4; server = 0; cart = 0 }
     ∷ record { call = writes 17 64 [] [] 4; server = 0; cart = 1 }
     ∷ record { call = writes 16 65 [] [] 4; server = 0; cart = 2 }
     ∷ record { call = writes 17 65 [] [] 4; server = 0; cart = 1 }
-    -- in its order, "1, 2, 12 for the entry buffer, 17, 13, then 15": a buffer of one byte; a run of one entry that is not there; an output too short
+    -- in its order, "1, 2, 12 for the entry buffer, 17, 13, then 15 if the output is too short", each behind 1 and behind 2: a buffer of one byte; a run of
+    -- one entry that is not there; an entry of an unknown kind; an output too short
     ∷ record { call = writes 17 64 (0 ∷ []) [] 4; server = 12; cart = 1 }
     ∷ record { call = writes 16 65 (0 ∷ []) [] 4; server = 12; cart = 2 }
+    ∷ record { call = writes 17 64 [] (1 ∷ []) 8; server = 17; cart = 1 }
     ∷ record { call = writes 16 65 [] (1 ∷ []) 8; server = 17; cart = 2 }
+    ∷ record { call = writes 17 64 (9 ∷ 0 ∷ 0 ∷ 0 ∷ 0 ∷ 0 ∷ []) (1 ∷ []) 14; server = 13; cart = 1 }
+    ∷ record { call = writes 16 65 (9 ∷ 0 ∷ 0 ∷ 0 ∷ 0 ∷ 0 ∷ []) (1 ∷ []) 14; server = 13; cart = 2 }
+    ∷ record { call = writes 17 64 [] [] 3; server = 15; cart = 1 }
     ∷ record { call = writes 16 65 [] [] 3; server = 15; cart = 2 }
     ∷ record { call = writes 16 64 [] [] 3; server = 15; cart = 15 }
     ∷ []

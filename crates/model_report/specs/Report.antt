@@ -102,6 +102,6 @@ moreLines (Rejected k) s c = []
 abbrev pub reportOf : Ran → List ℕ
 reportOf r = outcomeLine (r .ending) (r .carried) ++ moreLines (r .ending) (r .session) (r .counts)
 
--- Of a sheet that is run. 02, wish 9: "The C entry and the report use the server's" limits.
+-- Of a sheet that is run. 02, wish 9: "the C entry and the report use the server's" limits.
 unfoldable pub report : (sheet : List ℕ) → List ℕ
 report s = reportOf (run Server s reportBudget)

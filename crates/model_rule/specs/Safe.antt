@@ -1,11 +1,17 @@
 -- How short may a window be? (Document 02, wish 7.)
 use Prim.Native.Nat.{ℕ, _+_, _*_, _-_, _/_, max, _≤_, _<_}
-use Rattle.model.specs.Board.{maxProcesses}
-use Rattle.model_rule.specs.Rule.{AgreementWith}
+use Rattle.model.specs.declared.Caller.the-variants.{Server}
+use Rattle.model.specs.declared.Limits.{Limits}
+use Rattle.model.specs.Board.{limitsOf, maxProcesses}
+use Rattle.model_rule.specs.Rule.{AgreementWithin, AgreementWith}
 
 -- Window W is safe for n processes: the agreement rule holds of every list of calls, whatever the round limit.
 abbrev pub Safe : (W n : ℕ) → Type 0
 Safe W n = (L : ℕ) → AgreementWith (λ m. W) n L
+
+-- The same within given limits (02, wish 9).
+abbrev pub SafeWithin : Limits → (W n : ℕ) → Type 0
+SafeWithin most W n = (L : ℕ) → AgreementWithin most (λ m. W) n L
 
 -- As many processes break window W, and no fewer: half of W, times the rest, and half of the rest, or 1 where that is 0.
 abbrev pub threshold : (W : ℕ) → ℕ
@@ -18,6 +24,7 @@ threshold W =
 abbrev pub BelowThreshold : Type 0
 BelowThreshold = (w : ℕ → ℕ) (n L : ℕ) → n < threshold (w n) → AgreementWith w n L
 
--- And the answer from both sides: a window from 2 on is safe for the numbers of processes below its threshold, and for no other that a session can have.
+-- And the answer from both sides: a window from 2 on is safe for the numbers of processes below its threshold, and for no other that a session can have:
+-- within the server's limits it is not.
 abbrev pub ExactWindows : Type 0
-ExactWindows = (W n : ℕ) → 2 ≤ W → n ≤ maxProcesses → (n < threshold W → Safe W n) × (threshold W ≤ n → Safe W n → ⊥)
+ExactWindows = (W n : ℕ) → 2 ≤ W → n ≤ maxProcesses → (n < threshold W → Safe W n) × (threshold W ≤ n → SafeWithin (limitsOf Server) W n → ⊥)

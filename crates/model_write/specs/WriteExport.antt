@@ -14,6 +14,7 @@ pub record WriteExport : Type 0 where
   pub buffer : List ℕ
   pub size : ℕ
 
+-- These three together, as a contract has them.
 abbrev pub exportOf : (code : ℕ) (buffer : List ℕ) (size : ℕ) → WriteExport
 exportOf code buffer size = record { code = code; buffer = buffer; size = size }
 

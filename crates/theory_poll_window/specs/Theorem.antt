@@ -12,7 +12,7 @@ use Rattle.model_poll.specs.declared.Answer.{Answer}
 use Rattle.model_poll.specs.declared.Answer.the-variants.{Pending, Commits, Adopts}
 use Rattle.model_poll.specs.Turn.{answerOf, Carries}
 use Rattle.model_poll.specs.Machine.{pollOpeningAt}
-use Rattle.model_poll_rule.specs.Safe.{PollSafe, ExactPollWindows}
+use Rattle.model_poll_rule.specs.Safe.{PollSafeWithin, ExactPollWindows}
 use Rattle.model_poll_laws.specs.Opening.{poll-opened}
 use Rattle.theory_window.specs.Construction.{from, atLast, withOne, withTwo}
 use Rattle.theory_window.specs.More.{sized}
@@ -38,9 +38,9 @@ unfolding pollOpeningAt
 opens W n some few low = opening-accepts (limitsOf Server) W n W some few (omega arith) low
 
 -- The list of a window from 2 to 15 breaks it, with as many processes as its threshold and with more.
-broken-unsafe : (W n : ℕ) → broken W ≡ true → threshold W ≤ n → n ≤ maxProcesses → PollSafe W n → ⊥
+broken-unsafe : (W n : ℕ) → broken W ≡ true → threshold W ≤ n → n ≤ maxProcesses → PollSafeWithin (limitsOf Server) W n → ⊥
 unfolding broken answersDiffer opened
-broken-unsafe W n t enough few safe =
+broken-unsafe W n t enough few =
     let e = threshold W in
     let os = operations W in
     let one = withOne W (atLast W) in
@@ -58,10 +58,9 @@ broken-unsafe W n t enough few safe =
     (subst (λ (s : Session). answerOf (processAt s one) ≡ Commits 1) same (committed-is 1 a (and-left (isCommitted 1 a) (isAdopted 2 b) differ)))
     (subst (λ (s : Session). Carries (answerOf (processAt s other)) 2) same (adopted-carries 2 b (and-right (isCommitted 1 a) (isAdopted 2 b) differ)))
     (λ z. omega arith)
-    (safe (limitsOf Server) (caller-limits Server))
 
 -- A window is not safe for polls of as many processes as its threshold, nor of more.
-pub poll-too-short : (W n : ℕ) → 2 ≤ W → threshold W ≤ n → n ≤ maxProcesses → PollSafe W n → ⊥
+pub poll-too-short : (W n : ℕ) → 2 ≤ W → threshold W ≤ n → n ≤ maxProcesses → PollSafeWithin (limitsOf Server) W n → ⊥
 poll-too-short W n least enough few safe =
     elim (decLe W 15) [
       | yes most ↦ broken-unsafe W n (every-from broken 2 14 W least (omega arith) all-broken) enough few safe

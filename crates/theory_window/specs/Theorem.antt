@@ -9,9 +9,8 @@ use Rattle.model.specs.Machine.{openingAt}
 use Rattle.model.specs.Sound.{every}
 use Rattle.model.specs.ReadOut.{holds}
 use Rattle.model_laws.specs.Operations.{opening-accepts, opening-accepted}
-use Rattle.model_laws.specs.Callers.{caller-limits}
 use Rattle.model_rule.specs.Event.{Event, DecidedOn}
-use Rattle.model_rule.specs.Safe.{Safe, threshold, ExactWindows}
+use Rattle.model_rule.specs.Safe.{SafeWithin, threshold, ExactWindows}
 use Rattle.model_rule_cases.specs.Play.{played, breaks-rule}
 use Rattle.model_rule_cases.specs.Breaks.{Row, pastOf, breaks, breaks-shows}
 use Rattle.theory_agreement.specs.Theorem.{below-threshold}
@@ -22,7 +21,7 @@ use Rattle.theory_window.specs.More.{sized, played-more}
 -- ---- a row, with more processes
 
 -- What breaks the rule with n processes breaks it with more.
-pub row-unsafe : (r : Row) → breaks r ≡ true → (n : ℕ) → r .n ≤ n → n ≤ maxProcesses → Safe (r .window) n → ⊥
+pub row-unsafe : (r : Row) → breaks r ≡ true → (n : ℕ) → r .n ≤ n → n ≤ maxProcesses → SafeWithin (limitsOf Server) (r .window) n → ⊥
 unfolding opened
 row-unsafe r t n more few safe =
     let W = r .window in
@@ -38,7 +37,7 @@ row-unsafe r t n more few safe =
     (rule .agreement (r .first .process) (r .second .process) (r .first .value) (r .second .value)
     (subst (DecidedOn (r .first .process) (r .first .value)) same (b .one))
     (subst (DecidedOn (r .second .process) (r .second .value)) same (b .other))))
-    (safe L (limitsOf Server) (caller-limits Server))
+    (safe L)
 
 -- ---- the windows from 2 to 15
 
@@ -62,7 +61,7 @@ high-threshold W high =
     omega arith
 
 -- A window is not safe for as many processes as its threshold, nor for more.
-pub too-short : (W n : ℕ) → 2 ≤ W → threshold W ≤ n → n ≤ maxProcesses → Safe W n → ⊥
+pub too-short : (W n : ℕ) → 2 ≤ W → threshold W ≤ n → n ≤ maxProcesses → SafeWithin (limitsOf Server) W n → ⊥
 unfolding broken
 too-short W n least enough few safe =
     elim (decLe W 15) [

@@ -7,7 +7,7 @@ use crate::{entry, poll_bytes, polls, report, report_of, window, write, Phase, P
 /// Each caller with its most seats and its most rounds.
 const CALLERS: [(Caller, usize, usize); 2] = [(Caller::Server, 64, 256), (Caller::Cart, 16, 64)];
 
-/// Sizes that a byte, 16 or 32 bits would cut to ones that are accepted.
+/// Sizes that a byte, 16 or 32 bits would cut to smaller ones.
 const HUGE: [usize; 6] = [
     256 + 5,
     (1 << 16) + 10,
