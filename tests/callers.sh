@@ -16,7 +16,7 @@ fail() {
 }
 
 # A wrong program: a copy of the separate one with a file that is edited by sed. It may leave a name unused.
-compile=(rustc --edition 2021 -A warnings -C opt-level=1)
+compile=(rustc --edition 2021 -A warnings -C opt-level=1 -C incremental="$out/incremental")
 uses=(--extern janus_reference="$out/libjanus_reference.rlib")
 edited() { # FILE EDIT
     rm -rf "$out/src"

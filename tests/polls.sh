@@ -41,8 +41,8 @@ edited() { # FILE EDIT
     cp -r reference/src "$out"
     sed -i "$2" "$out/src/$1"
     if cmp -s "reference/src/$1" "$out/src/$1"; then echo "polls: nothing to edit: $2" && exit 1; fi
-    rustc --edition 2021 --crate-type rlib --crate-name janus_reference "$out/src/lib.rs" -o "$out/libjanus_reference.rlib"
-    rustc --edition 2021 --crate-name polls --extern janus_reference="$out/libjanus_reference.rlib" reference/polls.rs -o "$out/polls"
+    rustc --edition 2021 -C incremental="$out/incremental" --crate-type rlib --crate-name janus_reference "$out/src/lib.rs" -o "$out/libjanus_reference.rlib"
+    rustc --edition 2021 -C incremental="$out/incremental" --crate-name polls --extern janus_reference="$out/libjanus_reference.rlib" reference/polls.rs -o "$out/polls"
 }
 wrong() { # WHAT FILE EDIT DIFFERENCE: beside the proved program it differs in those words
     edited "$2" "$3"
@@ -73,7 +73,7 @@ wrong "has soundness by the cart's seats" sound.rs 's/check_opening(Caller::Serv
 # On both sides, where nothing differs, the claims find it.
 untrue() { # WHAT EDIT CLAIM
     edited poll.rs "$2"
-    rustc --edition 2021 --crate-name reference --extern janus_reference="$out/libjanus_reference.rlib" reference/src/main.rs -o "$out/reference"
+    rustc --edition 2021 -C incremental="$out/incremental" --crate-name reference --extern janus_reference="$out/libjanus_reference.rlib" reference/src/main.rs -o "$out/reference"
     printf '#!/bin/sh\nexec ./reference polls\n' >"$out/beside"
     chmod +x "$out/beside"
     found "a program that $1, beside itself," "$3" ./polls ./beside

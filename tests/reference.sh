@@ -15,7 +15,7 @@ python3 tests/paper_lists.py
 out=target/tests/wrong
 mkdir -p "$out"
 harness() { # NAME WORDS..: the harness, compiled with the words, in target/tests/wrong; 200 cases must end in a difference
-    rustc --edition 2021 --crate-name "$1" "${@:2}" "reference/$1.rs" -o "$out/$1"
+    rustc --edition 2021 -C incremental="$out/incremental" --crate-name "$1" "${@:2}" "reference/$1.rs" -o "$out/$1"
     (cd "$out" && ! "./$1" 200 1 >differs.log)
 }
 differs() { # WORDS: the difference that was found must be told so
@@ -40,7 +40,7 @@ wrong() { # NAME FILE WHAT EDIT DIFFERENCE: the copy, its file edited by sed, di
     cp -r reference/src "$out"
     sed -i "$4" "$out/src/$2"
     if cmp -s "reference/src/$2" "$out/src/$2"; then echo "reference: nothing to edit: $4" && exit 1; fi
-    rustc --edition 2021 -C overflow-checks=off --crate-type rlib --crate-name janus_reference "$out/src/lib.rs" -o "$out/libjanus_reference.rlib"
+    rustc --edition 2021 -C incremental="$out/incremental" -C overflow-checks=off --crate-type rlib --crate-name janus_reference "$out/src/lib.rs" -o "$out/libjanus_reference.rlib"
     harness "$1" --extern janus_reference="$out/libjanus_reference.rlib" -L native=target/staticlib -l static=janus -l static=janus_callers
     differs ".*: $5"
     echo "$1: a program that $3 is found in 200 cases"

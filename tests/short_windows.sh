@@ -63,7 +63,7 @@ edit() { # FILE EDIT
 }
 found() { # WHAT WORDS PROGRAM MACHINE: the program with that machine must end with 1 and tell in those words what is wrong
     local said code=0
-    rustc --edition 2021 --crate-name short_windows --extern janus_reference="$4/libjanus_reference.rlib" "$3/short_windows.rs" -o "$out/short_windows"
+    rustc --edition 2021 -C incremental="$out/incremental" --crate-name short_windows --extern janus_reference="$4/libjanus_reference.rlib" "$3/short_windows.rs" -o "$out/short_windows"
     said=$("$out/short_windows") || code=$?
     said=$(tail -n 1 <<<"$said")
     [[ $code == 1 && $said =~ ^wrong:\ $2$ ]] || fail "$1 is not found, or in other words than '$2': $said"
@@ -93,7 +93,7 @@ wrong_machine() { # WHAT FILE EDIT WORDS
     rm -rf "$out/src"
     cp -r reference/src "$out"
     edit "src/$2" "$3"
-    rustc --edition 2021 --crate-type rlib --crate-name janus_reference "$out/src/lib.rs" -o "$out/libjanus_reference.rlib"
+    rustc --edition 2021 -C incremental="$out/incremental" --crate-type rlib --crate-name janus_reference "$out/src/lib.rs" -o "$out/libjanus_reference.rlib"
     found "a machine that $1" "$4" reference "$out"
 }
 wrong_machine "opens at the window in service" session.rs 's/|_| window, n, limit)?;/|n| self::window(n).max(window), n, limit)?;/' \
