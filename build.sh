@@ -2,10 +2,10 @@
 # Builds what is named, as far as something that it is made of has changed. One call waits for another.
 #
 # usage: ./build.sh PART..    archive       the library for C: target/staticlib/libjanus.a
-#                             window        the window's function by itself: target/staticlib/libuse_window.a
-#                             callers       what either caller gets (02, wish 9): target/staticlib/libjanus_callers.a
+#                             window        the window's function by itself: target/staticlib/libtest_window.a
+#                             callers       what either caller gets (02, wish 9): target/staticlib/libtest_callers.a
 #                             reference     the separately written program and what compares the two: target/reference/
-#                             use_report    a program of the crates: target/bin/use_report; likewise use_run, use_poll, use_bench
+#                             use_report    a program of the crates: target/bin/use_report; likewise test_run, test_poll, test_bench
 set -euo pipefail
 cd "$(dirname "$0")"
 mkdir -p target/built
@@ -33,15 +33,15 @@ proofs=(crates crates.txt "$(command -v rt)")
 for part; do
     case $part in
     archive) build archive rt staticlib janus -- "${proofs[@]}" ;;
-    window) build window rt staticlib use_window -- "${proofs[@]}" ;;
-    callers) build callers rt staticlib janus_callers -- "${proofs[@]}" ;;
+    window) build window rt staticlib test_window -- "${proofs[@]}" ;;
+    callers) build callers rt staticlib test_callers -- "${proofs[@]}" ;;
     reference)
-        archives=(target/staticlib/libjanus.a target/staticlib/libjanus_callers.a)
+        archives=(target/staticlib/libjanus.a target/staticlib/libtest_callers.a)
         build archive rt staticlib janus -- "${proofs[@]}"
-        build callers rt staticlib janus_callers -- "${proofs[@]}"
+        build callers rt staticlib test_callers -- "${proofs[@]}"
         build reference reference/build.sh "${archives[@]}" -- reference "${archives[@]}"
         ;;
-    use_*) build "$part" rt check "$part" -- "${proofs[@]}" ;;
+    use_* | test_*) build "$part" rt check "$part" -- "${proofs[@]}" ;;
     *)
         echo "build.sh: there is no part called '$part'" >&2
         exit 2

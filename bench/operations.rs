@@ -1,5 +1,5 @@
 //! One call of each public operation, on a session of 8 processes and 256 rounds. Each side is a process that reads which operation and how
-//! often (a byte and 32 bits, low byte first) and makes that many calls: crates/use_bench, and `answer` here, in the same loop. Both test
+//! often (a byte and 32 bits, low byte first) and makes that many calls: crates/test_bench, and `answer` here, in the same loop. Both test
 //! the session's soundness in each call. The proved operations take and return the session by value and are lent the counts; the separate
 //! ones change both in place.
 
@@ -58,7 +58,7 @@ fn call(operation: u8, session: &mut Session, place: usize, buffer: &mut [u32]) 
     0
 }
 
-/// The loop of crates/use_bench. A process that an operation changes is set back, so that each call is accepted.
+/// The loop of crates/test_bench. A process that an operation changes is set back, so that each call is accepted.
 fn called(operation: u8, count: u32) -> u32 {
     let mut session = proposed();
     let mut buffer = [0; 256];

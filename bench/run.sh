@@ -4,13 +4,13 @@
 # less those of one call, by the entries of ten.
 set -euo pipefail
 cd "$(dirname "$0")/.."
-./build.sh archive use_bench reference
+./build.sh archive test_bench reference
 out=target/bench
 mkdir -p "$out"
 rustc --edition 2021 -O -D warnings --crate-name bench --extern janus_reference=target/reference/libjanus_reference.rlib \
     -L native=target/staticlib -l static=janus bench/bench.rs -o "$out/bench"
 "$out/bench"
-"$out/bench" operations target/bin/use_bench
+"$out/bench" operations target/bin/test_bench
 command -v valgrind >/dev/null || exit 0
 
 instructions() { # the words of `bench count`

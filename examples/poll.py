@@ -1,5 +1,5 @@
 #!/usr/bin/env python3
-"""Makes the bytes that the program use_poll reads of a poll in words (document 02, wish 6).
+"""Makes the bytes that the program test_poll reads of a poll in words (document 02, wish 6).
 
 usage: poll.py [POLL [BYTES]]      standard input and standard output where left out, or where the name is -
 

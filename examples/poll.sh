@@ -3,7 +3,7 @@
 #
 # usage: examples/poll.sh [POLL]      examples/two_answers.poll where left out
 set -euo pipefail
-program=use_poll
+program=test_poll
 root=$(cd "$(dirname "$0")/.." && pwd)
 (($# <= 1)) || {
     echo "poll.sh: one poll at a time; this is too much: ${*:2}" >&2

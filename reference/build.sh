@@ -1,8 +1,8 @@
 #!/bin/sh
 # Builds the reference program, its unit tests, polls, which compares it with the
-# program use_poll, and short_windows, which breaks the agreement rule at windows
+# program test_poll, and short_windows, which breaks the agreement rule at windows
 # that are too short, into target/reference/ and runs the tests. With the paths of a
-# libjanus.a and a libjanus_callers.a it also builds the programs that compare those
+# libjanus.a and a libtest_callers.a it also builds the programs that compare those
 # with the reference: differential, writes and callers.
 #
 # usage: reference/build.sh [LIBRARY CALLERS]
@@ -32,7 +32,7 @@ build --test --crate-name tests reference/src/lib.rs -o "$out/tests"
 if [ -n "$library" ]; then
     for program in differential writes callers; do
         build --crate-name "$program" $uses \
-            -L native="$library" -l static=janus -L native="$callers" -l static=janus_callers \
+            -L native="$library" -l static=janus -L native="$callers" -l static=test_callers \
             "reference/$program.rs" -o "$out/$program"
     done
 fi

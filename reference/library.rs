@@ -1,5 +1,5 @@
 //! The C functions of the library under test, on slices: those of include/janus.h, which
-//! are the server's, and those of the archive janus_callers, which are told the caller, 0
+//! are the server's, and those of the archive test_callers, which are told the caller, 0
 //! the server and any other the cart. (02, wish 9.)
 
 // No program calls all of them.

@@ -1,4 +1,4 @@
-//! Runs random polls in close contention through use_poll, a program of the proved
+//! Runs random polls in close contention through test_poll, a program of the proved
 //! crates, and through the reference, and compares what they print, byte for byte.
 //! (02, wish 6.) The format is described in `src/polls.rs`. Polls are those of the server
 //! or of the bedside cart. (02, wish 9.)
@@ -925,7 +925,7 @@ fn ended(before: &Process) -> Event {
 const PATIENCE: Duration = Duration::from_secs(60);
 const SHRINKING: Duration = Duration::from_secs(20);
 
-/// A run of use_poll on one input.
+/// A run of test_poll on one input.
 struct Run {
     child: Child,
     output: Receiver<io::Result<Vec<u8>>>,

@@ -1,10 +1,10 @@
 #!/usr/bin/env bash
 # The two callers of 02, wish 9, the server and the bedside cart: openings of sessions and of polls, and headers that are read and written, at
 # and past the limits of either, of the proved library beside the separate program (reference/callers.rs). Then that wrong programs are found:
-# by that, and where soundness goes by the cart's limits by the program's own tests and beside use_run.
+# by that, and where soundness goes by the cart's limits by the program's own tests and beside test_run.
 set -euo pipefail
 cd "$(dirname "$0")/.."
-./build.sh reference use_run
+./build.sh reference test_run
 target/reference/callers
 
 out=target/tests/callers
@@ -34,7 +34,7 @@ found() { # WHAT WORDS COMMAND..: the command must fail and tell the words on a 
 }
 wrong() { # WHAT FILE EDIT DIFFERENCE: beside the library it differs in those words
     edited "$2" "$3"
-    "${compile[@]}" "${uses[@]}" --crate-name callers -L native=target/staticlib -l static=janus -l static=janus_callers reference/callers.rs -o "$out/callers"
+    "${compile[@]}" "${uses[@]}" --crate-name callers -L native=target/staticlib -l static=janus -l static=test_callers reference/callers.rs -o "$out/callers"
     found "$1" "difference: $4" "$out/callers"
 }
 wrong "with the cart's rounds on the server" session.rs 's/rounds: MAX_ROUNDS,/rounds: 64,/' 'server, opening, n 1, L 65: library 0, reference 2$'
@@ -58,7 +58,7 @@ unsound() { # WHAT LIMITS
     "${compile[@]}" --test --crate-name tests "$out/src/lib.rs" -o "$out/tests"
     found "with soundness by $1" 'test tests::callers::sessions_past_the_limits_of_the_cart_are_sound ... FAILED' "$out/tests" callers
     "${compile[@]}" "${uses[@]}" --crate-name reference "$out/src/main.rs" -o "$out/reference"
-    found "with soundness by $1" 'run: random sheet .*, caller 0, .* and the separate program has .*\\n3 0' python3 tests/run.py target/bin/use_run "$out/reference"
+    found "with soundness by $1" 'run: random sheet .*, caller 0, .* and the separate program has .*\\n3 0' python3 tests/run.py target/bin/test_run "$out/reference"
 }
 unsound "the cart's seats" 'processes: 16'
 unsound "the cart's rounds" 'rounds: 64'

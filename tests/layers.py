@@ -17,7 +17,7 @@ PAGE = ROOT / "docs" / "LAYERS.md"
 README = ROOT / "README.md"
 KIT = {"io", "libc", "os", "bytes", "check"}
 # From the lowest up.
-LAYERS = ["base", "model", "part", "session", "poll", "sheet", "use", "janus", "theory"]
+LAYERS = ["base", "model", "part", "session", "poll", "sheet", "use", "janus", "test", "theory"]
 DRAWING = re.compile(r"(<!-- layers -->\n).*?(<!-- end -->)", re.S)
 WAY = re.compile(r"<!-- way -->\n+```\n(.*?)```", re.S)
 

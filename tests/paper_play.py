@@ -2,7 +2,7 @@
 
 Nothing of the board's rules stands here: only what each word of a row does. A row with other words is an error when this is
 loaded. Lines come out as the separately written program traces them (reference/src/trace.rs); a poll's are the text that the
-program use_poll writes.
+program test_poll writes.
 """
 import re
 
@@ -331,7 +331,7 @@ class Play:
 
 
 class Poll(Play):
-    """A poll, and the text that the program use_poll writes of it. One that is not opened takes no turn."""
+    """A poll, and the text that the program test_poll writes of it. One that is not opened takes no turn."""
 
     rules = POLL
 

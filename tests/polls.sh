@@ -1,5 +1,5 @@
 #!/usr/bin/env bash
-# The program use_poll beside the separately written one on random polls in close contention (02, wish 6): no difference may be found, the
+# The program test_poll beside the separately written one on random polls in close contention (02, wish 6): no difference may be found, the
 # claims of the wish and the bound on turns must hold of every poll, and in a run of 4,000 polls or more every answer, by each of its
 # reasons, every refusal and every kind of turn must be reached, and answers for every n, in rounds below 01's window (02, wish 8); and as the
 # bedside cart (02, wish 9) answers for every n from 1 to 16 and refusals of every one from 17 to 64. Then that wrong programs are found.
@@ -7,9 +7,9 @@
 # usage: tests/polls.sh [POLLS [SEED]]      as long as one likes; 4,000 polls from seed 1, and the wrong programs, in the gate
 set -euo pipefail
 cd "$(dirname "$0")/.."
-./build.sh reference use_poll
+./build.sh reference test_poll
 polls=$PWD/target/reference/polls
-proved=$PWD/target/bin/use_poll
+proved=$PWD/target/bin/test_poll
 "$polls" "$proved" "${1-4000}" "${2-1}" "${@:3}"
 (($# == 0)) || exit 0
 

@@ -41,7 +41,7 @@ wrong() { # NAME FILE WHAT EDIT DIFFERENCE: the copy, its file edited by sed, di
     sed -i "$4" "$out/src/$2"
     if cmp -s "reference/src/$2" "$out/src/$2"; then echo "reference: nothing to edit: $4" && exit 1; fi
     rustc --edition 2021 -C incremental="$out/incremental" -C overflow-checks=off --crate-type rlib --crate-name janus_reference "$out/src/lib.rs" -o "$out/libjanus_reference.rlib"
-    harness "$1" --extern janus_reference="$out/libjanus_reference.rlib" -L native=target/staticlib -l static=janus -l static=janus_callers
+    harness "$1" --extern janus_reference="$out/libjanus_reference.rlib" -L native=target/staticlib -l static=janus -l static=test_callers
     differs ".*: $5"
     echo "$1: a program that $3 is found in 200 cases"
 }

@@ -43,7 +43,7 @@ trace=$(target/reference/reference trace 2 <"$out/list-2.sheet" | cut -d'|' -f1-
 echo "short_windows: docs/AGREEMENT.md has the trace of list 2"
 
 # The three searched lists are those of the proved table.
-table=crates/model_window_cases/specs/Table.antt
+table=crates/model_rule_cases/specs/Table.antt
 for w in 2 3 4; do
     python3 tests/short_lists.py "$table" "$w" | diff - <("$short_windows" short "$w" | sed 's/ *#.*//; /^$/d') || fail "short $w is not the list of $table"
 done

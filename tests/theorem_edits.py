@@ -138,7 +138,7 @@ def poll_refutation(edit):
     }
     if given:
         values |= {"first": given[0], "v": answers[0][1], "last": given[-1], "u": answers[-1][1]}
-    return ["polls.template", f"polls_{edit['refutes']}.template"], "base model model_rule model_poll model_poll_rule", values
+    return ["polls.template", f"polls_{edit['refutes']}.template"], "base model model_rule model_poll model_rule", values
 
 
 def refutation(edit):

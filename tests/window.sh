@@ -51,7 +51,7 @@ in_c() {
     gcc -O2 -Wall -Wextra -Werror -Iinclude -c "$out/$1.c" -o "$out/$1.o"
 }
 
-without_product target/staticlib/libuse_window.a
+without_product target/staticlib/libtest_window.a
 in_c header <<<'return janus_window(n);'
 without_product "$out/header.o"
 in_c product <<<'size_t m = 0, end = n; end += end; end += end; while (m * m < end) m++; return m;'
@@ -71,7 +71,7 @@ compare() {
         -L native=target/staticlib -l static=janus -C link-arg="$1" reference/windows.rs -o "$out/windows"
     "$out/windows"
 }
-compare target/staticlib/libuse_window.a
+compare target/staticlib/libtest_window.a
 compare "$out/header.o"
 
 # The same in C, and with one thing wrong. WHAT N BODY: that function multiplies nowhere either, and gives another window of n processes first.

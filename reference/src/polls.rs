@@ -1,4 +1,4 @@
-//! Many polls in bytes, and what becomes of them in words, as the program use_poll
+//! Many polls in bytes, and what becomes of them in words, as the program test_poll
 //! reads and prints them. (02, wish 6.)
 //!
 //! The bytes of a poll, which another may follow: the caller, 0 the server and any other

@@ -20,3 +20,4 @@ pub mod SoundTests
 pub mod SoundRecords
 pub mod FirstRounds
 pub mod ListedRounds
+pub mod Registers

@@ -1,6 +1,9 @@
--- The agreement rule as a statement: what happened, the calls and the machine, the rule, safe windows.
+-- The rules as statements: what happened, the calls and the machine, the agreement rule, safe windows, contested; the same of polls.
 pub mod Event
 pub mod Calls
 pub mod Rule
 pub mod Safe
 pub mod Contested
+pub mod PollCalls
+pub mod PollRule
+pub mod PollSafe

@@ -50,7 +50,7 @@ played-past W start (m ∷ ms) fs = played-past W start ms (inputOf m ∷ fs)
 
 -- ---- the calls
 
--- Calls by which a machine is fed fs, and the session that they come to. (Polls' calls too: `theory_poll_window`.)
+-- Calls by which a machine is fed fs, and the session that they come to. (Polls' calls too: `theory_window`.)
 pub record Called {C F : Type 0} (Run : List C → Session → Type 0) (inputs : List C → List F) (fs : List F) : Type 0 where
   pub calls : List C
   pub session : Session

@@ -1,6 +1,6 @@
 // The decision register in the register operation of a turn.
 ghost use mathlib.Core.Path.{_≡_};
-ghost use Rattle.part_registers_laws.specs.Registers.{decisionAfter};
+ghost use Rattle.model_laws.specs.Registers.{decisionAfter};
 use model::Access;
 
 // The decision register D after the operation.

@@ -1,7 +1,7 @@
 // The register operation of a turn on the registers of a round, T[r] and C[r]: what it reads, and what it leaves in each.
 ghost use mathlib.Core.Path.{_≡_};
 ghost use Rattle.model.specs.Step.{bit as bitOf};
-ghost use Rattle.part_registers_laws.specs.Registers.{slot as slotOf, valueIn, markIn, valuesAfter, marksAfter};
+ghost use Rattle.model_laws.specs.Registers.{slot as slotOf, valueIn, markIn, valuesAfter, marksAfter};
 use model::Access;
 
 // The index of the register of round r: r - 1 for the rounds 1 to 256. For any other number it is some index, so that no caller is asked for

@@ -7,7 +7,7 @@ use Rattle.model_laws.specs.Ranges.{InRange}
 use Rattle.model_poll.specs.Turn.{withoutDecision, pollAccess, pollNext, answerOf}
 use Rattle.model_poll.specs.Machine.{turnAfter, turnCounts}
 use Rattle.model_poll.specs.declared.Answer.{Answer}
-use Rattle.part_registers_laws.specs.Registers.{valueIn, markIn, valuesAfter, marksAfter, decisionAfter, NoLook, step-no-look, turn-counts, turn-leaves}
+use Rattle.model_laws.specs.Registers.{valueIn, markIn, valuesAfter, marksAfter, decisionAfter, NoLook, step-no-look, turn-counts, turn-leaves}
 
 -- No turn reads D, and none writes it.
 quiet-look : (a : Access) → NoLook a → NoLook (withoutDecision a)

@@ -2,9 +2,9 @@
 ghost use mathlib.Core.Path.{_≡_};
 ghost use Prim.Native.Nat.{_-_, _<_};
 ghost use Rattle.model.specs.Sheet.{runCount};
-ghost use Rattle.sheet_place_laws.specs.Places.{encode, openFrom, begin as beginOf, advanced};
-use sheet_place_laws::ENTRY;
-use sheet_place_laws::RUN;
+ghost use Rattle.sheet_laws.specs.Places.{encode, openFrom, begin as beginOf, advanced};
+use sheet_laws::ENTRY;
+use sheet_laws::RUN;
 
 // The first run from the given one on that has an entry, opened. "Length 0 is allowed."
 fn open_from(s: &[u8], first: usize) -> usize

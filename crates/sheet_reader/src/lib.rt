@@ -1,12 +1,12 @@
 // The reader of `sheet_reader_held`, for callers outside: what it does, by functions whose parameters are plain. 01, "Turn sheets": "A
 // reader that stays attached to the sheet's bytes and its place hands the entries out."
 ghost use mathlib.Core.Path.{_≡_};
-ghost use Rattle.sheet_place_laws.specs.Places.{begin, handed, advanced};
-use sheet_place_laws::Handed;
+ghost use Rattle.sheet_laws.specs.Places.{begin, handed, advanced};
+use sheet_laws::Handed;
 pub use sheet_reader_held::attach;
 pub use sheet_reader_held::entry;
 pub use sheet_reader_held::moved;
-pub use sheet_reader_laws::Reader;
+pub use sheet_laws::Reader;
 
 // The place of a reader that was just attached.
 pub fn first_place(sheet: &[u8]) -> usize

@@ -2,9 +2,9 @@
 // sheet's bytes and its place hands the entries out." Each function takes the reader apart and leaves the work to
 // `sheet_place`; for every caller outside there are the functions of `sheet_reader`.
 ghost use mathlib.Core.Path.{_≡_};
-ghost use Rattle.sheet_reader_laws.specs.Reading.{attached, handedBy, movedOn};
-use sheet_place_laws::Handed;
-use sheet_reader_laws::Reader;
+ghost use Rattle.sheet_laws.specs.Reading.{attached, handedBy, movedOn};
+use sheet_laws::Handed;
+use sheet_laws::Reader;
 
 // At the first entry's place.
 pub fn attach<'a>(sheet: &'a [u8]) -> Reader<'a>

@@ -3,7 +3,7 @@ ghost use mathlib.Core.Path.{_≡_};
 ghost use mathlib.Core.Bool.{_||_};
 ghost use lib.Dec.{leb};
 ghost use Rattle.model.specs.Refusal.{refusal, processOf, stepTests};
-ghost use Rattle.sheet_run_laws.specs.Entries.{haltOf, entryRefusal, changesOf, movedTo, otherAccess};
+ghost use Rattle.sheet_laws.specs.Entries.{haltOf, entryRefusal, changesOf, movedTo, otherAccess};
 use model::Access;
 use model::Counts;
 use model::Ending;

@@ -4,7 +4,7 @@ ghost use mathlib.Core.Path.{_≡_};
 ghost use Rattle.model.specs.Board.{noCounts};
 ghost use Rattle.model.specs.Runner.{ran as ranOf, runFrom, run as runOf};
 ghost use Rattle.model.specs.Sheet.{entries};
-ghost use Rattle.sheet_run_laws.specs.Carried.{Begun};
+ghost use Rattle.sheet_laws.specs.Carried.{Begun};
 use model::Caller;
 use model::Counts;
 use model::Ending;
@@ -13,7 +13,7 @@ use model::Ran;
 use model::Session;
 use part_registers::mark;
 use part_registers::value;
-use sheet_place_laws::Handed;
+use sheet_laws::Handed;
 
 mod entry;
 

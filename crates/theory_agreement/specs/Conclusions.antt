@@ -5,11 +5,11 @@ use Rattle.model.specs.Board.{processAt}
 use Rattle.model_rule.specs.Event.{Event, proposal, write, flag, commit, decision, here, there, Committed}
 use Rattle.model_rule.specs.Rule.{ProposedFirst, Rule}
 use Rattle.model_rule.specs.Safe.{threshold}
-use Rattle.theory_past.specs.Past.{past-none, happened-older}
-use Rattle.theory_past.specs.Lawful.{EventLawful, Lawful, none, also}
+use Rattle.theory_board.specs.Past.{past-none, happened-older}
+use Rattle.theory_board.specs.Lawful.{EventLawful, Lawful, none, also}
 use Rattle.theory_count.specs.Agreed.{agreed, agreed-commits}
-use Rattle.theory_walk.specs.Place.{Placed}
-use Rattle.theory_walk.specs.Start.{decided-committed}
+use Rattle.theory_board.specs.Place.{Placed}
+use Rattle.theory_board.specs.Start.{decided-committed}
 use Rattle.theory_board.specs.Invariant.{Invariant}
 
 -- v was never committed.

@@ -4,10 +4,10 @@ use Rattle.base.specs.Bools.{cond-cases}
 use Rattle.model.specs.declared.Session.{Session}
 use Rattle.model.specs.Board.{markAt, highestFrom, highestFilled}
 use Rattle.model_rule.specs.Event.{Event}
-use Rattle.theory_past.specs.Epoch.{top, last}
-use Rattle.theory_past.specs.Past.{past-before}
-use Rattle.theory_past.specs.Registers.{top-le, wrote-round, last-written}
-use Rattle.theory_past.specs.Lawful.{lawful-at, blank-above}
+use Rattle.theory_board.specs.Epoch.{top, last}
+use Rattle.theory_board.specs.Past.{past-before}
+use Rattle.theory_board.specs.Registers.{top-le, wrote-round, last-written}
+use Rattle.theory_board.specs.Lawful.{lawful-at, blank-above}
 use Rattle.theory_board.specs.Invariant.{Invariant}
 
 -- Of registers that are filled up to round T and blank above it, T is the highest filled one.

@@ -6,9 +6,9 @@ use Rattle.model.specs.Board.{processAt, idle}
 use Rattle.model.specs.Step.{found, stored, turn}
 use Rattle.model_laws.specs.Operations.{stored-same}
 use Rattle.model_rule.specs.Event.{Event}
-use Rattle.theory_past.specs.Lawful.{Lawful}
-use Rattle.theory_walk.specs.Place.{Stands}
-use Rattle.theory_walk.specs.Stays.{SpareAll, stands-events}
+use Rattle.theory_board.specs.Lawful.{Lawful}
+use Rattle.theory_board.specs.Place.{Stands}
+use Rattle.theory_board.specs.Stays.{SpareAll, stands-events}
 use Rattle.theory_board.specs.Matches.{Matches, Long}
 
 -- The arrays are long enough; the past is lawful; each process stands where its phase tells; the registers are those of the past.

@@ -1,4 +1,16 @@
--- What a session and the past of the machine that came to it have in common, and that each operation keeps it.
+-- The past of the machine, by epochs, and what is true of it; what a process' place in its walk tells of the past; what a session and the past of the
+-- machine that came to it have in common; and that each operation keeps it.
+pub mod Epoch
+pub mod Past
+pub mod Registers
+pub mod Lawful
+pub mod Place
+pub mod Stays
+pub mod Climb
+pub mod Rounds
+pub mod Checks
+pub mod Step
+pub mod Start
 pub mod Matches
 pub mod Invariant
 pub mod Highest

@@ -6,10 +6,10 @@ use Rattle.model.specs.Board.{valueAt, markAt}
 use Rattle.model.specs.Step.{found, stored}
 use Rattle.model_laws.specs.Ranges.{InRange}
 use Rattle.model_rule.specs.Event.{Event, write, flag, commit, here, there, Happened}
-use Rattle.theory_past.specs.Epoch.{last}
-use Rattle.theory_past.specs.Past.{happened-past, happened-older}
-use Rattle.theory_past.specs.Lawful.{IsCommitted}
-use Rattle.theory_walk.specs.Place.{Found}
+use Rattle.theory_board.specs.Epoch.{last}
+use Rattle.theory_board.specs.Past.{happened-past, happened-older}
+use Rattle.theory_board.specs.Lawful.{IsCommitted}
+use Rattle.theory_board.specs.Place.{Found}
 
 -- A mark of round j is set exactly if the round was flagged.
 abbrev pub Marked : (j : ℕ) → Bool → List Event → Type 0

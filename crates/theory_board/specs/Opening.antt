@@ -1,8 +1,8 @@
 -- A session just opened, with nothing past, keeps the invariant, at any window.
 use Rattle.base.specs.Prelude.{ℕ, suc, zero, _-_, _≤_, _≡_, refl, sym, _∙_, true≢false, [], getD, replicate, length-replicate}
 use Rattle.model.specs.Board.{opened, idle, maxProcesses, maxRounds}
-use Rattle.theory_past.specs.Past.{past-none}
-use Rattle.theory_past.specs.Lawful.{none}
+use Rattle.theory_board.specs.Past.{past-none}
+use Rattle.theory_board.specs.Lawful.{none}
 use Rattle.theory_board.specs.Invariant.{Invariant}
 
 -- A list of one value holds that value everywhere, past its end too.

@@ -12,9 +12,9 @@ use Rattle.model_laws.specs.Ranges.{InRange}
 use Rattle.model_laws.specs.WaitingRules.{waiting-cases}
 use Rattle.model_laws.specs.Operations.{operation-range}
 use Rattle.model_rule.specs.Event.{Event, proposal, stepEvents, lookEvents, eventsOf}
-use Rattle.theory_past.specs.Lawful.{also}
-use Rattle.theory_walk.specs.Step.{step-lawful, step-spares, step-stands}
-use Rattle.theory_walk.specs.Start.{proposal-stands, crash-stands, learnt-stands}
+use Rattle.theory_board.specs.Lawful.{also}
+use Rattle.theory_board.specs.Step.{step-lawful, step-spares, step-stands}
+use Rattle.theory_board.specs.Start.{proposal-stands, crash-stands, learnt-stands}
 use Rattle.theory_board.specs.Matches.{Matches, Long, silent-matches, write-matches, flag-matches, commit-matches, found-matches}
 use Rattle.theory_board.specs.Invariant.{Invariant, turn-invariant}
 

@@ -2,8 +2,8 @@
 use Rattle.base.specs.Prelude.{ℕ, _≤_, _<_, arith, ℕ-discrete, decLe, _≡_, sym, List}
 use Rattle.model_rule.specs.Event.{Event, Written, Committed}
 use Rattle.model_rule.specs.Safe.{threshold}
-use Rattle.theory_past.specs.Lawful.{Lawful, commit-lawful}
-use Rattle.theory_past.specs.Registers.{written-in}
+use Rattle.theory_board.specs.Lawful.{Lawful, commit-lawful}
+use Rattle.theory_board.specs.Registers.{written-in}
 use Rattle.theory_count.specs.Rivals.{Rivals, walked}
 use Rattle.theory_count.specs.Grid.{no-rivals}
 

@@ -1,9 +1,9 @@
 -- Two writes of one process.
 use Rattle.base.specs.Prelude.{ℕ, _+_, _-_, _/_, _%_, _≤_, _<_, arith, mod-lt, div-add-mod', _≡_, List, _∷_, inl, inr}
 use Rattle.model_rule.specs.Event.{Event, write, Past}
-use Rattle.theory_past.specs.Epoch.{Wrote}
-use Rattle.theory_past.specs.Lawful.{Lawful, lawful-at}
-use Rattle.theory_past.specs.Past.{past-total, past-cons}
+use Rattle.theory_board.specs.Epoch.{Wrote}
+use Rattle.theory_board.specs.Lawful.{Lawful, lawful-at}
+use Rattle.theory_board.specs.Past.{past-total, past-cons}
 
 module _ {W n p r v e r′ v′ e′ : ℕ} {h : List Event} (lawful : Lawful W n h) (a : Wrote p r v e h) (b : Wrote p r′ v′ e′ h) where
   -- A write that is not newer than another of the same process is that one, if its epoch is not below the other's round.

@@ -2,10 +2,10 @@
 -- carried by none of these.
 use Rattle.base.specs.Prelude.{ℕ, suc, zero, _+_, _*_, _≤_, _<_, arith, _≡_, refl, sym, _∙_, subst, List, _∷_, inl, inr, ⊎-elim}
 use Rattle.model_rule.specs.Event.{Event, write, Past, Written}
-use Rattle.theory_past.specs.Epoch.{top, last, Wrote, HeldBy}
-use Rattle.theory_past.specs.Lawful.{lawful-at}
-use Rattle.theory_past.specs.Past.{past-trans, past-before, past-total, past-cons, past-older}
-use Rattle.theory_past.specs.Registers.{top-le, last-since}
+use Rattle.theory_board.specs.Epoch.{top, last, Wrote, HeldBy}
+use Rattle.theory_board.specs.Lawful.{lawful-at}
+use Rattle.theory_board.specs.Past.{past-trans, past-before, past-total, past-cons, past-older}
+use Rattle.theory_board.specs.Registers.{top-le, last-since}
 use Rattle.model_rule.specs.Event.Past.{here}
 use Rattle.theory_count.specs.Ends.{upTo, up-past, up-top, up-most, Newest, newest-write, newest-holds}
 use Rattle.theory_count.specs.Rivals.{Rivals, held-at, cell, walked}

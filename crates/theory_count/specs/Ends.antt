@@ -3,9 +3,9 @@ use Rattle.base.specs.Prelude.{ℕ, _≤_, arith, ℕ-discrete, _≡_, refl, sy
 use Rattle.base.specs.Bools.{cond-cases}
 use Rattle.model_rule.specs.Event.{Event, proposal, write, flag, commit, decision, Past}
 use Rattle.model_rule.specs.Event.Past.{here, there}
-use Rattle.theory_past.specs.Epoch.{top, last}
-use Rattle.theory_past.specs.Past.{past-trans, past-cons, past-older}
-use Rattle.theory_past.specs.Registers.{last-since}
+use Rattle.theory_board.specs.Epoch.{top, last}
+use Rattle.theory_board.specs.Past.{past-trans, past-cons, past-older}
+use Rattle.theory_board.specs.Registers.{last-since}
 
 -- The longest older part whose highest written round is at most m.
 abbrev pub upTo : (m : ℕ) → List Event → List Event

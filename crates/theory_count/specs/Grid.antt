@@ -2,8 +2,8 @@
 use Rattle.base.specs.Prelude.{ℕ, suc, zero, max, _+_, _*_, _-_, _/_, _%_, _≤_, _<_, arith, ℕ-discrete, decLe, decLt, mod-lt, div-lt-iff-lt-mul, _≡_, List}
 use Rattle.model_rule.specs.Event.{Event}
 use Rattle.model_rule.specs.Safe.{threshold}
-use Rattle.theory_past.specs.Epoch.{WrittenIn}
-use Rattle.theory_past.specs.Lawful.{lawful-at}
+use Rattle.theory_board.specs.Epoch.{WrittenIn}
+use Rattle.theory_board.specs.Lawful.{lawful-at}
 use Rattle.theory_count.specs.Pigeon.{spare-hole}
 use Rattle.theory_count.specs.Apart.{same-write, grid-once}
 use Rattle.theory_count.specs.Rivals.{Rivals, Cell, walked, cell}

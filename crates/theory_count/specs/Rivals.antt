@@ -1,10 +1,10 @@
 -- Two values at the register of a round in which one of them was committed.
 use Rattle.base.specs.Prelude.{ℕ, suc, zero, _+_, _≤_, _<_, arith, ℕ-discrete, _≡_, refl, List, inl, inr}
 use Rattle.model_rule.specs.Event.{Event, Written}
-use Rattle.theory_past.specs.Epoch.{Wrote, Held, Passed}
-use Rattle.theory_past.specs.Lawful.{CommitLawful, Lawful, lawful-at}
-use Rattle.theory_past.specs.Past.{past-before, passed-past, passed-any}
-use Rattle.theory_past.specs.Registers.{written-in}
+use Rattle.theory_board.specs.Epoch.{Wrote, Held, Passed}
+use Rattle.theory_board.specs.Lawful.{CommitLawful, Lawful, lawful-at}
+use Rattle.theory_board.specs.Past.{past-before, passed-past, passed-any}
+use Rattle.theory_board.specs.Registers.{written-in}
 use Rattle.theory_count.specs.TwoValues.{two-values}
 
 -- A value written to a register was walked through every lower round.

@@ -1,9 +1,9 @@
 -- A register that held two values in one epoch was written to in that epoch.
 use Rattle.base.specs.Prelude.{ℕ, max, arith, _≡_, sym, List, inl, inr, ⊎-elim}
 use Rattle.model_rule.specs.Event.{Event, Past}
-use Rattle.theory_past.specs.Epoch.{top, Wrote, Held}
-use Rattle.theory_past.specs.Past.{past-trans, past-total}
-use Rattle.theory_past.specs.Registers.{top-le, last-since}
+use Rattle.theory_board.specs.Epoch.{top, Wrote, Held}
+use Rattle.theory_board.specs.Past.{past-trans, past-total}
+use Rattle.theory_board.specs.Registers.{top-le, last-since}
 
 pub two-values : {i j u v : ℕ} {h : List Event} → Held i j u h → Held i j v h → (u ≡ v → ⊥) → (p w : ℕ) × Wrote p j w i h
 two-values {i} {j} {h} a b differ =

@@ -18,7 +18,7 @@ use Rattle.model.specs.declared.Changed.{Changed}
 use Rattle.model_poll.specs.declared.Polled.{Polled}
 use Rattle.model_poll.specs.Machine.{proposes, turns, crashes, pollOpening}
 use Rattle.model_poll.specs.Public.{pollPropose, pollCrash}
-use Rattle.model_poll_rule.specs.Calls.{unasked, PollPromised}
+use Rattle.model_rule.specs.PollCalls.{unasked, PollPromised}
 use Rattle.poll_open.proofs.open as opens
 use Rattle.poll_change.proofs.propose as propose
 use Rattle.poll_change.proofs.crash as crash

@@ -15,11 +15,11 @@ use Rattle.model_poll.specs.declared.PollStepped.{PollStepped}
 use Rattle.model_poll.specs.Turn.{answerOf, Carries}
 use Rattle.model_poll.specs.Machine.{PollOperation, proposes, turns, crashes, turnTests, turned, unanswered, pollOpening, pollPerform}
 use Rattle.model_poll.specs.Public.{withLent, pollTurnAt}
-use Rattle.model_poll_rule.specs.Calls.{PollInput, pollMachine, pollOperationEvents, pollEvents, pollPast, PollCall, PollPromisedAt, PollRunWith, none, call, pollInputs, isTurnOf, turnsOf}
-use Rattle.model_poll_rule.specs.Rule.{EachAsThePollMachine, Stood, last, before, Gave, PollRule, PollClaim}
+use Rattle.model_rule.specs.PollCalls.{PollInput, pollMachine, pollOperationEvents, pollEvents, pollPast, PollCall, PollPromisedAt, PollRunWith, none, call, pollInputs, isTurnOf, turnsOf}
+use Rattle.model_rule.specs.PollRule.{EachAsThePollMachine, Stood, last, before, Gave, PollRule, PollClaim}
 use Rattle.model_poll_laws.specs.Opening.{poll-opened}
 use Rattle.model_poll_laws.specs.Performs.{pollProcessOf, pollBecomes, perform-cases, others-stay, own-becomes, accepted-below, answered-stays, gives, turn-gives}
-use Rattle.theory_walk.specs.Step.{step-older}
+use Rattle.theory_board.specs.Step.{step-older}
 use Rattle.theory_poll.specs.Machine.{PollReached, poll-reached, opened-poll-reached, answer-known, answer-committed, answers-agree}
 
 -- ---- the calls follow the machine

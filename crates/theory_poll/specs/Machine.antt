@@ -12,12 +12,12 @@ use Rattle.model_rule.specs.Safe.{threshold}
 use Rattle.model_poll.specs.declared.Answer.the-variants.{Commits, Adopts}
 use Rattle.model_poll.specs.Turn.{answerAt, answerOf, Carries}
 use Rattle.model_poll.specs.Machine.{PollOperation, proposes, turns, crashes, pollPerform}
-use Rattle.model_poll_rule.specs.Calls.{PollInput, pollMachine, pollOperationEvents, pollEvents, pollPast}
+use Rattle.model_rule.specs.PollCalls.{PollInput, pollMachine, pollOperationEvents, pollEvents, pollPast}
 use Rattle.model_poll_laws.specs.Opening.{opened-poll-sound}
 use Rattle.model_poll_laws.specs.Sounds.{phase-rule, poll-process, turn-after-sound, proposed-sound, crashed-sound}
 use Rattle.model_poll_laws.specs.Performs.{PollAccepted, pollAfter, perform-cases, poll-after-size, accepted-here, answer-cases}
-use Rattle.theory_past.specs.Lawful.{commit-lawful}
-use Rattle.theory_walk.specs.Place.{Placed, PlacedAt}
+use Rattle.theory_board.specs.Lawful.{commit-lawful}
+use Rattle.theory_board.specs.Place.{Placed, PlacedAt}
 use Rattle.theory_board.specs.Invariant.{Invariant}
 use Rattle.theory_board.specs.Operations.{operation-invariant}
 use Rattle.theory_board.specs.Opening.{opened-invariant}

@@ -10,8 +10,8 @@ use Rattle.model_laws.specs.Sounds.{sound-process}
 use Rattle.model_poll.specs.declared.PollStepped.{PollStepped}
 use Rattle.model_poll.specs.Turn.{pollAccess, pollNext, passTurns}
 use Rattle.model_poll.specs.Machine.{PollOperation, proposes, turns, crashes, pollPerform}
-use Rattle.model_poll_rule.specs.Calls.{pollMachine, PollCall, pollInputs, isTurnOf, turnsOf}
-use Rattle.model_poll_rule.specs.Rule.{EachAsThePollMachine}
+use Rattle.model_rule.specs.PollCalls.{pollMachine, PollCall, pollInputs, isTurnOf, turnsOf}
+use Rattle.model_rule.specs.PollRule.{EachAsThePollMachine}
 use Rattle.model_poll_laws.specs.Sounds.{as-session, round-rule, poll-limit}
 use Rattle.model_poll_laws.specs.Performs.{PollAccepted, pollProcessOf, pollAfter, pollBecomes, perform-cases, others-stay, own-becomes, accepted-below, accepted-here}
 use Rattle.model_poll_laws.specs.Pass.{Taken, taken-none, taken-low, taken-turn}

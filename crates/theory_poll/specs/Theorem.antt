@@ -7,14 +7,14 @@ use Rattle.model_laws.specs.Windows.{window-square}
 use Rattle.model_laws.specs.Callers.{caller-limits}
 use Rattle.model_rule.specs.Event.{Proposed}
 use Rattle.model_rule.specs.Safe.{threshold}
-use Rattle.model_poll_rule.specs.Safe.{PollBelowThreshold}
+use Rattle.model_rule.specs.PollSafe.{PollBelowThreshold}
 use Rattle.theory_count.specs.Grid.{wide-below, below-wide}
 use Rattle.model_poll.specs.declared.Answer.{Answer}
 use Rattle.model_poll.specs.declared.Answer.the-variants.{Commits}
 use Rattle.model_poll.specs.Turn.{answerOf, Carries}
 use Rattle.model_poll.specs.Machine.{turns}
-use Rattle.model_poll_rule.specs.Calls.{pollMachine, pollPast, PollCall, pollInputs}
-use Rattle.model_poll_rule.specs.Rule.{EachAsThePollMachine, Stood, Gave, PollRule, PollClaimWith, EveryPollWindow, PollClaim, CallerPollClaim}
+use Rattle.model_rule.specs.PollCalls.{pollMachine, pollPast, PollCall, pollInputs}
+use Rattle.model_rule.specs.PollRule.{EachAsThePollMachine, Stood, Gave, PollRule, PollClaimWith, EveryPollWindow, PollClaim, CallerPollClaim}
 use Rattle.model_poll_laws.specs.Opening.{poll-opened}
 use Rattle.model_poll_laws.specs.Performs.{answer-cases}
 use Rattle.theory_board.specs.Opening.{same-everywhere}

@@ -16,8 +16,8 @@ use Rattle.model_poll.specs.Turn.{withoutDecision, pollAccess, isWaiting, endin
 use Rattle.model_poll.specs.Machine.{turnAfter}
 use Rattle.model_poll_laws.specs.Answers.{TurnAccepted}
 use Rattle.model_poll_laws.specs.Sounds.{poll-blank, poll-process}
-use Rattle.theory_walk.specs.Place.{Found, Placed, PlacedAt, Stands}
-use Rattle.theory_walk.specs.Step.{step-lawful, step-spares, step-older, step-placed}
+use Rattle.theory_board.specs.Place.{Found, Placed, PlacedAt, Stands}
+use Rattle.theory_board.specs.Step.{step-lawful, step-spares, step-older, step-placed}
 use Rattle.theory_board.specs.Matches.{Matches, Long, found-matches}
 use Rattle.theory_board.specs.Invariant.{Invariant, turn-invariant}
 use Rattle.theory_board.specs.Operations.{step-events, not-decided}

@@ -10,18 +10,18 @@ use Rattle.model_laws.specs.Phases.{PhaseSound, process-facts}
 use Rattle.model_rule.specs.Event.{Event, proposal, write, flag, commit, decision, stepEvents, Happened, Proposed, Written}
 use Rattle.model_rule.specs.Event.Past.{there, here}
 use Rattle.model_poll.specs.Turn.{withoutDecision, pollAccess, isWaiting, ending, pollNext, answerAt, answerOf, Carries}
-use Rattle.theory_past.specs.Epoch.{last, top}
-use Rattle.theory_past.specs.Past.{past-before, past-none, happened-past, happened-older}
-use Rattle.theory_past.specs.Registers.{wrote-round, last-written}
-use Rattle.theory_past.specs.Lawful.{lawful-at, blank-above}
-use Rattle.theory_walk.specs.Place.{Placed, PlacedAt}
-use Rattle.theory_walk.specs.Step.{step-cases}
+use Rattle.theory_board.specs.Epoch.{last, top}
+use Rattle.theory_board.specs.Past.{past-before, past-none, happened-past, happened-older}
+use Rattle.theory_board.specs.Registers.{wrote-round, last-written}
+use Rattle.theory_board.specs.Lawful.{lawful-at, blank-above}
+use Rattle.theory_board.specs.Place.{Placed, PlacedAt}
+use Rattle.theory_board.specs.Step.{step-cases}
 use Rattle.theory_board.specs.Invariant.{Invariant}
 use Rattle.theory_board.specs.Opening.{same-everywhere}
 use Rattle.model_rule.specs.Calls.{ifAccepted}
 use Rattle.model_poll.specs.declared.Answer.the-variants.{Commits}
 use Rattle.model_poll.specs.Machine.{PollOperation, proposes, turns, crashes}
-use Rattle.model_poll_rule.specs.Calls.{PollInput, pollMachine, pollOperationEvents, pollEvents, pollPast}
+use Rattle.model_rule.specs.PollCalls.{PollInput, pollMachine, pollOperationEvents, pollEvents, pollPast}
 use Rattle.model_poll_laws.specs.Answers.{TurnAccepted}
 use Rattle.model_poll_laws.specs.Sounds.{poll-process}
 use Rattle.model_poll_laws.specs.Performs.{PollAccepted, pollProcessOf, pollAfter, pollBecomes, perform-cases, others-stay, own-becomes, accepted-below, answer-cases}

@@ -12,8 +12,8 @@ use Rattle.model_laws.specs.Every.{every-get}
 use Rattle.model_laws.specs.ByteLaws.{AreBytes, word32-low}
 use Rattle.model_rule.specs.Event.{Event, proposal, lookEvents, eventsOf, Proposed}
 use Rattle.model_rule.specs.Calls.{Input, machine, ifAccepted, past}
-use Rattle.theory_past.specs.Past.{happened-cases, happened-older}
-use Rattle.theory_walk.specs.Step.{step-older}
+use Rattle.theory_board.specs.Past.{happened-cases, happened-older}
+use Rattle.theory_board.specs.Step.{step-older}
 use Rattle.theory_sheet.specs.Runs.{fed}
 
 -- ---- where a proposal comes from

@@ -10,7 +10,7 @@ use Rattle.model_laws.specs.Callers.{caller-limits}
 use Rattle.model_laws.specs.ByteLaws.{AreBytes, decidedAt, decided-word}
 use Rattle.model_rule.specs.Event.{DecidedOn}
 use Rattle.model_rule.specs.Calls.{past}
-use Rattle.theory_past.specs.Past.{past-none, past-before, happened-past}
+use Rattle.theory_board.specs.Past.{past-none, past-before, happened-past}
 use Rattle.theory_sheet.specs.Runs.{windowOf, openedBy, runInputs, run-rule, run-bytes}
 use Rattle.theory_sheet.specs.Entries.{ProposedBy, fed-proposed, entry-low}
 

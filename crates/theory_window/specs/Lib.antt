@@ -1,5 +1,10 @@
--- Windows that are too short: a list of calls for every window, that it breaks the rule, that more processes change nothing, and the theorem.
+-- Windows that are too short: a list of calls for every window, that it breaks the rule, that more processes change nothing, and the theorem; the same
+-- of polls.
 pub mod Construction
 pub mod Broken
 pub mod More
 pub mod Theorem
+pub mod PollPlay
+pub mod PollBroken
+pub mod PollMore
+pub mod PollTheorem

@@ -18,7 +18,7 @@ use Rattle.poll_turn.proofs.turn.Symbol as callee
 use Rattle.poll_turn.proofs.turn.Met as callee-thm
 use Rattle.session_lent_laws.proofs.Lent.{reads, opened, closed}
 use Rattle.session_lent_laws.proofs.Counted.{counts}
-use Rattle.poll_lent_laws.proofs.Turns.{polled, counts-of, rest-of, turns, turns-lent}
+use Rattle.session_lent_laws.proofs.Turns.{polled, counts-of, rest-of, turns, turns-lent}
 use Rattle.poll_turn_lent.proofs.turn as turn
 use Rattle.poll_turn_lent.proofs.turn.Key
 use Rattle.poll_turn_lent.proofs.turn.Statement as stated

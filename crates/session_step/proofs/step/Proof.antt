@@ -10,7 +10,7 @@ use Rattle.model.specs.Public
 use Rattle.model_laws.specs.Answers.{codeOf, code-is, operate-refused, operate-accepted, index-of, known}
 use Rattle.model_laws.specs.Operations.{access-in-arrays}
 use Rattle.model_laws.specs.Sounds.{sound-few}
-use Rattle.part_registers_laws.specs.Registers.{counted-is, worked-is}
+use Rattle.model_laws.specs.Registers.{counted-is, worked-is}
 use Rattle.session_step.proofs.step.Statement.{statement}
 use Rattle.session_step.proofs.step.Tie as tie
 

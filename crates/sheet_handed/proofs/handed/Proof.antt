@@ -1,7 +1,7 @@
 -- `sheet_handed::handed` meets its contract: by whether the run has an entry left. Assumes nothing.
 use Rattle.base.specs.Prelude.{le-leb, lt-leb, needs}
-use Rattle.sheet_place_laws.specs.Places.{handed}
-use Rattle.sheet_place_laws.specs.Steps.{left-more, left-fewer}
+use Rattle.sheet_laws.specs.Places.{handed}
+use Rattle.sheet_laws.specs.Steps.{left-more, left-fewer}
 use Rattle.sheet_handed.proofs.handed.Statement.{statement}
 use Rattle.sheet_handed.proofs.handed.Tie as tie
 

@@ -1,6 +1,6 @@
 -- `sheet_place::advance` meets its contract: by whether the run has two entries left. Assumes nothing.
 use borrow.Author.Needs.{needs}
-use Rattle.sheet_place_laws.specs.Steps.{left-more, left-fewer, next-within, next-run}
+use Rattle.sheet_laws.specs.Steps.{left-more, left-fewer, next-within, next-run}
 use Rattle.sheet_place.proofs.advance.Statement.{statement}
 use Rattle.sheet_place.proofs.advance.Tie as tie
 

@@ -2,7 +2,7 @@
 -- and i fits. The measure is the count of runs left. Assumes nothing.
 use Rattle.base.specs.Prelude.{_-_, _<_, arith, _≡_, le-leb, lt-leb, needs}
 use Rattle.model.specs.Sheet.{runCount}
-use Rattle.sheet_place_laws.specs.Places.{encode, openFrom}
+use Rattle.sheet_laws.specs.Places.{encode, openFrom}
 use Rattle.sheet_layout.specs.Runs.{left-none, left-next}
 use Rattle.sheet_place.proofs.open_from.Statement.{statement}
 use Rattle.sheet_place.proofs.open_from.Tie as tie

@@ -6,7 +6,7 @@ use Rattle.base.specs.Walks.{no-more, assigns, land, returns, alloc1, alloc0, p
 use Rattle.base_walk.proofs.Walk.{Walk, passes-on, gone, asks, proved}
 use Rattle.sheet_reader_held.proofs.entry.Symbol as callee
 use Rattle.sheet_reader_held.proofs.entry.Met as callee-thm
-use Rattle.sheet_reader_laws.proofs.Rows.{hands, reads, at, together}
+use Rattle.sheet_laws.proofs.Rows.{hands, reads, at, together}
 use Rattle.sheet_reader.proofs.entry_at as entry-at
 use Rattle.sheet_reader.proofs.entry_at.Key
 use Rattle.sheet_reader.proofs.entry_at.Statement as stated

@@ -7,7 +7,7 @@ use Rattle.base.specs.Walks.{uint-makes}
 use Rattle.base_walk.proofs.Walk.{Walk, gone, asks, proved}
 use Rattle.sheet_reader_held.proofs.attach.Symbol as callee
 use Rattle.sheet_reader_held.proofs.attach.Met as callee-thm
-use Rattle.sheet_reader_laws.proofs.Rows.{begins, attaches}
+use Rattle.sheet_laws.proofs.Rows.{begins, attaches}
 use Rattle.sheet_reader.proofs.first_place as first-place
 use Rattle.sheet_reader.proofs.first_place.Key
 use Rattle.sheet_reader.proofs.first_place.Statement as stated

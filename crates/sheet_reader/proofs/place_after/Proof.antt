@@ -7,7 +7,7 @@ use Rattle.base.specs.Walks.{owned, nothing, uint-makes}
 use Rattle.base_walk.proofs.Walk.{Walk, passes-on, gone, asks, proved}
 use Rattle.sheet_reader_held.proofs.moved.Symbol as callee
 use Rattle.sheet_reader_held.proofs.moved.Met as callee-thm
-use Rattle.sheet_reader_laws.proofs.Rows.{advances, moves, at, together}
+use Rattle.sheet_laws.proofs.Rows.{advances, moves, at, together}
 use Rattle.sheet_reader.proofs.place_after as place-after
 use Rattle.sheet_reader.proofs.place_after.Key
 use Rattle.sheet_reader.proofs.place_after.Statement as stated

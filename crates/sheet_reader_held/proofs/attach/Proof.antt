@@ -7,8 +7,8 @@ use Rattle.base.specs.Walks.{nothing, shr-slice-copy, own-shut}
 use Rattle.base_walk.proofs.Walk.{Walk, copied, gone, asks, proved}
 use Rattle.sheet_place.proofs.begin.Symbol as callee
 use Rattle.sheet_place.proofs.begin.Met as callee-thm
-use Rattle.sheet_reader_laws.specs.Reading.{attached}
-use Rattle.sheet_reader_laws.proofs.Rows.{reader, begins, attaches, parts, D, L}
+use Rattle.sheet_laws.specs.Reading.{attached}
+use Rattle.sheet_laws.proofs.Rows.{reader, begins, attaches, parts, D, L}
 use Rattle.sheet_reader_held.proofs.attach as attach
 use Rattle.sheet_reader_held.proofs.attach.Key
 use Rattle.sheet_reader_held.proofs.attach.Statement as stated

@@ -6,7 +6,7 @@ use Rattle.base.specs.Walks.{from, load, of-opd, and-then, no-more, assigns, la
 use Rattle.base_walk.proofs.Walk.{Walk, passes-on, gone, asks, proved}
 use Rattle.sheet_handed.proofs.handed.Symbol as callee
 use Rattle.sheet_handed.proofs.handed.Met as callee-thm
-use Rattle.sheet_reader_laws.proofs.Rows.{hands, reads, parts, apart}
+use Rattle.sheet_laws.proofs.Rows.{hands, reads, parts, apart}
 use Rattle.sheet_reader_held.proofs.entry as entry
 use Rattle.sheet_reader_held.proofs.entry.Key
 use Rattle.sheet_reader_held.proofs.entry.Statement as stated

@@ -9,9 +9,9 @@ use denote.Struct.Rest.{own-put}
 use Rattle.base_walk.proofs.Walk.{Walk, passes-on, copied, gone, asks, proved}
 use Rattle.sheet_place.proofs.advance.Symbol as callee
 use Rattle.sheet_place.proofs.advance.Met as callee-thm
-use Rattle.sheet_reader_laws.specs.Reading.{movedOn}
-use Rattle.sheet_reader_laws.proofs.Reader.Laws as T′
-use Rattle.sheet_reader_laws.proofs.Rows.{reader, advances, moves, parts, apart, D, L}
+use Rattle.sheet_laws.specs.Reading.{movedOn}
+use Rattle.sheet_laws.proofs.Reader.Laws as T′
+use Rattle.sheet_laws.proofs.Rows.{reader, advances, moves, parts, apart, D, L}
 use Rattle.sheet_reader_held.proofs.moved as moved
 use Rattle.sheet_reader_held.proofs.moved.Key
 use Rattle.sheet_reader_held.proofs.moved.Statement as stated

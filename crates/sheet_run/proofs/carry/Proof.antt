@@ -7,12 +7,12 @@ use Rattle.model.proofs.Operation as Operations
 use Rattle.model_laws.specs.Types.{Operation, Propose, Step, Learn, Crash, Malformed}
 use Rattle.model.specs.Runner.{runFrom}
 use Rattle.model.specs.Sheet.{entries}
-use Rattle.sheet_place_laws.specs.declared.Handed.the-variants.{Next}
-use Rattle.sheet_place_laws.specs.Places.{handed, rest}
-use Rattle.sheet_place_laws.specs.PlaceLaws.{begin-rest, begin-proper}
-use Rattle.sheet_run_laws.specs.Entries.{isStep, step-refusal, step-leaves, step-counts, other-changes, other-stays, other-counts}
-use Rattle.sheet_run_laws.specs.Carried.{Carrying, Entered, entered-none, tallied}
-use Rattle.sheet_run_laws.specs.Carried.{ends, row-low, shorter, halted, due, refused, goes-on}
+use Rattle.sheet_laws.specs.declared.Handed.the-variants.{Next}
+use Rattle.sheet_laws.specs.Places.{handed, rest}
+use Rattle.sheet_laws.specs.PlaceLaws.{begin-rest, begin-proper}
+use Rattle.sheet_laws.specs.Entries.{isStep, step-refusal, step-leaves, step-counts, other-changes, other-stays, other-counts}
+use Rattle.sheet_laws.specs.Carried.{Carrying, Entered, entered-none, tallied}
+use Rattle.sheet_laws.specs.Carried.{ends, row-low, shorter, halted, due, refused, goes-on}
 use Rattle.sheet_run.proofs.carry.Statement.{statement}
 use Rattle.sheet_run.proofs.carry.Tie as tie
 

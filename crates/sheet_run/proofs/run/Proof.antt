@@ -4,7 +4,7 @@ use Rattle.model.specs.Window.{window}
 use Rattle.model.specs.Board.{limitsOf, opened}
 use Rattle.model.specs.Sheet.{processCount, roundLimit, sheetRefusal}
 use Rattle.model_laws.specs.Callers.{caller-limits}
-use Rattle.sheet_run_laws.specs.Carried.{sheet-opens, run-rejected, run-accepted}
+use Rattle.sheet_laws.specs.Carried.{sheet-opens, run-rejected, run-accepted}
 use Rattle.sheet_run.proofs.run.Statement.{statement}
 use Rattle.sheet_run.proofs.run.Tie as tie
 

@@ -1,3 +1,0 @@
-pub mod Calls
-pub mod Rule
-pub mod Safe

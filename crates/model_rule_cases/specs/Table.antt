@@ -1,0 +1,89 @@
+-- Three short lists of calls, found by search, in which two turns commit different values: just below the bound W * W ≥ 4n.
+use Prim.Native.Nat.{ℕ}
+use mathlib.Core.Path.{_≡_, refl}
+use mathlib.Core.Bool.{true}
+use mathlib.Core.List.{List, [], _∷_, _++_, map}
+use Rattle.model.specs.Board.{opened}
+use Rattle.model.specs.Step.{waitingRule, accessAt, access, found, goOn, nextAt, next, learnt, stored, turn, counted}
+use Rattle.model.specs.Refusal.{full}
+use Rattle.model.specs.Machine.{openingAt, accessOf, becomes, after, countsAfter, answered, perform}
+use Rattle.model.specs.Sound.{every}
+use Rattle.model_cases.specs.Play.{repeat}
+use Rattle.model_rule_cases.specs.Play.{Move, proposes, works, looks, played}
+use Rattle.model_rule_cases.specs.Breaks.{Row, happens, differ, breaks}
+
+-- One step of each process, in that order.
+abbrev turns : List ℕ → List Move
+turns ps = map works ps
+
+two : List Move
+two =
+    proposes 0 1
+    ∷ proposes 1 2
+    ∷ turns (0 ∷ 1 ∷ 0 ∷ 0 ∷ 0 ∷ 1 ∷ 1 ∷ 1 ∷ 1 ∷ 1 ∷ 1 ∷ 1 ∷ 1 ∷ 0 ∷ 0 ∷ 0 ∷ 1 ∷ 0 ∷ 0 ∷ 0 ∷ 0 ∷ 0 ∷ 0 ∷ 0 ∷ 0 ∷ 0 ∷ 0 ∷ 0 ∷ 1 ∷ 0 ∷ 1 ∷ [])
+    ++ looks 1
+    ∷ works 0
+    ∷ looks 0
+    ∷ []
+
+three : List Move
+three =
+    proposes 0 1
+    ∷ proposes 1 2
+    ∷ proposes 2 1
+    ∷ turns (0 ∷ 2 ∷ 1 ∷ 0 ∷ 0 ∷ 0 ∷ 1 ∷ 1 ∷ 1 ∷ 1 ∷ 1 ∷ 0 ∷ 0 ∷ 1 ∷ 1 ∷ 2 ∷ 0 ∷ 0 ∷ 0 ∷ 0 ∷ 0 ∷ 0 ∷ 0 ∷ 0 ∷ 1 ∷ 1 ∷ 1 ∷ 0 ∷ 1 ∷ 1 ∷ 0 ∷ 0 ∷ [])
+    ++ repeat 25 (works 1)
+    ++ turns (0 ∷ 1 ∷ 0 ∷ [])
+    ++ looks 0
+    ∷ works 1
+    ∷ looks 1
+    ∷ []
+
+five : List Move
+five =
+    proposes 0 1
+    ∷ proposes 1 2
+    ∷ proposes 2 1
+    ∷ proposes 3 2
+    ∷ proposes 4 1
+    ∷ turns (0 ∷ 2 ∷ 4 ∷ 1 ∷ 3 ∷ 0 ∷ 1 ∷ 1 ∷ 1 ∷ 2 ∷ 0 ∷ 0 ∷ 2 ∷ 2 ∷ 0 ∷ 0 ∷ 1 ∷ 1 ∷ 0 ∷ 0 ∷ 3 ∷ 1 ∷ 1 ∷ 1 ∷ 1 ∷ 0 ∷ 0 ∷ 1 ∷ 2 ∷ 0 ∷ 1 ∷ 1 ∷ 4 ∷ [])
+    ++ repeat 16 (works 0)
+    ++ looks 0
+    ∷ repeat 53 (works 1)
+    ++ looks 1
+    ∷ []
+
+pub table : List Row
+table =
+    record {
+      n = 2;
+      window = 2;
+      limit = 3;
+      moves = two;
+      first = record { process = 1; round = 2; value = 2 };
+      second = record { process = 0; round = 3; value = 1 };
+    }
+    ∷ record {
+      n = 3;
+      window = 3;
+      limit = 5;
+      moves = three;
+      first = record { process = 0; round = 3; value = 1 };
+      second = record { process = 1; round = 5; value = 2 };
+    }
+    ∷ record {
+      n = 5;
+      window = 4;
+      limit = 7;
+      moves = five;
+      first = record { process = 0; round = 4; value = 1 };
+      second = record { process = 1; round = 7; value = 2 };
+    }
+    ∷ []
+
+-- Every row breaks the machine at its window.
+pub short-lists : every breaks table ≡ true
+unfolding
+    two three five table played happens differ breaks opened waitingRule accessAt access found goOn nextAt next learnt stored turn counted full openingAt
+    accessOf becomes after countsAfter answered perform
+short-lists = refl

@@ -1,2 +1,0 @@
--- Lists of calls at windows that are too short.
-pub mod Table

@@ -1,2 +1,0 @@
--- What the contracts of the registers' functions cite.
-pub mod Registers

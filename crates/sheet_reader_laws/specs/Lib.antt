@@ -1,2 +1,0 @@
--- What is said of a reader.
-pub mod Reading

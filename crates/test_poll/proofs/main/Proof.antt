@@ -1,0 +1,16 @@
+-- `test_poll::main` is safe and ends: each poll ends at a later byte. The loop's invariant: the input is at most 65,536 bytes. Assumes nothing.
+use Rattle.base.specs.Prelude.{_-_, _≤_, sym, arith, needs, length-take-le}
+use Rattle.test_poll.proofs.main.Statement.{statement}
+use Rattle.test_poll.proofs.main.Tie as tie
+
+abbrev Inv-loop : tie.InvT-loop
+Inv-loop n bytes at₀ at = n ≤ 65536
+
+abbrev μ-loop : tie.MeasureT-loop
+μ-loop n bytes at₀ at = n - at
+
+pub main-spec : {M : Type 1} → statement M
+main-spec =
+    tie.close
+    (tie.spec Inv-loop μ-loop (λ c κs. search needs) (λ c. search needs) (λ c κs. search needs) (λ c. search needs)
+    (λ c. search needs) (λ c. search needs) (λ c κs. search needs) (λ c. search needs) (λ c. search needs) (λ c. search needs))

@@ -1,1 +1,0 @@
-// Contested is the number of marked rounds: no code.

@@ -1,0 +1,71 @@
+-- Windows that are too short for polls (document 02, wish 7), and which windows are safe for how many processes.
+use Rattle.base.specs.Prelude.{ℕ, _+_, _*_, _≤_, arith, decLe, _≡_, refl, sym, _∙_, subst, Bool, true, true≢false, _&&_, eqb, eqb-true}
+use Rattle.base.specs.Bools.{and-left, and-right}
+use Rattle.model.specs.declared.Caller.the-variants.{Server}
+use Rattle.model.specs.declared.Session.{Session}
+use Rattle.model.specs.Board.{limitsOf, opened, processAt, maxProcesses, maxRounds}
+use Rattle.model.specs.Sound.{every}
+use Rattle.model_laws.specs.Operations.{opening-accepts}
+use Rattle.model_laws.specs.Callers.{caller-limits}
+use Rattle.model_rule.specs.Safe.{threshold}
+use Rattle.model_poll.specs.declared.Answer.{Answer}
+use Rattle.model_poll.specs.declared.Answer.the-variants.{Pending, Commits, Adopts}
+use Rattle.model_poll.specs.Turn.{answerOf, Carries}
+use Rattle.model_poll.specs.Machine.{pollOpeningAt}
+use Rattle.model_rule.specs.PollSafe.{PollSafeWithin, ExactPollWindows}
+use Rattle.model_poll_laws.specs.Opening.{poll-opened}
+use Rattle.theory_window.specs.Construction.{from, atLast, withOne, withTwo}
+use Rattle.theory_window.specs.More.{sized}
+use Rattle.theory_window.specs.Theorem.{every-from, high-threshold}
+use Rattle.theory_poll.specs.Theorem.{poll-below-threshold}
+use Rattle.theory_window.specs.PollPlay.{played, breaks-poll-rule}
+use Rattle.theory_window.specs.PollBroken.{operations, isCommitted, isAdopted, left, answersDiffer, broken, all-broken}
+use Rattle.theory_window.specs.PollMore.{within, played-more}
+
+committed-is : (v : ℕ) (a : Answer) → isCommitted v a ≡ true → a ≡ Commits v
+committed-is v Pending t = absurd (true≢false (sym t))
+committed-is v (Commits u) t = rw (eqb-true u v t) refl
+committed-is v (Adopts u) t = absurd (true≢false (sym t))
+
+adopted-carries : (v : ℕ) (a : Answer) → isAdopted v a ≡ true → Carries a v
+adopted-carries v Pending t = absurd (true≢false (sym t))
+adopted-carries v (Commits u) t = absurd (true≢false (sym t))
+adopted-carries v (Adopts u) t = eqb-true u v t
+
+-- What is opened with n processes and a window that fits.
+opens : (W n : ℕ) → 1 ≤ n → n ≤ maxProcesses → W ≤ maxRounds → (pollOpeningAt (limitsOf Server) W n .code ≡ 0) × (pollOpeningAt (limitsOf Server) W n .session ≡ opened n W)
+unfolding pollOpeningAt
+opens W n some few low = opening-accepts (limitsOf Server) W n W some few (omega arith) low
+
+-- The list of a window from 2 to 15 breaks it, with as many processes as its threshold and with more.
+broken-unsafe : (W n : ℕ) → broken W ≡ true → threshold W ≤ n → n ≤ maxProcesses → PollSafeWithin (limitsOf Server) W n → ⊥
+unfolding broken answersDiffer opened
+broken-unsafe W n t enough few =
+    let e = threshold W in
+    let os = operations W in
+    let one = withOne W (atLast W) in
+    let other = withTwo W (atLast W) in
+    let a = answerOf (processAt (left W) one) in
+    let b = answerOf (processAt (left W) other) in
+    let accepted = eqb (pollOpeningAt (limitsOf Server) W e .code) 0 in
+    let start = and-left (accepted && every (within e) os) (answersDiffer (left W) one other) t in
+    let differ = and-right (accepted && every (within e) os) (answersDiffer (left W) one other) t in
+    let small = poll-opened (limitsOf Server) (caller-limits Server) W e (eqb-true (pollOpeningAt (limitsOf Server) W e .code) 0 (and-left accepted (every (within e) os) start)) in
+    let large = opens W n (omega (arith, small .0)) few (small .2) in
+    let same : sized n (left W) ≡ played W (pollOpeningAt (limitsOf Server) W n .session) os =
+    rw (small .3, large .1) (sym (played-more W n e (opened e W) os refl enough (and-right accepted (every (within e) os) start))) in
+    breaks-poll-rule (limitsOf Server) (λ m. W) n os one other 2 1 (large .0)
+    (subst (λ (s : Session). answerOf (processAt s one) ≡ Commits 1) same (committed-is 1 a (and-left (isCommitted 1 a) (isAdopted 2 b) differ)))
+    (subst (λ (s : Session). Carries (answerOf (processAt s other)) 2) same (adopted-carries 2 b (and-right (isCommitted 1 a) (isAdopted 2 b) differ)))
+    (λ z. omega arith)
+
+-- A window is not safe for polls of as many processes as its threshold, nor of more.
+pub poll-too-short : (W n : ℕ) → 2 ≤ W → threshold W ≤ n → n ≤ maxProcesses → PollSafeWithin (limitsOf Server) W n → ⊥
+poll-too-short W n least enough few safe =
+    elim (decLe W 15) [
+      | yes most ↦ broken-unsafe W n (every-from broken 2 14 W least (omega arith) all-broken) enough few safe
+      | no high ↦ omega (arith, high-threshold W (omega arith))
+    ]
+
+pub exact-poll-windows : ExactPollWindows
+exact-poll-windows W n least few = (λ below. poll-below-threshold (λ m. W) n below, λ enough. poll-too-short W n least enough few)
