@@ -3,10 +3,10 @@
 ghost use mathlib.Core.Path.{_≡_};
 ghost use Rattle.sheet_laws.specs.Places.{begin, handed, advanced};
 use sheet_laws::Handed;
+pub use sheet_laws::Reader;
 pub use sheet_reader_held::attach;
 pub use sheet_reader_held::entry;
 pub use sheet_reader_held::moved;
-pub use sheet_laws::Reader;
 
 // The place of a reader that was just attached.
 pub fn first_place(sheet: &[u8]) -> usize
