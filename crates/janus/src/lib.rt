@@ -9,6 +9,8 @@ ghost use Rattle.model_write.specs.WriteExport.{exportOf, writeExport};
 use model::Caller;
 use model::Ending;
 use model::Ran;
+use model::numbers::BAD_BUFFER;
+use model::numbers::BUDGET_ENDED;
 
 // The run of a sheet, called by both entries: so that the loop stands once in the archive, and the functions that only it calls stand in it. 02, wish 9:
 // "the C entry and the report use the server's" limits.
@@ -26,14 +28,14 @@ pub extern "C" fn janus_run(sheet: &[u8], budget: usize, buffer: &mut [u8]) -> u
     ensures writes { λ _. ⌜ now (buffer .exit) ≡ exportBuffer (now (sheet .entry)) budget (now (buffer .entry)) ⌝ }
 {
     if buffer.len() != 256 {
-        return 15;
+        return BAD_BUFFER;
     }
     let ran = run(sheet, budget);
     let ending = ran.ending;
     let code = match ending {
         Ending::Finished => 0,
         Ending::Refused(code, _) => code,
-        Ending::BudgetEnded => 100,
+        Ending::BudgetEnded => BUDGET_ENDED,
         Ending::Rejected(code) => return code,
     };
     janus_decided::put_decided(ran.session, buffer);

@@ -6,6 +6,7 @@ ghost use mathlib.Core.List.{_++_};
 ghost use Rattle.model_report.specs.Report.{reportOf};
 ghost use Rattle.model_report.specs.ReportExport.{textCode, textBuffer};
 use model::Ran;
+use model::numbers::BAD_BUFFER;
 
 // The first n of the given bytes, copied to the first n of a buffer.
 fn copy(from: &[u8], n: usize, buffer: &mut [u8])
@@ -30,7 +31,7 @@ pub fn put_report(ran: Ran, buffer: &mut [u8]) -> usize
     let size = text.len;
     let room = buffer.len();
     if room < size {
-        return 15;
+        return BAD_BUFFER as usize;
     }
     copy(&text.bytes, size, buffer);
     size

@@ -12,6 +12,7 @@ use Rattle.model.specs.declared.Caller.the-variants.{Server}
 use Rattle.model.specs.declared.Ending.{Ending}
 use Rattle.model.specs.declared.Ending.the-variants.{Finished, Refused, BudgetEnded, Rejected}
 use Rattle.model.specs.Bytes.{bytes32}
+use Rattle.model.specs.Numbers.{badBuffer, budgetEnded}
 use Rattle.model.specs.Runner.{run}
 
 -- A process' decided value, "or 0 where there is none".
@@ -41,7 +42,7 @@ decidedBytes (q ∷ qs) = bytes32 (decidedValue (q .phase) (q .estimate)) ++ dec
 abbrev pub endingCode : Ending → ℕ
 endingCode Finished = 0
 endingCode (Refused k i) = k
-endingCode BudgetEnded = 100
+endingCode BudgetEnded = budgetEnded
 endingCode (Rejected k) = k
 
 -- "After 15, 1, 2, 10, 11, 12 the buffer is unchanged": where no session was made it is as it was.
@@ -53,7 +54,7 @@ endingBuffer (Rejected k) qs b = b
 
 -- "A buffer of exactly 256 bytes .. 15 is tested first." 02, wish 9: "the C entry and the report use the server's" limits.
 unfoldable pub exportCode : (sheet : List ℕ) (budget : ℕ) (buffer : List ℕ) → ℕ
-exportCode s budget b = cond (eqb (length b) 256) (endingCode (run Server s budget .ending)) 15
+exportCode s budget b = cond (eqb (length b) 256) (endingCode (run Server s budget .ending)) badBuffer
 
 unfoldable pub exportBuffer : (sheet : List ℕ) (budget : ℕ) (buffer : List ℕ) → List ℕ
 exportBuffer s budget b = cond (eqb (length b) 256) (endingBuffer (run Server s budget .ending) (run Server s budget .session .processes) b) b

@@ -11,13 +11,13 @@ use Rattle.model.specs.declared.Counts.{Counts}
 use Rattle.model.specs.declared.Caller.{Caller}
 use Rattle.model.specs.declared.Limits.{Limits}
 use Rattle.model.specs.declared.Operation.{Operation}
-use Rattle.model.specs.declared.Operation.the-variants.{Propose, Step, Learn, Crash, Malformed}
+use Rattle.model.specs.declared.Operation.the-variants.{Propose, Step, Learn, Crash}
 use Rattle.model.specs.declared.Changed.{Changed}
 use Rattle.model.specs.declared.Stepped.{Stepped}
 use Rattle.model.specs.Window.{window}
 use Rattle.model.specs.Board.{processAt, opened, limitsOf}
 use Rattle.model.specs.Step.{access, next, learnt, found, turn, counted, process}
-use Rattle.model.specs.Refusal.{Test, refusal, openTestsAt, processOf, tests, changed, stepped}
+use Rattle.model.specs.Refusal.{Test, refusal, openTestsAt, tests, changed, stepped}
 
 -- ---- opening
 
@@ -30,7 +30,14 @@ openingAt most W n L = changed (refusal (openTestsAt most W n L)) (opened 0 0) (
 abbrev pub opening : Caller → (n L : ℕ) → Changed
 opening caller n L = openingAt (limitsOf caller) (window n) n L
 
--- ---- one operation: what it accesses, and what its process becomes
+-- ---- one operation: its process, what it accesses, and what the process becomes
+
+-- The process that an operation names.
+abbrev pub processOf : Operation → ℕ
+processOf (Propose p v) = p
+processOf (Step p leader) = p
+processOf (Learn p) = p
+processOf (Crash p) = p
 
 -- The one register operation, by the record q of the process: a proposal and a crash have none; a work turn as its phase says; "a look
 -- reads D".
@@ -39,7 +46,6 @@ accessOf L q (Propose p v) = Nothing
 accessOf L q (Step p leader) = access L q leader
 accessOf L q (Learn p) = ReadDecision
 accessOf L q (Crash p) = Nothing
-accessOf L q Malformed = Nothing
 
 -- What the process becomes by the value x that was read, at window W: "a proposal moves a seat from out to gate with own value v"; a work
 -- turn and a look as `Step` has them; "a crash moves a working or spent seat to crashed; round and own value remain".
@@ -48,7 +54,6 @@ becomes W L q (Propose p v) x = process Waiting (q .round) v
 becomes W L q (Step p leader) x = next W L q leader x
 becomes W L q (Learn p) x = learnt q x
 becomes W L q (Crash p) x = process Crashed (q .round) (q .estimate)
-becomes W L q Malformed x = q
 
 -- ---- the machine
 

@@ -12,6 +12,7 @@ use Rattle.model.specs.declared.Changed.{Changed}
 use Rattle.model.specs.declared.Stepped.{Stepped}
 use Rattle.model.specs.Window.{window}
 use Rattle.model.specs.Board.{noCounts}
+use Rattle.model.specs.Numbers.{unsound}
 use Rattle.model.specs.Refusal.{tests}
 use Rattle.model.specs.Machine.{answered}
 use Rattle.model.specs.Sound.{soundAtAs}
@@ -30,7 +31,7 @@ withoutCounts a = record { code = a .code; session = a .session }
 -- "3: session not sound", tested first; "session, tally, buffer unchanged". Proposals and crashes are those of polls too (02, wish 6), where 3 is
 -- by a poll's soundness: `poll` says which. (A poll's turn is its own: `model_poll`.)
 unfoldable pub operateAtAs : (poll : Bool) → (W : ℕ) → Session → Counts → Operation → Stepped
-operateAtAs poll W s c o = answered ((not (soundAtAs poll W s), 3) ∷ tests s c o) W s c o
+operateAtAs poll W s c o = answered ((not (soundAtAs poll W s), unsound) ∷ tests s c o) W s c o
 
 -- "Proposal 3, 4, 5, 6."
 unfoldable pub proposeAtAs : (poll : Bool) → (W : ℕ) → Session → (p v : ℕ) → Changed

@@ -11,6 +11,7 @@ use Rattle.model.specs.declared.ProcessAnswer.{ProcessAnswer}
 use Rattle.model.specs.declared.DecisionAnswer.{DecisionAnswer}
 use Rattle.model.specs.declared.CountAnswer.{CountAnswer}
 use Rattle.model.specs.Board.{valueAt, markAt, processAt, idle}
+use Rattle.model.specs.Numbers.{unsound, noSuchProcess, noSuchRound, badBuffer}
 use Rattle.model.specs.Refusal.{refusal}
 use Rattle.model.specs.Sound.{soundAs, sound}
 
@@ -23,7 +24,7 @@ registerAnswer (suc k) v m = record { code = suc k; value = 0; marked = false }
 -- "14: read-out of a round not 1 to L."
 unfoldable pub register : Session → (r : ℕ) → RegisterAnswer
 register s r =
-    registerAnswer (refusal ((not (sound s), 3) ∷ (not (leb 1 r && leb r (s .limit)), 14) ∷ [])) (valueAt s r) (markAt s r)
+    registerAnswer (refusal ((not (sound s), unsound) ∷ (not (leb 1 r && leb r (s .limit)), noSuchRound) ∷ [])) (valueAt s r) (markAt s r)
 
 -- ---- a process' record: 3, 4
 
@@ -33,7 +34,7 @@ processAnswer (suc k) q = record { code = suc k; process = idle }
 
 -- Of a session and, 02, wish 6, of a poll: "Seats are read out as in sessions".
 unfoldable pub processRecordAs : (poll : Bool) → Session → (p : ℕ) → ProcessAnswer
-processRecordAs poll s p = processAnswer (refusal ((not (soundAs poll s), 3) ∷ (leb (s .n) p, 4) ∷ [])) (processAt s p)
+processRecordAs poll s p = processAnswer (refusal ((not (soundAs poll s), unsound) ∷ (leb (s .n) p, noSuchProcess) ∷ [])) (processAt s p)
 
 abbrev pub processRecord : Session → (p : ℕ) → ProcessAnswer
 processRecord s p = processRecordAs false s p
@@ -45,7 +46,7 @@ decisionAnswer zero v = record { code = 0; value = v }
 decisionAnswer (suc k) v = record { code = suc k; value = 0 }
 
 unfoldable pub decision : Session → DecisionAnswer
-decision s = decisionAnswer (refusal ((not (sound s), 3) ∷ [])) (s .decision)
+decision s = decisionAnswer (refusal ((not (sound s), unsound) ∷ [])) (s .decision)
 
 -- ---- standing values: 3, 15
 
@@ -69,7 +70,7 @@ standingValues s = valuesTo (s .values) (s .limit)
 
 -- "15 is returned exactly when the buffer is shorter than that count."
 unfoldable pub standingRefusal : Session → (buffer : List ℕ) → ℕ
-standingRefusal s buffer = refusal ((not (sound s), 3) ∷ (ltb (length buffer) (length (standingValues s)), 15) ∷ [])
+standingRefusal s buffer = refusal ((not (sound s), unsound) ∷ (ltb (length buffer) (length (standingValues s)), badBuffer) ∷ [])
 
 abbrev pub countAnswer : ℕ → (count : ℕ) → CountAnswer
 countAnswer zero c = record { code = 0; count = c }

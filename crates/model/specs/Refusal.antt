@@ -12,11 +12,13 @@ use Rattle.model.specs.declared.Session.{Session}
 use Rattle.model.specs.declared.Counts.{Counts}
 use Rattle.model.specs.declared.Limits.{Limits}
 use Rattle.model.specs.declared.Operation.{Operation}
-use Rattle.model.specs.declared.Operation.the-variants.{Propose, Step, Learn, Crash, Malformed}
+use Rattle.model.specs.declared.Operation.the-variants.{Propose, Step, Learn, Crash}
 use Rattle.model.specs.declared.Changed.{Changed}
 use Rattle.model.specs.declared.Stepped.{Stepped}
 use Rattle.model.specs.Window.{window}
 use Rattle.model.specs.Board.{processAt}
+use Rattle.model.specs.Numbers.{badProcessCount, badRoundLimit, noSuchProcess, blankProposal, secondProposal}
+use Rattle.model.specs.Numbers.{processOut, processGone, processSpent, countsFull}
 
 -- A test that refuses, and the number that is then returned.
 abbrev pub Test : Type 0
@@ -78,54 +80,46 @@ full c = leb maxCount (c .reads) || leb maxCount (c .writes) || leb maxCount (c 
 -- Opening with n processes and round limit L, within a caller's limits, at window W: 1, 2. (02, wish 9: "1 and 2 speak of the caller's limits".)
 abbrev pub openTestsAt : Limits → (W n L : ℕ) → List Test
 openTestsAt most W n L =
-    (not (leb 1 n && leb n (most .processes)), 1) ∷ (not (leb W L && leb L (most .rounds)), 2) ∷ []
+    (not (leb 1 n && leb n (most .processes)), badProcessCount)
+    ∷ (not (leb W L && leb L (most .rounds)), badRoundLimit)
+    ∷ []
 
 -- In service: at the window of n.
 abbrev pub openTests : Limits → (n L : ℕ) → List Test
 openTests most n L = openTestsAt most (window n) n L
 
--- The operations' tests after 3 (session not sound: `Public`) and 4, by the phase of the process. Proposal: 5, 6.
+-- The operations' own tests, by the phase of the process that they name. Proposal: 5, 6.
 abbrev pub proposeTests : Phase → (v : ℕ) → List Test
-proposeTests φ v = (eqb v 0, 5) ∷ (not (isOutside (status φ)), 6) ∷ []
+proposeTests φ v = (eqb v 0, blankProposal) ∷ (not (isOutside (status φ)), secondProposal) ∷ []
 
 -- Work: 7, 8, 9, 16.
 abbrev pub stepTests : Phase → Counts → List Test
-stepTests φ c = (isOutside (status φ), 7) ∷ (isGone (status φ), 8) ∷ (isSpent (status φ), 9) ∷ (full c, 16) ∷ []
+stepTests φ c =
+    (isOutside (status φ), processOut)
+    ∷ (isGone (status φ), processGone)
+    ∷ (isSpent (status φ), processSpent)
+    ∷ (full c, countsFull)
+    ∷ []
 
 -- Look: 7, 8, 16.
 abbrev pub learnTests : Phase → Counts → List Test
-learnTests φ c = (isOutside (status φ), 7) ∷ (isGone (status φ), 8) ∷ (full c, 16) ∷ []
+learnTests φ c = (isOutside (status φ), processOut) ∷ (isGone (status φ), processGone) ∷ (full c, countsFull) ∷ []
 
 -- Crash: 7, 8.
 abbrev pub crashTests : Phase → List Test
-crashTests φ = (isOutside (status φ), 7) ∷ (isGone (status φ), 8) ∷ []
+crashTests φ = (isOutside (status φ), processOut) ∷ (isGone (status φ), processGone) ∷ []
 
-abbrev pub ownTests : Phase → Counts → Operation → List Test
-ownTests φ c (Propose p v) = proposeTests φ v
-ownTests φ c (Step p leader) = stepTests φ c
-ownTests φ c (Learn p) = learnTests φ c
-ownTests φ c (Crash p) = crashTests φ
-ownTests φ c Malformed = []
+-- In front of them 4, of an operation that names process p.
+abbrev pub processTests : Session → (p : ℕ) → (own : Phase → List Test) → List Test
+processTests s p own = (leb (s .n) p, noSuchProcess) ∷ own (processAt s p .phase)
 
--- The process that an operation names; 0 where it names none.
-abbrev pub processOf : Operation → ℕ
-processOf (Propose p v) = p
-processOf (Step p leader) = p
-processOf (Learn p) = p
-processOf (Crash p) = p
-processOf Malformed = 0
-
-abbrev pub isMalformed : Operation → Bool
-isMalformed (Propose p v) = false
-isMalformed (Step p leader) = false
-isMalformed (Learn p) = false
-isMalformed (Crash p) = false
-isMalformed Malformed = true
-
--- "Each entry 13 first, then its operation's own order": 13, 4, then its own.
+-- "Order: .. Proposal 3, 4, 5, 6. Work 3, 4, 7, 8, 9, 16. Look 3, 4, 7, 8, 16. Crash 3, 4, 7, 8." (3, session not sound, is in front of
+-- all in `Public`.)
 abbrev pub tests : Session → Counts → Operation → List Test
-tests s c o =
-    (isMalformed o, 13) ∷ (leb (s .n) (processOf o), 4) ∷ ownTests (processAt s (processOf o) .phase) c o
+tests s c (Propose p v) = processTests s p (λ φ. proposeTests φ v)
+tests s c (Step p leader) = processTests s p (λ φ. stepTests φ c)
+tests s c (Learn p) = processTests s p (λ φ. learnTests φ c)
+tests s c (Crash p) = processTests s p crashTests
 
 -- ---- the answers
 

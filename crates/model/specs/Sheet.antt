@@ -5,9 +5,11 @@ use mathlib.Core.List.{List, [], _∷_, _++_}
 use lib.ListN.{length}
 use lib.Dec.{leb, eqb}
 use Rattle.model.specs.declared.Limits.{Limits}
-use Rattle.model.specs.declared.Operation.{Operation}
-use Rattle.model.specs.declared.Operation.the-variants.{Propose, Step, Learn, Crash, Malformed}
+use Rattle.model.specs.declared.Operation.the-variants.{Propose, Step, Learn, Crash}
+use Rattle.model.specs.declared.Entry.{Entry}
+use Rattle.model.specs.declared.Entry.the-variants.{WellFormed, Malformed}
 use Rattle.model.specs.Bytes.{byteAt, word16, word32}
+use Rattle.model.specs.Numbers.{badSheet, badPairs, badRun}
 use Rattle.model.specs.Refusal.{Test, openTests, refusal}
 use Rattle.model.specs.Sound.{every}
 
@@ -60,9 +62,9 @@ hasHeader s = leb 4 (length s) && leb (length s) 65535 && leb (runCount s) 16 &&
 -- "Sheet 10, 1, 2, 11 over all pairs, 12 over all runs."
 abbrev pub sheetTests : Limits → List ℕ → List Test
 sheetTests most s =
-    (not (hasHeader s), 10)
+    (not (hasHeader s), badSheet)
     ∷ openTests most (processCount s) (roundLimit s)
-    ++ ((not (inOrder (headerEnd s) (length s) (runs s)), 11) ∷ (not (every wholeEntries (runs s)), 12) ∷ [])
+    ++ ((not (inOrder (headerEnd s) (length s) (runs s)), badPairs) ∷ (not (every wholeEntries (runs s)), badRun) ∷ [])
 
 unfoldable pub sheetRefusal : Limits → List ℕ → ℕ
 sheetRefusal most s = refusal (sheetTests most s)
@@ -70,25 +72,29 @@ sheetRefusal most s = refusal (sheetTests most s)
 -- ---- the entries: "An entry has 6 bytes: kind, seat, 32-bit value."
 
 -- "Kinds: 0 propose (any value), 1 work (value 0 is hint no, 1 is yes), 2 look (0), 3 crash (0)."
-abbrev pub entryOf : (kind p value : ℕ) → Operation
+abbrev pub entryOf : (kind p value : ℕ) → Entry
 entryOf kind p v =
-    cond (eqb kind 0) (Propose p v)
-    (cond (eqb kind 1) (cond (eqb v 0) (Step p false) (cond (eqb v 1) (Step p true) Malformed))
-    (cond (eqb kind 2) (cond (eqb v 0) (Learn p) Malformed)
-    (cond (eqb kind 3) (cond (eqb v 0) (Crash p) Malformed) Malformed)))
+    cond (eqb kind 0) (WellFormed (Propose p v))
+    (cond (eqb kind 1) (cond (eqb v 0) (WellFormed (Step p false)) (cond (eqb v 1) (WellFormed (Step p true)) Malformed))
+    (cond (eqb kind 2) (cond (eqb v 0) (WellFormed (Learn p)) Malformed)
+    (cond (eqb kind 3) (cond (eqb v 0) (WellFormed (Crash p)) Malformed) Malformed)))
 
-abbrev pub entryAt : List ℕ → (offset : ℕ) → Operation
+abbrev pub isMalformed : Entry → Bool
+isMalformed (WellFormed o) = false
+isMalformed Malformed = true
+
+abbrev pub entryAt : List ℕ → (offset : ℕ) → Entry
 entryAt s i = entryOf (byteAt s i) (byteAt s (i + 1)) (word32 s (i + 2))
 
 -- The entries at an offset, 6 bytes each, as many as told.
-abbrev pub entriesAt : List ℕ → (offset count : ℕ) → List Operation
+abbrev pub entriesAt : List ℕ → (offset count : ℕ) → List Entry
 entriesAt s i zero = []
 entriesAt s i (suc k) = entryAt s i ∷ entriesAt s (i + 6) k
 
 -- The entries of the runs, one run after another.
-abbrev pub entriesOf : List ℕ → List Run → List Operation
+abbrev pub entriesOf : List ℕ → List Run → List Entry
 entriesOf s [] = []
 entriesOf s (x ∷ xs) = entriesAt s (x .offset) (x .size / 6) ++ entriesOf s xs
 
-unfoldable pub entries : List ℕ → List Operation
+unfoldable pub entries : List ℕ → List Entry
 entries s = entriesOf s (runs s)

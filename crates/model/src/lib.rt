@@ -1,4 +1,6 @@
-// The data of a Janus session, with no function: what the definitions in specs/ and every other crate speak of.
+// The data of a Janus session and the numbers that are returned, with no function: what the definitions in specs/ and every other crate
+// speak of.
+pub mod numbers;
 
 // Where a process stands in its walk (document 01: the stance of a seat; 01's word for each is behind it).
 // k is a round that it reads on the way up, i a distance below its own round.
@@ -65,13 +67,17 @@ pub enum Access {
     WriteDecision,
 }
 
-// One operation with its process, number or hint (01: a proposal, a work turn, a look, a crash). An entry of a sheet that is none of
-// them is malformed; no function carries it out.
+// One operation with its process, number or hint (01: a proposal, a work turn, a look, a crash).
 pub enum Operation {
     Propose(usize, u32),
     Step(usize, bool),
     Learn(usize),
     Crash(usize),
+}
+
+// What the six bytes of a sheet's entry say: an operation, or nothing that 01 knows.
+pub enum Entry {
+    WellFormed(Operation),
     Malformed,
 }
 

@@ -1,9 +1,11 @@
 -- What is known where an operation is accepted: none of its tests holds.
 use Rattle.base.specs.Prelude.{ℕ, _<_, arith, _≡_, refl, Bool, true, false, cond, List, [], _∷_, _++_, eqb, ne-eqb, leb-false}
 use Rattle.base.specs.Bools.{cond-cases}
-use Rattle.model_laws.specs.Types.{Phase, Session, Counts, Operation, Propose, Step, Learn, Crash, Malformed}
+use Rattle.model_laws.specs.Types.{Phase, Session, Counts, Operation, Propose, Step, Learn, Crash}
 use Rattle.model.specs.Board.{processAt}
-use Rattle.model.specs.Refusal.{Test, refusal, ownTests, processOf, isMalformed, tests}
+use Rattle.model.specs.Machine.{processOf}
+use Rattle.model.specs.Numbers.{unsound}
+use Rattle.model.specs.Refusal.{Test, refusal, proposeTests, stepTests, learnTests, crashTests, processTests, tests}
 
 -- No test of the list holds.
 abbrev pub NoneHolds : List Test → Type 0
@@ -36,26 +38,39 @@ refusal-append (t ∷ ts) us other = front (t .0) (refusal-append ts us (other .
     front true later = rw (ne-eqb (t .1) 0 (other .0))
     front false later = later
 
--- The operations' own tests have numbers from 5 on: not 0, and not 3.
+-- The own tests of an operation, by the phase of its process, and that 4 is in front of them.
+abbrev pub ownTests : Phase → Counts → Operation → List Test
+ownTests φ c (Propose p v) = proposeTests φ v
+ownTests φ c (Step p leader) = stepTests φ c
+ownTests φ c (Learn p) = learnTests φ c
+ownTests φ c (Crash p) = crashTests φ
+
+pub tests-are : (s : Session) (c : Counts) (o : Operation) → tests s c o ≡ processTests s (processOf o) (λ φ. ownTests φ c o)
+tests-are s c (Propose p v) = refl
+tests-are s c (Step p leader) = refl
+tests-are s c (Learn p) = refl
+tests-are s c (Crash p) = refl
+
+-- They have numbers from 5 on: not 0, and not 3.
 own-without : (k : ℕ) → k < 5 → (φ : Phase) (c : Counts) (o : Operation) → Without k (ownTests φ c o)
 own-without k low φ c (Propose p v) = omega arith
 own-without k low φ c (Step p leader) = omega arith
 own-without k low φ c (Learn p) = omega arith
 own-without k low φ c (Crash p) = omega arith
-own-without k low φ c Malformed = tt
+
+tests-without : (k : ℕ) → k < 4 → (s : Session) (c : Counts) (o : Operation) → Without k (tests s c o)
+tests-without k low s c o = rw (tests-are s c o) (omega arith, own-without k (omega arith) _ c o)
 
 -- The machine never returns 3.
-pub never-three : (s : Session) (c : Counts) (o : Operation) → refusal (tests s c o) ≡ 3 → ⊥
-never-three s c o e =
-    omega (arith, returned 3 (tests s c o) (omega arith, (omega arith, own-without 3 (omega arith) _ c o)) e .0)
+pub never-three : (s : Session) (c : Counts) (o : Operation) → refusal (tests s c o) ≡ unsound → ⊥
+never-three s c o e = omega (arith, returned unsound (tests s c o) (tests-without unsound (omega arith) s c o) e .0)
 
--- An accepted operation is one, of a process of the session, and none of its own tests holds.
+-- An accepted operation is of a process of the session, and none of its own tests holds.
 pub record Accepted (s : Session) (c : Counts) (o : Operation) : Type 0 where
-  pub formed : isMalformed o ≡ false
   pub below : processOf o < s .n
   pub own : NoneHolds (ownTests (processAt s (processOf o) .phase) c o)
 
 pub accepted : (s : Session) (c : Counts) (o : Operation) → refusal (tests s c o) ≡ 0 → Accepted s c o
 accepted s c o e =
-    let a = none-holds (tests s c o) (omega arith, (omega arith, own-without 0 (omega arith) _ c o)) e in
-    record { formed = a .0; below = leb-false (s .n) (processOf o) (a .1 .0); own = a .1 .1 }
+    let a = rw (tests-are s c o) at (none-holds (tests s c o) (tests-without 0 (omega arith) s c o) e) in
+    record { below = leb-false (s .n) (processOf o) (a .0); own = a .1 }

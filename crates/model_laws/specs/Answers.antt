@@ -1,20 +1,21 @@
 -- The answer of an operation, by the number of its first refusal and by what is left where it is 0.
 use Rattle.base.specs.Prelude.{ℕ, suc, zero, _<_, _%_, arith, _≡_, refl, sym, _∙_, ap, Bool, true, false, cond, not, List, _∷_, leb, leb-false}
-use Rattle.model_laws.specs.Types.{Phase, Waiting, Crashed, Process, Session, Counts, Operation, Propose, Step, Learn, Crash, Malformed}
+use Rattle.model_laws.specs.Types.{Phase, Waiting, Crashed, Process, Session, Counts, Operation, Propose, Step, Learn, Crash}
 use Rattle.model.specs.Board.{processAt, withProcess, noCounts}
 use Rattle.model.specs.Window.{window}
 use Rattle.model.specs.Step.{counted, turn, stored, found, learnt, process}
-use Rattle.model.specs.Refusal.{Test, refusal, isMalformed, processOf, ownTests, tests, stepped, full}
-use Rattle.model.specs.Machine.{accessOf, becomes, after, countsAfter, answered, perform}
+use Rattle.model.specs.Numbers.{unsound, noSuchProcess}
+use Rattle.model.specs.Refusal.{Test, refusal, tests, processTests, stepped, full}
+use Rattle.model.specs.Machine.{accessOf, becomes, after, countsAfter, answered, perform, processOf}
 use Rattle.model.specs.Public.{operateAtAs, proposeAtAs, crashAtAs, operateAs, withCounts, withoutCounts}
 use Rattle.model.specs.Sound.{soundAtAs, soundAs}
 use Rattle.base.specs.Bools.{cond-same}
-use Rattle.model_laws.specs.Accepted.{NoneHolds, Accepted, accepted}
+use Rattle.model_laws.specs.Accepted.{NoneHolds, ownTests, tests-are, Accepted, accepted}
 use Rattle.model_laws.specs.Sounds.{sound-few}
 
 -- The number of the first refusal of a public operation, on a session or (poll true) on a poll.
 abbrev pub codeAs : (poll : Bool) → Session → Counts → Operation → ℕ
-codeAs poll s c o = refusal ((not (soundAs poll s), 3) ∷ tests s c o)
+codeAs poll s c o = refusal ((not (soundAs poll s), unsound) ∷ tests s c o)
 
 abbrev pub codeOf : Session → Counts → Operation → ℕ
 codeOf s c o = codeAs false s c o
@@ -54,11 +55,11 @@ module _ (poll : Bool) (W : ℕ) (s : Session) (c : Counts) where
   -- A proposal and a crash leave any counts.
   pub propose-counts : (p v : ℕ) → withCounts (proposeAtAs poll W s p v) c ≡ operateAtAs poll W s c (Propose p v)
   unfolding proposeAtAs operateAtAs answered countsAfter accessOf counted
-  propose-counts p v = stepped-counts (refusal ((not (soundAtAs poll W s), 3) ∷ tests s c (Propose p v))) s (after W s (Propose p v)) noCounts c
+  propose-counts p v = stepped-counts (refusal ((not (soundAtAs poll W s), unsound) ∷ tests s c (Propose p v))) s (after W s (Propose p v)) noCounts c
 
   pub crash-counts : (p : ℕ) → withCounts (crashAtAs poll W s p) c ≡ operateAtAs poll W s c (Crash p)
   unfolding crashAtAs operateAtAs answered countsAfter accessOf counted
-  crash-counts p = stepped-counts (refusal ((not (soundAtAs poll W s), 3) ∷ tests s c (Crash p))) s (after W s (Crash p)) noCounts c
+  crash-counts p = stepped-counts (refusal ((not (soundAtAs poll W s), unsound) ∷ tests s c (Crash p))) s (after W s (Crash p)) noCounts c
 
 -- ---- in service
 
@@ -66,7 +67,7 @@ module _ (poll : Bool) (W : ℕ) (s : Session) (c : Counts) where
 pub admitted : (poll : Bool) (s : Session) (c : Counts) (o : Operation) → codeAs poll s c o ≡ 0 → (soundAs poll s ≡ true) × Accepted s c o
 admitted poll s c o e = go (soundAs poll s) refl e
   where
-    go : (b : Bool) → soundAs poll s ≡ b → cond (not b) 3 (refusal (tests s c o)) ≡ 0 → (soundAs poll s ≡ true) × Accepted s c o
+    go : (b : Bool) → soundAs poll s ≡ b → cond (not b) unsound (refusal (tests s c o)) ≡ 0 → (soundAs poll s ≡ true) × Accepted s c o
     go true eb e′ = (eb, accepted s c o e′)
     go false eb e′ = absurd (omega arith)
 
@@ -78,33 +79,32 @@ accepted-counts L q x c (Propose p v) own = cond-same (full c) c
 accepted-counts L q x c (Step p leader) own = rw (own .1 .1 .1 .0)
 accepted-counts L q x c (Learn p) own = rw (own .1 .1 .0)
 accepted-counts L q x c (Crash p) own = cond-same (full c) c
-accepted-counts L q x c Malformed own = cond-same (full c) c
 
 -- A sound session has few processes, so that the index at which the code reads one is its number.
 pub index-is : (poll : Bool) (s : Session) (p : ℕ) → soundAs poll s ≡ true → p < s .n → p % 64 ≡ p
 index-is poll s p t below = omega (arith, sound-few poll s t)
 
 -- The number of a call on process p, by its own tests on the record that the code reads.
-pub first-is : (poll : Bool) (s : Session) (p : ℕ) (tests : Phase → List Test) {b : Bool} {own k : ℕ} → b ≡ soundAs poll s →
-    own ≡ refusal (tests (processAt s (p % 64) .phase)) →
-    k ≡ cond (not b) 3 (cond (leb (s .n) p) 4 own) →
-    k ≡ refusal ((not (soundAs poll s), 3) ∷ (leb (s .n) p, 4) ∷ tests (processAt s p .phase))
-first-is poll s p tests eb eo ek = ek ∙ rw (eb, eo) (go (soundAs poll s) (leb (s .n) p) refl refl)
+pub first-is : (poll : Bool) (s : Session) (p : ℕ) (own : Phase → List Test) {b : Bool} {o k : ℕ} → b ≡ soundAs poll s →
+    o ≡ refusal (own (processAt s (p % 64) .phase)) →
+    k ≡ cond (not b) unsound (cond (leb (s .n) p) noSuchProcess o) →
+    k ≡ refusal ((not (soundAs poll s), unsound) ∷ processTests s p own)
+first-is poll s p own eb eo ek = ek ∙ rw (eb, eo) (go (soundAs poll s) (leb (s .n) p) refl refl)
   where
     go : (b t : Bool) → soundAs poll s ≡ b → leb (s .n) p ≡ t →
-        cond (not b) 3 (cond t 4 (refusal (tests (processAt s (p % 64) .phase))))
-        ≡ cond (not b) 3 (cond t 4 (refusal (tests (processAt s p .phase))))
+        cond (not b) unsound (cond t noSuchProcess (refusal (own (processAt s (p % 64) .phase))))
+        ≡ cond (not b) unsound (cond t noSuchProcess (refusal (own (processAt s p .phase))))
     go true true eb et = refl
     go true false eb et = rw (index-is poll s p eb (leb-false (s .n) p et))
     go false t eb et = refl
 
 module _ (poll : Bool) (s : Session) (c : Counts) (o : Operation) where
   -- The number, with the own tests made on the record that the code reads.
-  pub code-is : {b : Bool} {own k : ℕ} → isMalformed o ≡ false → b ≡ soundAs poll s →
+  pub code-is : {b : Bool} {own k : ℕ} → b ≡ soundAs poll s →
       own ≡ refusal (ownTests (processAt s (processOf o % 64) .phase) c o) →
-      k ≡ cond (not b) 3 (cond (leb (s .n) (processOf o)) 4 own) →
+      k ≡ cond (not b) unsound (cond (leb (s .n) (processOf o)) noSuchProcess own) →
       k ≡ codeAs poll s c o
-  code-is formed eb eo ek = first-is poll s (processOf o) (λ φ. ownTests φ c o) eb eo ek ∙ rw formed
+  code-is eb eo ek = rw (tests-are s c o) (first-is poll s (processOf o) (λ φ. ownTests φ c o) eb eo ek)
 
   module _ {k : ℕ} (code : k ≡ codeAs poll s c o) where
     pub operate-refused : (k ≡ 0 → ⊥) → record { code = k; session = s; counts = c } ≡ operateAs poll s c o

@@ -3,13 +3,14 @@ use Rattle.base.specs.Prelude.{ℕ, zero, suc, _<_, _≤_, _≡_, refl, _⊎_, 
 use lib.Seq.{set-getD}
 use Rattle.base.specs.Arrays.{getD-set-keeps}
 use Rattle.base.specs.Bools.{cond-cases}
-use Rattle.model_laws.specs.Types.{Phase, Waiting, Exhausted, Process, Session, Counts, Operation, Propose, Step, Learn, Crash, Malformed}
+use Rattle.model_laws.specs.Types.{Phase, Waiting, Exhausted, Process, Session, Counts, Operation, Propose, Step, Learn, Crash}
 use Rattle.model.specs.declared.Status.the-variants.{Spent, Gone}
 use Rattle.model.specs.Board.{processAt, withProcess, idle}
 use Rattle.model.specs.Step.{waitingRule, accessAt, access, nextAt, next, learnt, found, stored, turn, counted, process}
-use Rattle.model.specs.Refusal.{status, isMalformed, refusal, full, ownTests, processOf, tests, stepped}
-use Rattle.model.specs.Machine.{accessOf, becomes, after, countsAfter, answered, perform}
-use Rattle.model_laws.specs.Accepted.{NoneHolds, Accepted, accepted}
+use Rattle.model.specs.Numbers.{processSpent}
+use Rattle.model.specs.Refusal.{status, refusal, full, tests, stepped}
+use Rattle.model.specs.Machine.{accessOf, becomes, after, countsAfter, answered, perform, processOf}
+use Rattle.model_laws.specs.Accepted.{NoneHolds, ownTests, Accepted, accepted}
 use Rattle.model_laws.specs.Operations.{stored-same}
 
 module _ (W : ℕ) (s : Session) (c : Counts) (p : ℕ) (below : p < s .n) where
@@ -23,7 +24,7 @@ module _ (W : ℕ) (s : Session) (c : Counts) (p : ℕ) (below : p < s .n) where
       rw (lt-leb (s .n) p below, waits, room, le-ltb (processAt s p .round) (s .limit) last) refl
 
   -- ".. and each later one 9 while the seat stays spent", whatever its hint.
-  pub spent-refused : (leader : Bool) → processAt s p .phase ≡ Exhausted → perform W s c (Step p leader) ≡ record { code = 9; session = s; counts = c }
+  pub spent-refused : (leader : Bool) → processAt s p .phase ≡ Exhausted → perform W s c (Step p leader) ≡ record { code = processSpent; session = s; counts = c }
   unfolding perform answered
   spent-refused leader spent = rw (lt-leb (s .n) p below, spent) refl
 
@@ -53,7 +54,6 @@ own-spent W s c (Learn p) a spent =
     (λ t. inl (rw (set-getD (s .processes) p idle) refl))
     (λ t. inr (inl (refl, eqb-false (s .decision) 0 t)))
 own-spent W s c (Crash p) a spent = inr (inr refl)
-own-spent W s c Malformed a spent = absurd (true≢false (a .formed))
 
 -- Every other operation, accepted or refused, of whatever process, leaves the record of a spent process as it is.
 pub spent-stays : (W : ℕ) (s : Session) (c : Counts) (o : Operation) (p : ℕ) → processAt s p .phase ≡ Exhausted →
@@ -77,16 +77,15 @@ abbrev pub Ended : Phase → Type 0
 Ended φ = (status φ ≡ Spent) ⊎ (status φ ≡ Gone)
 
 -- What an accepted operation makes of such a process: a look leaves it or makes it decided, a crash makes it crashed, and no other is accepted.
-becomes-ended : (W L : ℕ) (q : Process) (c : Counts) (o : Operation) (x : ℕ) → isMalformed o ≡ false → NoneHolds (ownTests (q .phase) c o) →
+becomes-ended : (W L : ℕ) (q : Process) (c : Counts) (o : Operation) (x : ℕ) → NoneHolds (ownTests (q .phase) c o) →
     Ended (q .phase) → Ended (becomes W L q o x .phase)
 unfolding becomes learnt
-becomes-ended W L q c (Propose p v) x formed own ended =
+becomes-ended W L q c (Propose p v) x own ended =
     ⊎-elim (λ e. absurd (true≢false (rw e at (own .1 .0)))) (λ e. absurd (true≢false (rw e at (own .1 .0)))) ended
-becomes-ended W L q c (Step p leader) x formed own ended =
+becomes-ended W L q c (Step p leader) x own ended =
     ⊎-elim (λ e. absurd (true≢false (rw e at (own .1 .1 .0)))) (λ e. absurd (true≢false (rw e at (own .1 .0)))) ended
-becomes-ended W L q c (Learn p) x formed own ended = cond-cases (λ (r : Process). Ended (r .phase)) (eqb x 0) (λ t. ended) (λ t. inr refl)
-becomes-ended W L q c (Crash p) x formed own ended = inr refl
-becomes-ended W L q c Malformed x formed own ended = absurd (true≢false formed)
+becomes-ended W L q c (Learn p) x own ended = cond-cases (λ (r : Process). Ended (r .phase)) (eqb x 0) (λ t. ended) (λ t. inr refl)
+becomes-ended W L q c (Crash p) x own ended = inr refl
 
 -- No operation, accepted or refused, of whatever process, has such a process work again.
 pub ended-stays : (W : ℕ) (s : Session) (c : Counts) (o : Operation) (p : ℕ) → Ended (processAt s p .phase) →
@@ -101,7 +100,7 @@ ended-stays W s c o p ended = go (refusal (tests s c o)) refl
         (elim (ℕ-discrete p m) [
           | yes e ↦
               rw e
-              (getD-set-keeps (λ (q : Process). Ended (q .phase)) (s .processes) m _ idle (becomes-ended W (s .limit) _ c o _ (a .formed) (a .own) (rw e at ended))
+              (getD-set-keeps (λ (q : Process). Ended (q .phase)) (s .processes) m _ idle (becomes-ended W (s .limit) _ c o _ (a .own) (rw e at ended))
               (rw e at ended))
           | no ne ↦ rw (getD-set-other (s .processes) m p _ idle ne) ended
         ])

@@ -1,14 +1,14 @@
 -- Each accepted operation of the machine leaves a sound session, and so does each operation, accepted or refused.
 use Rattle.base.specs.Prelude.{ℕ, suc, zero, _≤_, _<_, arith, _≡_, refl, Bool, true, false, _&&_, leb, not-false, leb-true, le-leb, eqb-false}
-use Rattle.model_laws.specs.Types.{Access, Nothing, ReadValue, WriteValue, ReadMark, SetMark, ReadDecision, WriteDecision, Process, Session, Counts, Limits, Waiting, Crashed, Operation, Propose, Step, Learn, Crash, Malformed}
+use Rattle.model_laws.specs.Types.{Access, Nothing, ReadValue, WriteValue, ReadMark, SetMark, ReadDecision, WriteDecision, Process, Session, Counts, Limits, Waiting, Crashed, Operation, Propose, Step, Learn, Crash}
 use Rattle.model.specs.Board.{processAt, opened, maxProcesses, maxRounds}
 use Rattle.model.specs.Step.{access, stored, turn, found}
-use Rattle.model.specs.Refusal.{refusal, changed, stepped, openTestsAt, ownTests, processOf, tests}
-use Rattle.model.specs.Machine.{openingAt, accessOf, becomes, after, countsAfter, answered, perform}
+use Rattle.model.specs.Refusal.{refusal, changed, stepped, openTestsAt, tests}
+use Rattle.model.specs.Machine.{openingAt, accessOf, becomes, after, countsAfter, answered, perform, processOf}
 use Rattle.model.specs.Sound.{soundAt, soundProcess, pollRegisters, soundAtAs, soundProcessAs}
 use Rattle.base.specs.Bools.{and-left, and-right}
 use Rattle.model_laws.specs.Every.{every-replicate, every-drop}
-use Rattle.model_laws.specs.Accepted.{NoneHolds, none-holds, Accepted, accepted}
+use Rattle.model_laws.specs.Accepted.{ownTests, NoneHolds, none-holds, Accepted, accepted}
 use Rattle.model_laws.specs.Phases.{process-facts, inside-some}
 use Rattle.model_laws.specs.Ranges.{InRange, access-range}
 use Rattle.model_laws.specs.Keeps.{next-sound, learnt-sound, placed-sound}
@@ -51,7 +51,6 @@ operation-reach W L M q (Step p leader) low t =
     let f = process-facts W L q t in access-range W L M (q .round) (q .phase) leader (f .round) low (f .phase)
 operation-reach W L M q (Learn p) low t = tt
 operation-reach W L M q (Crash p) low t = tt
-operation-reach W L M q Malformed low t = tt
 
 pub operation-range : (W L : ℕ) (q : Process) (o : Operation) → soundProcess W L q ≡ true → InRange L (accessOf L q o)
 operation-range W L q o = operation-reach W L L q o (omega arith)
@@ -67,7 +66,6 @@ becomes-sound W L q c (Learn p) x wide t own = learnt-sound W L q x t
 becomes-sound W L q c (Crash p) x wide t own =
     let f = process-facts W L q t in
     placed-sound W L Crashed _ _ refl (inside-some f (own .0), f .round, tt)
-becomes-sound W L q c Malformed x wide t own = t
 
 module _ (W : ℕ) (s : Session) (o : Operation) where
   -- No operation changes n or the limit.

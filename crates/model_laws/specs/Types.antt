@@ -9,9 +9,11 @@ pub use Rattle.model.specs.declared.Counts.{Counts}
 pub use Rattle.model.specs.declared.DecisionAnswer.{DecisionAnswer}
 pub use Rattle.model.specs.declared.Ending.{Ending}
 pub use Rattle.model.specs.declared.Ending.the-variants.{BudgetEnded, Finished, Refused, Rejected}
+pub use Rattle.model.specs.declared.Entry.{Entry}
+pub use Rattle.model.specs.declared.Entry.the-variants.{Malformed, WellFormed}
 pub use Rattle.model.specs.declared.Limits.{Limits}
 pub use Rattle.model.specs.declared.Operation.{Operation}
-pub use Rattle.model.specs.declared.Operation.the-variants.{Crash, Learn, Malformed, Propose, Step}
+pub use Rattle.model.specs.declared.Operation.the-variants.{Crash, Learn, Propose, Step}
 pub use Rattle.model.specs.declared.Phase.{Phase}
 pub use Rattle.model.specs.declared.Phase.the-variants.{Adopt, HasAdopted, CheckMark, CheckValue, Commit, HasCommitted, Compare, Crashed, Decided, Exhausted, Flag, Idle, Scan, Waiting, Write}
 pub use Rattle.model.specs.declared.Process.{Process}

@@ -2,7 +2,6 @@
 use Prim.Native.Nat.{ℕ, suc, zero}
 use mathlib.Core.List.{List, _∷_}
 use mathlib.Core.Bool.{true}
-use lib.Dec.{leb}
 use Rattle.model.specs.declared.Process.{Process}
 use Rattle.model.specs.declared.Session.{Session}
 use Rattle.model.specs.declared.Counts.{Counts}
@@ -14,7 +13,7 @@ use Rattle.model.specs.declared.Stepped.{Stepped}
 use Rattle.model.specs.Window.{window}
 use Rattle.model.specs.Board.{limitsOf, processAt}
 use Rattle.model.specs.Step.{found, turn, counted}
-use Rattle.model.specs.Refusal.{Test, refusal, learnTests, stepped}
+use Rattle.model.specs.Refusal.{Test, refusal, learnTests, processTests, stepped}
 use Rattle.model.specs.Machine.{openingAt, perform}
 use Rattle.model_poll.specs.declared.Answer.{Answer}
 use Rattle.model_poll.specs.declared.Answer.the-variants.{Pending}
@@ -36,7 +35,7 @@ pollOpening caller n = pollOpeningAt (limitsOf caller) (window n) n
 -- "Numbers 1, 3 to 8 and 16 in the sessions' order; a turn or crash of an answered seat gives 8": after 3, those of a turn are 4, 7, 8, 16, which are a
 -- look's. No poll has a spent process, and no turn gives 9.
 abbrev pub turnTests : Session → Counts → (p : ℕ) → List Test
-turnTests s c p = (leb (s .n) p, 4) ∷ learnTests (processAt s p .phase) c
+turnTests s c p = processTests s p (λ φ. learnTests φ c)
 
 -- The poll and the counts after an accepted turn of process p.
 unfoldable pub turnAfter : (W : ℕ) → Session → (p : ℕ) → Session

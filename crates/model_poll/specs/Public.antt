@@ -9,6 +9,7 @@ use Rattle.model.specs.declared.Counts.{Counts}
 use Rattle.model.specs.declared.Changed.{Changed}
 use Rattle.model.specs.declared.ProcessAnswer.{ProcessAnswer}
 use Rattle.model.specs.Window.{window}
+use Rattle.model.specs.Numbers.{unsound}
 use Rattle.model.specs.Sound.{soundAtAs}
 use Rattle.model.specs.Public.{proposeAtAs, crashAtAs}
 use Rattle.model.specs.ReadOut.{processRecordAs}
@@ -24,7 +25,7 @@ pollProposeAt W s p v = proposeAtAs true W s p v
 
 -- Turn 3, 4, 7, 8, 16.
 unfoldable pub pollTurnAt : (W : ℕ) → Session → (p : ℕ) → Counts → PollStepped
-pollTurnAt W s p c = turned ((not (soundAtAs true W s), 3) ∷ turnTests s c p) W s c p
+pollTurnAt W s p c = turned ((not (soundAtAs true W s), unsound) ∷ turnTests s c p) W s c p
 
 -- Crash 3, 4, 7, 8.
 abbrev pub pollCrashAt : (W : ℕ) → Session → (p : ℕ) → Changed

@@ -4,6 +4,7 @@ use Rattle.model_laws.specs.Types.{Process, Session, Counts, Access, Nothing, R
 use Rattle.model.specs.Window.{window}
 use Rattle.model.specs.Board.{processAt, idle, with, maxRounds}
 use Rattle.model.specs.Step.{access, accessAt, counted, found}
+use Rattle.model.specs.Numbers.{unsound}
 use Rattle.model.specs.Refusal.{Test, refusal, status, isOutside, isGone, full, learnTests, stepped}
 use Rattle.model.specs.Sound.{soundAs, soundPoll}
 use Rattle.model_laws.specs.Accepted.{none-holds}
@@ -29,7 +30,7 @@ turn-accepted s c p e =
 
 -- ---- a turn of any poll
 
-module _ (s : Session) (c : Counts) (p : ℕ) {k : ℕ} (code : k ≡ refusal ((not (soundPoll s), 3) ∷ turnTests s c p)) where
+module _ (s : Session) (c : Counts) (p : ℕ) {k : ℕ} (code : k ≡ refusal ((not (soundPoll s), unsound) ∷ turnTests s c p)) where
   -- Refused: nothing changes, and no answer is given.
   pub turn-refused : (k ≡ 0 → ⊥) → record { code = k; session = s; counts = c; answer = Pending } ≡ pollTurn s p c
   unfolding pollTurnAt turned soundAs
@@ -58,6 +59,6 @@ module _ (s : Session) (c : Counts) (p : ℕ) {k : ℕ} (code : k ≡ refusal ((
         a ≡ answerOf (processAt t p) → record { code = k; session = t; counts = d; answer = a } ≡ pollTurn s p c
     unfolding pollTurnAt turned soundAs
     turn-left et ed ea =
-        let zero-is : 0 ≡ refusal ((not (soundPoll s), 3) ∷ turnTests s c p) = sym none ∙ code in
+        let zero-is : 0 ≡ refusal ((not (soundPoll s), unsound) ∷ turnTests s c p) = sym none ∙ code in
         let counts = rw (turn-known .1 .room) at ed in
         rw (ea, none, ← zero-is, counts, et) refl

@@ -6,6 +6,7 @@ use Rattle.model.specs.declared.Status.the-variants.{Active, Gone}
 use Rattle.model.specs.Window.{window}
 use Rattle.model.specs.Board.{valueAt, markAt, processAt, withProcess, idle}
 use Rattle.model.specs.Step.{accessAt, access, nextAt, next, found, stored, turn, counted, process}
+use Rattle.model.specs.Numbers.{unsound, processGone}
 use Rattle.model.specs.Refusal.{full, status}
 use Rattle.model.specs.Machine.{answered, perform}
 use Rattle.model.specs.Sound.{soundPhaseAs, soundAtAs, soundAs, sound, soundPoll}
@@ -64,11 +65,11 @@ module _ (W : ℕ) (s : Session) (c : Counts) (p : ℕ) (below : p < s .n) where
 
   -- "A turn or crash of an answered seat gives 8", and changes nothing.
   module _ (gone : status (q .phase) ≡ Gone) where
-    pub gone-turn : pollPerform W s c (turns p) ≡ record { code = 8; session = s; counts = c; answer = Pending }
+    pub gone-turn : pollPerform W s c (turns p) ≡ record { code = processGone; session = s; counts = c; answer = Pending }
     unfolding pollPerform turned
     gone-turn = rw (lt-leb (s .n) p below, gone) refl
 
-    pub gone-crash : pollPerform W s c (crashes p) ≡ record { code = 8; session = s; counts = c; answer = Pending }
+    pub gone-crash : pollPerform W s c (crashes p) ≡ record { code = processGone; session = s; counts = c; answer = Pending }
     unfolding pollPerform perform answered
     gone-crash = rw (lt-leb (s .n) p below, gone) refl
 
@@ -121,5 +122,5 @@ module _ (s : Session) where
         false-if (soundAtAs true (window (s .n)) s) (λ t. omega (arith, ltb-true (processAt s p .round) (window (s .n)) (rule Waiting e t)))
 
 -- What is not sound is refused with 3, by each operation that sessions and polls share.
-pub unsound-refused : (poll : Bool) (s : Session) (c : Counts) (o : Operation) → soundAs poll s ≡ false → codeAs poll s c o ≡ 3
+pub unsound-refused : (poll : Bool) (s : Session) (c : Counts) (o : Operation) → soundAs poll s ≡ false → codeAs poll s c o ≡ unsound
 unsound-refused poll s c o unsound = rw unsound refl

@@ -4,6 +4,7 @@ use Rattle.base.specs.Bools.{and-left, and-right, and-both}
 use Rattle.model.specs.Window.{window}
 use Rattle.model_laws.specs.Types.{Caller, Server, Cart, Limits}
 use Rattle.model.specs.Board.{limitsOf, UpToServer, opened, maxProcesses, maxRounds}
+use Rattle.model.specs.Numbers.{badProcessCount}
 use Rattle.model.specs.Refusal.{refusal, openTests, changed}
 use Rattle.model.specs.Machine.{openingAt}
 use Rattle.model.specs.Sound.{pollRegisters, soundAtAs}
@@ -34,13 +35,13 @@ open-first caller n = go (leb 1 n && leb n (limitsOf caller .processes)) refl
     go false t = refl
 
 -- "(Numbers 1, ..": no other.
-pub poll-opening-code : (caller : Caller) (n : ℕ) → (pollOpening caller n .code ≡ 0) ⊎ (pollOpening caller n .code ≡ 1)
+pub poll-opening-code : (caller : Caller) (n : ℕ) → (pollOpening caller n .code ≡ 0) ⊎ (pollOpening caller n .code ≡ badProcessCount)
 unfolding pollOpeningAt openingAt
 poll-opening-code caller n = rw (open-first caller n) (go (leb 1 n && leb n (limitsOf caller .processes)))
   where
     go : (b : Bool) →
         let k : ℕ = cond (not b) 1 0 in
-        (changed k (opened 0 0) (opened n (window n)) .code ≡ 0) ⊎ (changed k (opened 0 0) (opened n (window n)) .code ≡ 1)
+        (changed k (opened 0 0) (opened n (window n)) .code ≡ 0) ⊎ (changed k (opened 0 0) (opened n (window n)) .code ≡ badProcessCount)
     go true = inl refl
     go false = inr refl
 

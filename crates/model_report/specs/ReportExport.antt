@@ -5,6 +5,7 @@ use mathlib.Core.Bool.{Bool, cond}
 use mathlib.Core.List.{List, _++_}
 use lib.ListN.{length, drop}
 use lib.Dec.{leb}
+use Rattle.model.specs.Numbers.{badBuffer}
 use Rattle.model_report.specs.Report.{report}
 
 -- Whether the text fits.
@@ -13,7 +14,7 @@ fits t b = leb (length t) (length b)
 
 -- The text's size, or 15.
 abbrev pub textCode : (text buffer : List ℕ) → ℕ
-textCode t b = cond (fits t b) (length t) 15
+textCode t b = cond (fits t b) (length t) badBuffer
 
 -- The text from the first byte on, and the other bytes as they were.
 abbrev pub textBuffer : (text buffer : List ℕ) → List ℕ

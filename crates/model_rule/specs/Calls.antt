@@ -5,12 +5,11 @@ use mathlib.Core.List.{List, [], _∷_, _++_}
 use Rattle.model.specs.declared.Session.{Session}
 use Rattle.model.specs.declared.Counts.{Counts}
 use Rattle.model.specs.declared.Operation.{Operation}
-use Rattle.model.specs.declared.Operation.the-variants.{Propose, Step, Learn, Crash, Malformed}
+use Rattle.model.specs.declared.Operation.the-variants.{Propose, Step, Learn, Crash}
 use Rattle.model.specs.declared.Changed.{Changed}
 use Rattle.model.specs.Window.{window}
 use Rattle.model.specs.Board.{processAt}
-use Rattle.model.specs.Refusal.{processOf}
-use Rattle.model.specs.Machine.{perform}
+use Rattle.model.specs.Machine.{perform, processOf}
 use Rattle.model.specs.Public.{withCounts, proposeAt, stepAt, learnAt, crashAt}
 use Rattle.model_rule.specs.Event.{Event, eventsOf}
 
@@ -50,13 +49,12 @@ pub record Call : Type 0 where
   pub answer : Changed
   pub after : Counts
 
--- What the called operation says at window W, where the call was given session s. No operation carries out a malformed one.
+-- What the called operation says at window W, where the call was given session s.
 abbrev pub PromisedAt : (W : ℕ) → Session → Counts → Operation → (answer : Changed) → (after : Counts) → Type 0
 PromisedAt W s c (Propose p v) a c′ = (a ≡ proposeAt W s p v) × (c′ ≡ c)
 PromisedAt W s c (Step p leader) a c′ = withCounts a c′ ≡ stepAt W s p leader c
 PromisedAt W s c (Learn p) a c′ = withCounts a c′ ≡ learnAt W s p c
 PromisedAt W s c (Crash p) a c′ = (a ≡ crashAt W s p) × (c′ ≡ c)
-PromisedAt W s c Malformed a c′ = ⊥
 
 -- In service, at the window of the session's n: what the contract of the called function says, `session_propose::propose`,
 -- `session_step_lent::step`, `session_step_lent::learn`, `session_crash::crash`.

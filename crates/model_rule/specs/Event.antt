@@ -7,7 +7,7 @@ use Rattle.model.specs.declared.Phase.the-variants.{Idle, Waiting, Write, Scan,
 use Rattle.model.specs.declared.Phase.the-variants.{CheckValue, Commit, Exhausted, Crashed, Decided, HasCommitted, HasAdopted}
 use Rattle.model.specs.declared.Process.{Process}
 use Rattle.model.specs.declared.Operation.{Operation}
-use Rattle.model.specs.declared.Operation.the-variants.{Propose, Step, Learn, Crash, Malformed}
+use Rattle.model.specs.declared.Operation.the-variants.{Propose, Step, Learn, Crash}
 
 pub data Event : Type 0 where
   proposal : (value : ℕ) → Event
@@ -48,7 +48,6 @@ eventsOf q D (Propose p v) = proposal v ∷ []
 eventsOf q D (Step p leader) = stepEvents p (q .round) (q .estimate) (q .phase)
 eventsOf q D (Learn p) = lookEvents p D
 eventsOf q D (Crash p) = []
-eventsOf q D Malformed = []
 
 -- ---- what stands in a past
 

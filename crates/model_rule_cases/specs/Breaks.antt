@@ -3,8 +3,7 @@ use Rattle.base.specs.Prelude.{ℕ, _≡_, refl, sym, _∙_, ap, subst, Bool, t
 use Rattle.base.specs.Bools.{and-left, and-right, cond-cases}
 use Rattle.model.specs.declared.Caller.the-variants.{Server}
 use Rattle.model.specs.Board.{limitsOf}
-use Rattle.model.specs.Refusal.{processOf}
-use Rattle.model.specs.Machine.{openingAt}
+use Rattle.model.specs.Machine.{openingAt, processOf}
 use Rattle.model.specs.Sound.{every}
 use Rattle.model_rule.specs.Event.{Event, proposal, write, flag, commit, decision, here, there, Happened, DecidedOn}
 use Rattle.model_rule_cases.specs.Play.{Move, operationOf, played}

@@ -6,13 +6,14 @@ use mathlib.Core.List.{List, [], _∷_, _++_}
 use lib.ListN.{length}
 use lib.Dec.{leb, ltb, eqb}
 use Rattle.model.specs.declared.Limits.{Limits}
-use Rattle.model.specs.declared.Operation.{Operation}
+use Rattle.model.specs.declared.Entry.{Entry}
 use Rattle.model.specs.declared.CountAnswer.{CountAnswer}
 use Rattle.model.specs.Bytes.{bytes16}
-use Rattle.model.specs.Refusal.{Test, refusal, openTests, isMalformed}
+use Rattle.model.specs.Numbers.{badRun, badCuts, badEntry, badBuffer}
+use Rattle.model.specs.Refusal.{Test, refusal, openTests}
 use Rattle.model.specs.Sound.{every}
 use Rattle.model.specs.ReadOut.{countAnswer, buffered}
-use Rattle.model.specs.Sheet.{Run, entriesAt}
+use Rattle.model.specs.Sheet.{Run, entriesAt, isMalformed}
 
 -- ---- the sheet
 
@@ -46,21 +47,21 @@ abbrev pub writable : (n L : ℕ) (entries lengths : List ℕ) → Bool
 writable n L es ms = leb (length ms) 16 && leb (length (sheetOf n L es ms)) 65535 && eqb (total ms) (length es / 6)
 
 -- 01, 13: "entry with an unknown kind or a wrong value".
-abbrev pub wellFormed : List Operation → Bool
-wellFormed os = every (λ o. not (isMalformed o)) os
+abbrev pub wellFormed : List Entry → Bool
+wellFormed xs = every (λ x. not (isMalformed x)) xs
 
 -- What the bytes of an entry buffer say.
-abbrev pub bufferEntries : (entries : List ℕ) → List Operation
+abbrev pub bufferEntries : (entries : List ℕ) → List Entry
 bufferEntries es = entriesAt es 0 (length es / 6)
 
 -- "Order: 1, 2, 12 for the entry buffer, 17, 13, then 15 if the output is too short", within a caller's limits; room is the output's length.
 abbrev pub writeTests : Limits → (n L : ℕ) (entries lengths : List ℕ) (room : ℕ) → List Test
 writeTests most n L es ms room =
     openTests most n L
-    ++ ((not (wholeBuffer es), 12)
-    ∷ (not (writable n L es ms), 17)
-    ∷ (not (wellFormed (bufferEntries es)), 13)
-    ∷ (ltb room (length (sheetOf n L es ms)), 15)
+    ++ ((not (wholeBuffer es), badRun)
+    ∷ (not (writable n L es ms), badCuts)
+    ∷ (not (wellFormed (bufferEntries es)), badEntry)
+    ∷ (ltb room (length (sheetOf n L es ms)), badBuffer)
     ∷ [])
 
 unfoldable pub writeRefusal : Limits → (n L : ℕ) (entries lengths : List ℕ) (room : ℕ) → ℕ

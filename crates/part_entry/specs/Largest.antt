@@ -1,10 +1,20 @@
 -- Document 01, "Turn sheets": "Kinds: 0 propose (any value), 1 work (value 0 is hint no, 1 is yes), 2 look (0), 3 crash (0)", as the largest value of each.
-use Rattle.base.specs.Prelude.{ℕ, zero, suc, _<_, arith, _≡_, refl, false, not, List, [], _∷_, getD, leb, le-leb, lt-leb, ne-eqb}
-use Rattle.model.specs.Refusal.{isMalformed}
-use Rattle.model.specs.Sheet.{entryOf}
+use Rattle.base.specs.Prelude.{ℕ, zero, suc, _<_, _≤_, arith, _≡_, refl, false, not, List, [], _∷_, getD, leb, le-leb, lt-leb, eqb, ne-eqb}
+use Rattle.model.specs.declared.Operation.the-variants.{Step}
+use Rattle.model.specs.declared.Entry.the-variants.{WellFormed, Malformed}
+use Rattle.model.specs.Sheet.{entryOf, isMalformed}
 
 abbrev pub largest : List ℕ
 largest = 4294967295 ∷ 1 ∷ 0 ∷ 0 ∷ []
+
+-- A work turn: the hint is yes where the value is not 0.
+pub hinted : (kind p v : ℕ) → kind ≡ 1 → v ≤ 1 → entryOf kind p v ≡ WellFormed (Step p (not (eqb v 0)))
+hinted kind p zero e low = rw e
+hinted kind p (suc zero) e low = rw e
+hinted kind p (suc (suc v)) e low = absurd (omega arith)
+
+pub unhinted : (kind p v : ℕ) → kind ≡ 1 → 1 < v → entryOf kind p v ≡ Malformed
+unhinted kind p v e high = rw (e, ne-eqb v 0 (λ z. omega arith), ne-eqb v 1 (λ z. omega arith))
 
 -- An entry of a kind is well-formed exactly if its value is at most the kind's largest, whatever its process.
 pub formed-largest : (kind p v : ℕ) → kind < 4 → v < 4294967296 → leb v (getD largest kind 0) ≡ not (isMalformed (entryOf kind p v))

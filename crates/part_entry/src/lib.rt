@@ -4,37 +4,34 @@ ghost use mathlib.Core.List.{[], _∷_};
 ghost use Rattle.model.specs.Bytes.{word32};
 ghost use Prim.Native.Nat.{ℕ};
 ghost use mathlib.Core.Bool.{not};
-ghost use Rattle.model.specs.Refusal.{isMalformed};
-ghost use Rattle.model.specs.Sheet.{entryOf};
+ghost use Rattle.model.specs.Sheet.{entryOf, isMalformed};
+use model::Entry;
 use model::Operation;
 
 // "Kinds: 0 propose (any value), 1 work (value 0 is hint no, 1 is yes), 2 look (0), 3 crash (0)."
-pub fn entry_of(kind: u8, p: u8, value: u32) -> Operation
+pub fn entry_of(kind: u8, p: u8, value: u32) -> Entry
     ensures { λ r. ⌜ r ≡ entryOf kind p value ⌝ }
 {
     let process = p as usize;
     if kind == 0 {
-        return Operation::Propose(process, value);
+        return Entry::WellFormed(Operation::Propose(process, value));
     }
     if kind == 1 {
-        if value == 0 {
-            return Operation::Step(process, false);
+        if value <= 1 {
+            return Entry::WellFormed(Operation::Step(process, value != 0));
         }
-        if value == 1 {
-            return Operation::Step(process, true);
-        }
-        return Operation::Malformed;
+        return Entry::Malformed;
     }
     if value != 0 {
-        return Operation::Malformed;
+        return Entry::Malformed;
     }
     if kind == 2 {
-        return Operation::Learn(process);
+        return Entry::WellFormed(Operation::Learn(process));
     }
     if kind == 3 {
-        return Operation::Crash(process);
+        return Entry::WellFormed(Operation::Crash(process));
     }
-    Operation::Malformed
+    Entry::Malformed
 }
 
 // Whether it is one of these, whatever its process: by the largest value of each kind.

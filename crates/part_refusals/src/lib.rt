@@ -4,19 +4,23 @@ ghost use mathlib.Core.Path.{_≡_};
 ghost use Rattle.model.specs.Refusal.{refusal, proposeTests, crashTests};
 use model::Phase;
 use model::Status;
+use model::numbers::BLANK_PROPOSAL;
+use model::numbers::PROCESS_GONE;
+use model::numbers::PROCESS_OUT;
+use model::numbers::SECOND_PROPOSAL;
 
 // 01, "Numbers returned", proposal, after the process' number: 5, 6.
 pub fn propose_refusal(v: u32, phase: Phase) -> u32
     ensures { λ r. ⌜ r ≡ refusal (proposeTests phase v) ⌝ }
 {
     if v == 0 {
-        return 5;
+        return BLANK_PROPOSAL;
     }
     match part_status::status(phase) {
         Status::Outside => 0,
-        Status::Active => 6,
-        Status::Spent => 6,
-        Status::Gone => 6,
+        Status::Active => SECOND_PROPOSAL,
+        Status::Spent => SECOND_PROPOSAL,
+        Status::Gone => SECOND_PROPOSAL,
     }
 }
 
@@ -25,8 +29,8 @@ pub fn crash_refusal(phase: Phase) -> u32
     ensures { λ r. ⌜ r ≡ refusal (crashTests phase) ⌝ }
 {
     match part_status::status(phase) {
-        Status::Outside => 7, // a crash before the proposal
-        Status::Gone => 8, // a crash after the end
+        Status::Outside => PROCESS_OUT, // a crash before the proposal
+        Status::Gone => PROCESS_GONE, // a crash after the end
         Status::Active => 0,
         Status::Spent => 0,
     }

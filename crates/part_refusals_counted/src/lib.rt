@@ -6,12 +6,16 @@ ghost use Rattle.model.specs.Refusal.{full as fullOf, refusal, learnTests, step
 use model::Counts;
 use model::Phase;
 use model::Status;
+use model::numbers::COUNTS_FULL;
+use model::numbers::PROCESS_GONE;
+use model::numbers::PROCESS_OUT;
+use model::numbers::PROCESS_SPENT;
 
 // 01, "Numbers returned", 16; 0 for no refusal, here and below.
 fn full_refusal(c: Counts) -> u32
     ensures { λ r. ⌜ r ≡ refusal ((fullOf c, 16) ∷ []) ⌝ }
 {
-    if part_counts::full(c) { 16 } else { 0 }
+    if part_counts::full(c) { COUNTS_FULL } else { 0 }
 }
 
 // 01, "Numbers returned", look, after the process' number: 7, 8, 16.
@@ -19,8 +23,8 @@ pub fn learn_refusal(phase: Phase, c: Counts) -> u32
     ensures { λ r. ⌜ r ≡ refusal (learnTests phase c) ⌝ }
 {
     match part_status::status(phase) {
-        Status::Outside => 7, // a look before the proposal
-        Status::Gone => 8, // a look after the end
+        Status::Outside => PROCESS_OUT, // a look before the proposal
+        Status::Gone => PROCESS_GONE, // a look after the end
         Status::Active => full_refusal(c),
         Status::Spent => full_refusal(c),
     }
@@ -31,9 +35,9 @@ pub fn step_refusal(phase: Phase, c: Counts) -> u32
     ensures { λ r. ⌜ r ≡ refusal (stepTests phase c) ⌝ }
 {
     match part_status::status(phase) {
-        Status::Outside => 7, // a step before the proposal
-        Status::Gone => 8, // a step after the end
-        Status::Spent => 9,
+        Status::Outside => PROCESS_OUT, // a step before the proposal
+        Status::Gone => PROCESS_GONE, // a step after the end
+        Status::Spent => PROCESS_SPENT,
         Status::Active => full_refusal(c),
     }
 }

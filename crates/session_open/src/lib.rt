@@ -5,6 +5,8 @@ ghost use Rattle.model.specs.Refusal.{refusal, openTests};
 ghost use Rattle.model.specs.Machine.{opening};
 use model::Caller;
 use model::Changed;
+use model::numbers::BAD_PROCESS_COUNT;
+use model::numbers::BAD_ROUND_LIMIT;
 
 // 01, "Numbers returned", opening: 1, 2, within the caller's limits (02, wish 9: "1 and 2 speak of the caller's limits"); 0 for no refusal, here and
 // below.
@@ -15,11 +17,11 @@ pub fn open_refusal(caller: Caller, n: usize, limit: usize) -> u32
     let processes = most.processes as usize;
     let rounds = most.rounds as usize;
     if !((1 <= n) & (n <= processes)) {
-        return 1;
+        return BAD_PROCESS_COUNT;
     }
     let window = part_window::window(n as u8);
     if !((window <= limit) & (limit <= rounds)) {
-        return 2;
+        return BAD_ROUND_LIMIT;
     }
     0
 }

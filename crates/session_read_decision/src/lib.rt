@@ -3,6 +3,7 @@ ghost use mathlib.Core.Path.{_≡_};
 ghost use Rattle.model.specs.ReadOut.{decision as decisionOf};
 use model::DecisionAnswer;
 use model::Session;
+use model::numbers::UNSOUND;
 
 // "Standing values": ".. or D". 3 alone.
 pub fn decision(s: Session) -> DecisionAnswer
@@ -14,6 +15,9 @@ pub fn decision(s: Session) -> DecisionAnswer
             value: s.decision,
         }
     } else {
-        DecisionAnswer { code: 3, value: 0 }
+        DecisionAnswer {
+            code: UNSOUND,
+            value: 0,
+        }
     }
 }

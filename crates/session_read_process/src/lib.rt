@@ -6,6 +6,8 @@ use model::Phase;
 use model::Process;
 use model::ProcessAnswer;
 use model::Session;
+use model::numbers::NO_SUCH_PROCESS;
+use model::numbers::UNSOUND;
 
 // The answer of a refused read-out of a record: blank data.
 fn no_record(code: u32) -> ProcessAnswer
@@ -28,10 +30,10 @@ pub fn process_record_as(poll: bool, s: Session, p: usize) -> ProcessAnswer
 {
     let sound = session_sound::sound_as(poll, s);
     if !sound {
-        return no_record(3);
+        return no_record(UNSOUND);
     }
     if s.n <= p {
-        return no_record(4);
+        return no_record(NO_SUCH_PROCESS);
     }
     let q = s.processes[p];
     ProcessAnswer {

@@ -4,6 +4,8 @@ ghost use mathlib.Core.Path.{_≡_};
 ghost use Rattle.model.specs.ReadOut.{register as registerOf};
 use model::RegisterAnswer;
 use model::Session;
+use model::numbers::NO_SUCH_ROUND;
+use model::numbers::UNSOUND;
 
 // "Standing values": "Other read-outs return T[r] and C[r]". 3, then 14 for a round not 1 to L.
 pub fn register(s: Session, round: usize) -> RegisterAnswer
@@ -11,14 +13,14 @@ pub fn register(s: Session, round: usize) -> RegisterAnswer
 {
     if !session_sound::sound(s) {
         return RegisterAnswer {
-            code: 3,
+            code: UNSOUND,
             value: 0,
             marked: false,
         };
     }
     if !((1 <= round) & (round <= s.limit)) {
         return RegisterAnswer {
-            code: 14,
+            code: NO_SUCH_ROUND,
             value: 0,
             marked: false,
         };

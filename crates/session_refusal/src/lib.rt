@@ -2,14 +2,17 @@
 ghost use mathlib.Core.Path.{_≡_};
 ghost use mathlib.Core.Bool.{cond, not};
 ghost use lib.Dec.{leb};
+ghost use Rattle.model.specs.Numbers.{unsound, noSuchProcess};
+use model::numbers::NO_SUCH_PROCESS;
+use model::numbers::UNSOUND;
 
 // 01, "Numbers returned": 3 for a session that is not sound, 4 for a process number n or above, then the number that the
 // operation's own tests give.
 pub fn first_refusal(sound: bool, n: usize, p: usize, own: u32) -> u32
-    ensures { λ r. ⌜ r ≡ cond (not sound) 3 (cond (leb n p) 4 own) ⌝ }
+    ensures { λ r. ⌜ r ≡ cond (not sound) unsound (cond (leb n p) noSuchProcess own) ⌝ }
 {
     if !sound {
-        return 3;
+        return UNSOUND;
     }
-    if n <= p { 4 } else { own }
+    if n <= p { NO_SUCH_PROCESS } else { own }
 }

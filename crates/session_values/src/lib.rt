@@ -7,6 +7,8 @@ ghost use lib.ListN.{length, take, drop};
 ghost use Rattle.model.specs.ReadOut.{standingAnswer, standingBuffer};
 use model::CountAnswer;
 use model::Session;
+use model::numbers::BAD_BUFFER;
+use model::numbers::UNSOUND;
 
 // "Standing values": "to a lent buffer .., from its first place on ..; later buffer places keep their numbers".
 fn copy(values: &[u32], count: usize, buffer: &mut [u32])
@@ -25,14 +27,20 @@ pub fn standing_values(s: Session, buffer: &mut [u32]) -> CountAnswer
     ensures writes { λ _. ⌜ now (buffer .exit) ≡ standingBuffer s (now (buffer .entry)) ⌝ }
 {
     if !session_sound::sound(s) {
-        return CountAnswer { code: 3, count: 0 };
+        return CountAnswer {
+            code: UNSOUND,
+            count: 0,
+        };
     }
     let registers = s.values;
     let limit = s.limit;
     let listed = session_values_list::list(registers, limit);
     let count = listed.count;
     if buffer.len() < count {
-        return CountAnswer { code: 15, count: 0 };
+        return CountAnswer {
+            code: BAD_BUFFER,
+            count: 0,
+        };
     }
     copy(&listed.values, count, buffer);
     CountAnswer { code: 0, count }

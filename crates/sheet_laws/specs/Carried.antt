@@ -1,15 +1,17 @@
 -- What the runner's loop keeps, and the laws of its turns.
-use Rattle.base.specs.Prelude.{ℕ, suc, zero, _+_, _-_, _≤_, _<_, arith, add-one, _≡_, refl, sym, _∙_, subst₃, Bool, true, false, cond, _||_, true≢false, List, _∷_, length, leb, ne-eqb, leb-true, leb-false}
-use Rattle.model_laws.specs.Types.{Caller, Limits, Access, Session, Counts, Operation, Finished, Refused, BudgetEnded, Rejected, Ran}
+use Rattle.base.specs.Prelude.{ℕ, suc, zero, _+_, _-_, _≤_, _<_, arith, add-one, _≡_, refl, sym, _∙_, subst₃, Bool, true, false, cond, _||_, true≢false, List, _∷_, length, leb, ne-eqb, leb-true, leb-false, lt-leb}
+use Rattle.base.specs.Bools.{cond-cases}
+use Rattle.model_laws.specs.Types.{Caller, Limits, Access, Session, Counts, Operation, Entry, WellFormed, Malformed, Finished, Refused, BudgetEnded, Rejected, Ran}
 use Rattle.model.specs.Window.{window}
 use Rattle.model.specs.Board.{limitsOf, UpToServer, processAt, opened, noCounts}
 use Rattle.model.specs.Step.{found, counted}
-use Rattle.model.specs.Refusal.{refusal, full, processOf, tests}
-use Rattle.model.specs.Machine.{accessOf, after, countsAfter, answered, perform}
+use Rattle.model.specs.Numbers.{noSuchProcess, badEntry}
+use Rattle.model.specs.Refusal.{refusal, full, tests}
+use Rattle.model.specs.Machine.{accessOf, after, countsAfter, answered, perform, processOf}
 use Rattle.model.specs.Sound.{soundAt}
 use Rattle.model.specs.Runner.{ran, runBy, runFrom, runWithin, run}
 use Rattle.model.specs.Sheet.{processCount, roundLimit, entries, sheetRefusal}
-use Rattle.model_laws.specs.Accepted.{Accepted, accepted}
+use Rattle.model_laws.specs.Accepted.{ownTests, Accepted, accepted}
 use Rattle.model_laws.specs.SheetFacts.{sheet-facts}
 use Rattle.model_laws.specs.Answers.{accepted-counts}
 use Rattle.model_laws.specs.Operations.{opened-sound, after-sound}
@@ -20,7 +22,7 @@ use Rattle.sheet_laws.specs.declared.Handed.the-variants.{Next, End}
 use Rattle.sheet_laws.specs.Places.{handed, advanced, rest, Inside, Proper}
 use Rattle.sheet_laws.specs.Ordered.{accepted-inside}
 use Rattle.sheet_laws.specs.PlaceLaws.{advanced-proper, rest-next, rest-end}
-use Rattle.sheet_laws.specs.Entries.{haltOf, entryRefusal, entry-refusal, number-refusal}
+use Rattle.sheet_laws.specs.Entries.{haltOf, entry-refusal, number-refusal}
 
 -- A session to start from: sound at window W.
 pub record Opened (W : ℕ) (s : Session) : Type 0 where
@@ -66,44 +68,44 @@ run-accepted caller t budget ew e = rw (e, ew)
 
 -- ---- one entry of a run
 
-module _ (W b k : ℕ) (s : Session) (c : Counts) (e : Operation) (es : List Operation) where
-  -- An entry that is not refused is carried out, and the run goes on.
-  one-more : refusal (tests s c e) ≡ 0 →
-      runFrom W (suc b) k s c (e ∷ es) ≡ runFrom W b (suc k) (after W s e) (countsAfter s c e) es
+module _ (W b k : ℕ) (s : Session) (c : Counts) (o : Operation) (es : List Entry) where
+  -- An operation that is not refused is carried out, and the run goes on.
+  one-more : refusal (tests s c o) ≡ 0 →
+      runFrom W (suc b) k s c (WellFormed o ∷ es) ≡ runFrom W b (suc k) (after W s o) (countsAfter s c o) es
   unfolding runBy perform answered
   one-more h = rw h
 
   -- A refused one ends it.
-  one-refused : (r : ℕ) → refusal (tests s c e) ≡ r → (r ≡ 0 → ⊥) → runFrom W (suc b) k s c (e ∷ es) ≡ ran k s c (Refused r k)
+  one-refused : (r : ℕ) → refusal (tests s c o) ≡ r → (r ≡ 0 → ⊥) → runFrom W (suc b) k s c (WellFormed o ∷ es) ≡ ran k s c (Refused r k)
   unfolding runBy perform answered
   one-refused zero h some = absurd (some refl)
   one-refused (suc r) h some = rw (h, ne-eqb (suc r) 0 some)
 
 -- ---- where the code stands in a turn
 
--- An entry e, its process p, which is one of the n, and the number r of its refusal.
-pub record Entered (s : Session) (c : Counts) (e : Operation) (p r : ℕ) : Type 0 where
-  pub named : p ≡ processOf e
+-- An operation o, its process p, which is one of the n, and the number r of its refusal.
+pub record Entered (s : Session) (c : Counts) (o : Operation) (p r : ℕ) : Type 0 where
+  pub named : p ≡ processOf o
   pub below : p < s .n
-  pub code : r ≡ entryRefusal (processAt s p .phase) c e
+  pub code : r ≡ refusal (ownTests (processAt s p .phase) c o)
 
-module _ {s : Session} {c : Counts} {e : Operation} {p : ℕ} where
-  pub entered-none : {r : ℕ} → Entered s c e p r → r ≡ 0 → Entered s c e p 0
+module _ {s : Session} {c : Counts} {o : Operation} {p : ℕ} where
+  pub entered-none : {r : ℕ} → Entered s c o p r → r ≡ 0 → Entered s c o p 0
   entered-none f none = record { named = f .named; below = f .below; code = sym none ∙ f .code }
 
   -- The number is that of the machine's tests.
-  entered-code : {r : ℕ} → Entered s c e p r → r ≡ refusal (tests s c e)
+  entered-code : {r : ℕ} → Entered s c o p r → r ≡ refusal (tests s c o)
   entered-code f =
-      let low : processOf e < s .n = rw (← f .named) (f .below) in
-      f .code ∙ rw (f .named) (sym (entry-refusal s c e low))
+      let low : processOf o < s .n = rw (← f .named) (f .below) in
+      f .code ∙ rw (f .named) (sym (entry-refusal s c o low))
 
-  entered-accepted : Entered s c e p 0 → Accepted s c e
-  entered-accepted f = accepted s c e (sym (entered-code f))
+  entered-accepted : Entered s c o p 0 → Accepted s c o
+  entered-accepted f = accepted s c o (sym (entered-code f))
 
   -- The counts that the code leaves are the machine's: they are not full.
-  pub tallied : {d d′ : Counts} → Entered s c e p 0 → d′ ≡ countsAfter s c e → d ≡ cond (full c) c d′ → d ≡ countsAfter s c e
+  pub tallied : {d d′ : Counts} → Entered s c o p 0 → d′ ≡ countsAfter s c o → d ≡ cond (full c) c d′ → d ≡ countsAfter s c o
   unfolding countsAfter
-  tallied f e′ ed = ed ∙ rw e′ (accepted-counts (s .limit) (processAt s (processOf e)) _ c e (entered-accepted f .own))
+  tallied f e′ ed = ed ∙ rw e′ (accepted-counts (s .limit) (processAt s (processOf o)) _ c o (entered-accepted f .own))
 
 -- What the loop keeps: the answer is that of the run from here on, with k entries carried out; the session is sound.
 pub record Carrying (answer : Ran) (t : List ℕ) (budget W : ℕ) (s : Session) (c : Counts) (k : ℕ) (place : ℕ) : Type 0 where
@@ -129,7 +131,7 @@ module _ {answer : Ran} {t : List ℕ} {budget W : ℕ} {s : Session} {c : Count
   pub row-low : {p : ℕ} → p < s .n → p < 64
   row-low below = omega (arith, sound-facts false W s (h .opened .sound) .few)
 
-  module _ {e : Operation} (next : handed t place ≡ Next e) where
+  module _ {e : Entry} (next : handed t place ≡ Next e) where
     -- One entry fewer is left behind it.
     pub shorter : {next-place : ℕ} → next-place ≡ advanced t place → length (rest t next-place) < length (rest t place)
     shorter ep = rw (ep, rest-next t place (h .proper) next) (omega arith)
@@ -141,50 +143,54 @@ module _ {answer : Ran} {t : List ℕ} {budget W : ℕ} {s : Session} {c : Count
         let z : budget - k ≡ 0 = omega arith in
         h .same ∙ rw (rest-next t place (h .proper) next, z)
 
+    here : k < budget → answer ≡ runFrom W (suc (budget - (k + 1))) k s c (e ∷ rest t (advanced t place))
+    here left =
+        let z : budget - k ≡ suc (budget - (k + 1)) = omega arith in
+        rw (← z, ← rest-next t place (h .proper) next) (h .same)
+
+    -- "that next one is not tried", or it is refused with this number.
+    ended : (code : ℕ) → (k < budget → answer ≡ ran k s c (Refused code k)) → answer ≡ ran k s c (haltOf budget k code)
+    ended code refused = cond-cases (λ x. answer ≡ ran k s c x) (leb budget k) (λ b. spent (leb-true budget k b)) (λ b. refused (leb-false budget k b))
+
+  -- An entry that says nothing.
+  pub malformed : handed t place ≡ Next Malformed → answer ≡ ran k s c (haltOf budget k badEntry)
+  unfolding runBy
+  malformed next = ended next badEntry (here next)
+
+  module _ {o : Operation} (next : handed t place ≡ Next (WellFormed o)) where
     module _ (left : k < budget) where
-      here : answer ≡ runFrom W (suc (budget - (k + 1))) k s c (e ∷ rest t (advanced t place))
-      here =
-          let z : budget - k ≡ suc (budget - (k + 1)) = omega arith in
-          rw (← z, ← rest-next t place (h .proper) next) (h .same)
-
       -- "with the refusal and the entry's index (from 0) at the first refused one".
-      pub refused : {p r : ℕ} → Entered s c e p r → (r ≡ 0 → ⊥) → answer ≡ ran k s c (Refused r k)
-      refused {p} {r} f some = here ∙ one-refused W _ k s c e _ r (sym (entered-code f)) some
-
-      -- An entry whose process is n or above.
-      unknown : s .n ≤ processOf e → answer ≡ ran k s c (Refused 4 k)
-      unknown high =
-          here
-          ∙ one-refused W _ k s c e _ 4
-          (number-refusal s c e (sound-facts false W s (h .opened .sound) .some) high)
-          (λ z. omega arith)
+      pub refused : {p r : ℕ} → Entered s c o p r → (r ≡ 0 → ⊥) → answer ≡ ran k s c (Refused r k)
+      refused {p} {r} f some = here next left ∙ one-refused W _ k s c o _ r (sym (entered-code f)) some
 
       -- An accepted entry: what the code leaves is what the one form has, and one more is carried out.
       pub goes-on : {p : ℕ} {s₁ : Session} {d : Counts} {next-place : ℕ} →
-          Entered s c e p 0 →
-          s₁ ≡ after W s e →
-          d ≡ countsAfter s c e →
+          Entered s c o p 0 →
+          s₁ ≡ after W s o →
+          d ≡ countsAfter s c o →
           next-place ≡ advanced t place →
           Carrying answer t budget W s₁ d (k + 1) next-place
       goes-on f es ed ep =
           carrying-at (sym es) (sym ed) (sym ep)
           (record {
-            same = here ∙ one-more W _ k s c e _ (sym (entered-code f)) ∙ rw (add-one k);
+            same = here next left ∙ one-more W _ k s c o _ (sym (entered-code f)) ∙ rw (add-one k);
             proper = advanced-proper t place (h .proper);
             within = omega arith;
             opened = record {
               wide = h .opened .wide;
-              sound = after-sound W (h .opened .wide) s c e (h .opened .sound) (entered-accepted f);
+              sound = after-sound W (h .opened .wide) s c o (h .opened .sound) (entered-accepted f);
             };
           })
 
-    -- "budget ended .. that next one is not tried", and a process n or above.
-    pub halted : {p : ℕ} → p ≡ processOf e → (leb budget k || leb (s .n) p) ≡ true → answer ≡ ran k s c (haltOf budget k)
-    halted {p} named = go (leb budget k) refl
-      where
-        go : (b : Bool) → leb budget k ≡ b → (b || leb (s .n) p) ≡ true → answer ≡ ran k s c (cond b BudgetEnded (Refused 4 k))
-        go true e o = spent (leb-true budget k e)
-        go false e o = unknown (leb-false budget k e) (rw (← named) (leb-true (s .n) p o))
+    -- The budget has ended, or the process is n or above.
+    pub halted : {p : ℕ} → p ≡ processOf o → (leb budget k || leb (s .n) p) ≡ true → answer ≡ ran k s c (haltOf budget k noSuchProcess)
+    halted {p} named stops =
+        ended next noSuchProcess
+        (λ left.
+        here next left
+        ∙ one-refused W _ k s c o _ noSuchProcess
+        (number-refusal s c o (rw (← named) (leb-true (s .n) p (rw (lt-leb budget k left) at stops))))
+        (λ z. omega arith))
 
     -- Past that test there is budget left, and the process is one of the n.
     pub due : {p : ℕ} → (leb budget k || leb (s .n) p) ≡ false → (k < budget) × (p < s .n)

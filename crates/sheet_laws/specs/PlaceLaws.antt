@@ -1,7 +1,7 @@
 -- Document 01, "Turn sheets": the reader hands out the sheet's entries, each once and in their order.
 use Rattle.base.specs.Prelude.{ℕ, suc, zero, _+_, _-_, _*_, _/_, _%_, _≤_, _<_, add-one, suc-sub-suc, sub-zero, arith, _≡_, refl, sym, subst, _∙_, Bool, true, false, cond, true≢false, List, [], _∷_, leb, leb-true, leb-false}
 use Rattle.base.specs.Bools.{cond-cases}
-use Rattle.model.specs.declared.Operation.{Operation}
+use Rattle.model.specs.declared.Entry.{Entry}
 use Rattle.model.specs.Sheet.{runAt, runCount, runsFrom, entryAt, entriesAt, entriesOf, entries}
 use Rattle.sheet_layout.specs.Runs.{runs-none}
 use Rattle.sheet_laws.specs.Places.{Position, encode, decode, Within, hasEntry, openedRun, between, openFrom, settled}
@@ -122,7 +122,7 @@ module _ (s : List ℕ) (p : ℕ) (h : Proper s p) where
       (λ e. none-left s q e ∙ rw (runs-none s (q .run) (runCount s) (h .last e))))
 
   -- The same by cases, for a loop that knows what was handed out.
-  pub rest-next : {e : Operation} → handed s p ≡ Next e → rest s p ≡ e ∷ rest s (advanced s p)
+  pub rest-next : {e : Entry} → handed s p ≡ Next e → rest s p ≡ e ∷ rest s (advanced s p)
   rest-next q = rest-handed ∙ rw q
 
   pub rest-end : handed s p ≡ End → rest s p ≡ []

@@ -1,7 +1,7 @@
 -- Document 01, "Turn sheets": "A reader that stays attached to the sheet's bytes and its place hands the entries out." The place is one
 -- number.
 use Rattle.base.specs.Prelude.{ℕ, suc, zero, _+_, _-_, _*_, _/_, _%_, _≤_, _<_, _≡_, Bool, false, cond, List, [], _∷_, _++_, leb}
-use Rattle.model.specs.declared.Operation.{Operation}
+use Rattle.model.specs.declared.Entry.{Entry}
 use Rattle.model.specs.Sheet.{Run, runAt, runCount, runsFrom, entryAt, entriesAt, entriesOf}
 use Rattle.sheet_laws.specs.declared.Handed.{Handed}
 use Rattle.sheet_laws.specs.declared.Handed.the-variants.{Next, End}
@@ -53,7 +53,7 @@ abbrev pub passed : Position → Position
 passed q = cond (hasEntry q) (record { run = q .run; at = q .at + 6; left = q .left - 1 }) q
 
 -- The entries from a position on: those left of its run, and those of the runs still to be opened.
-unfoldable pub restFrom : List ℕ → Position → List Operation
+unfoldable pub restFrom : List ℕ → Position → List Entry
 restFrom s q = entriesAt s (q .at) (q .left) ++ entriesOf s (runsFrom s (q .run) (runCount s - q .run))
 
 -- ---- places
@@ -71,11 +71,11 @@ unfoldable pub advanced : List ℕ → ℕ → ℕ
 advanced s p = encode (settled s (passed (decode p)))
 
 -- The entries from a place on.
-unfoldable pub rest : List ℕ → ℕ → List Operation
+unfoldable pub rest : List ℕ → ℕ → List Entry
 rest s p = restFrom s (decode p)
 
 -- What was handed out, and the entries after it; none where no entry is left.
-abbrev pub before : Handed → List Operation → List Operation
+abbrev pub before : Handed → List Entry → List Entry
 before (Next e) es = e ∷ es
 before End es = []
 

@@ -2,11 +2,11 @@
 // `sheet_place`, `sheet_handed`, `sheet_reader_held`, `sheet_reader` and `sheet_run`.
 // A place, at which a reader of the entries stands, is one number: the offset of the next entry in its lowest 16 bits, how many
 // entries of the current run are left in the 14 above them, and the next run to be opened above these.
-use model::Operation;
+use model::Entry;
 
 // What a place hands out: the next entry, or that none is left.
 pub enum Handed {
-    Next(Operation),
+    Next(Entry),
     End,
 }
 

@@ -5,6 +5,9 @@ ghost use Rattle.model.specs.Refusal.{refusal as firstOf};
 ghost use Rattle.model.specs.Sheet.{sheetRefusal};
 ghost use Rattle.sheet_refusal.specs.RunTests.{runTests};
 use model::Caller;
+use model::numbers::BAD_PAIRS;
+use model::numbers::BAD_RUN;
+use model::numbers::BAD_SHEET;
 
 // "11 over all pairs, 12 over all runs": from is where the run before ended, and code is 12 once a run is no whole entries.
 fn runs_refusal(s: &[u8]) -> u32
@@ -17,14 +20,14 @@ fn runs_refusal(s: &[u8]) -> u32
     while i < count {
         let run = sheet_layout::run_at(s, i);
         if run.offset < from {
-            return 11;
+            return BAD_PAIRS;
         }
         let end = run.offset + run.size;
         if s.len() < end {
-            return 11;
+            return BAD_PAIRS;
         }
         if run.size % 6 != 0 {
-            code = 12;
+            code = BAD_RUN;
         }
         from = end;
         i += 1;
@@ -39,17 +42,17 @@ pub fn refusal(caller: Caller, s: &[u8]) -> u32
     ensures { λ r. ⌜ r ≡ sheetRefusal (limitsOf caller) (now (s .entry)) ⌝ }
 {
     if s.len() < 4 {
-        return 10;
+        return BAD_SHEET;
     }
     if 65535 < s.len() {
-        return 10;
+        return BAD_SHEET;
     }
     let count = part_bytes::byte(s, 1) as usize;
     if 16 < count {
-        return 10;
+        return BAD_SHEET;
     }
     if s.len() < 4 + 4 * count {
-        return 10;
+        return BAD_SHEET;
     }
     let n = part_bytes::byte(s, 0) as usize;
     let limit = part_bytes::word16(s, 2) as usize;

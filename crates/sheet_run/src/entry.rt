@@ -1,43 +1,45 @@
-// What one entry does to the process that it names, as functions of that process's record, the tally and one value read.
+// What one operation does to the process that it names, as functions of that process's record, the tally and one value read.
 ghost use mathlib.Core.Path.{_≡_};
 ghost use mathlib.Core.Bool.{_||_};
 ghost use lib.Dec.{leb};
-ghost use Rattle.model.specs.Refusal.{refusal, processOf, stepTests};
-ghost use Rattle.sheet_laws.specs.Entries.{haltOf, entryRefusal, changesOf, movedTo, otherAccess};
+ghost use Rattle.model.specs.Machine.{processOf};
+ghost use Rattle.model.specs.Refusal.{refusal, stepTests};
+ghost use Rattle.model_laws.specs.Accepted.{ownTests};
+ghost use Rattle.sheet_laws.specs.Entries.{haltOf, changesOf, movedTo, otherAccess};
 use model::Access;
 use model::Counts;
 use model::Ending;
 use model::Operation;
 use model::Process;
 
-// The process that the entry names.
-pub(crate) fn process_of(e: Operation) -> usize
-    ensures { λ r. ⌜ r ≡ processOf e ⌝ }
+// The process that the operation names.
+pub(crate) fn process_of(o: Operation) -> usize
+    ensures { λ r. ⌜ r ≡ processOf o ⌝ }
 {
-    match e {
+    match o {
         Operation::Propose(p, _) => p,
         Operation::Step(p, _) => p,
         Operation::Learn(p) => p,
         Operation::Crash(p) => p,
-        Operation::Malformed => 0,
     }
 }
 
-// Whether the entry of process p is not tried: the budget has ended, or there is no such process.
+// Whether an operation of process p is not tried: the budget has ended, or there is no such process.
 pub(crate) fn halts(budget: usize, k: usize, n: usize, p: usize) -> bool
     ensures { λ r. ⌜ r ≡ leb budget k || leb n p ⌝ }
 {
     (budget <= k) | (n <= p)
 }
 
-// How the run then ends. 01, "Turn sheets": "that next one is not tried"; "Numbers returned", 4.
-pub(crate) fn halt(budget: usize, k: usize) -> Ending
-    ensures { λ r. ⌜ r ≡ haltOf budget k ⌝ }
+// How the run ends at an entry that is refused with this number. 01, "Turn sheets", of a budget that has ended: "that next one is not
+// tried".
+pub(crate) fn halt(budget: usize, k: usize, code: u32) -> Ending
+    ensures { λ r. ⌜ r ≡ haltOf budget k code ⌝ }
 {
     if budget <= k {
         Ending::BudgetEnded
     } else {
-        Ending::Refused(4, k)
+        Ending::Refused(code, k)
     }
 }
 
@@ -49,56 +51,52 @@ pub(crate) fn step_refusal(q: Process, c: Counts) -> u32
     part_refusals_counted::step_refusal(phase, c)
 }
 
-// Of an entry that is no work turn, its own refusal: "each entry 13 first, then its operation's own order"; 0 for none.
-pub(crate) fn refusal_of(q: Process, c: Counts, e: Operation) -> u32
-    ensures { λ r. ⌜ r ≡ entryRefusal (q .phase) c e ⌝ }
+// Its own refusal, after the process' number; 0 for none.
+pub(crate) fn refusal_of(q: Process, c: Counts, o: Operation) -> u32
+    ensures { λ r. ⌜ r ≡ refusal (ownTests (q .phase) c o) ⌝ }
 {
     let phase = q.phase;
-    match e {
+    match o {
         Operation::Propose(_, v) => part_refusals::propose_refusal(v, phase),
         Operation::Step(_, _) => part_refusals_counted::step_refusal(phase, c),
         Operation::Learn(_) => part_refusals_counted::learn_refusal(phase, c),
         Operation::Crash(_) => part_refusals::crash_refusal(phase),
-        Operation::Malformed => 13,
     }
 }
 
 // Whether it changes the record of its process: a look at a blank D does not. (A record that stays is not stored again.)
-pub(crate) fn changes(decision: u32, e: Operation) -> bool
-    ensures { λ r. ⌜ r ≡ changesOf decision e ⌝ }
+pub(crate) fn changes(decision: u32, o: Operation) -> bool
+    ensures { λ r. ⌜ r ≡ changesOf decision o ⌝ }
 {
-    match e {
+    match o {
         Operation::Propose(_, _) => true,
         Operation::Step(_, _) => false,
         Operation::Learn(_) => decision != 0,
         Operation::Crash(_) => true,
-        Operation::Malformed => false,
     }
 }
 
-// 01, "One turn at a time", proposal, look and crash: what the process becomes where it changes. (The answer for the two entries that change
-// none here, a work turn and a malformed one, is not used.)
-pub(crate) fn becomes(q: Process, decision: u32, e: Operation) -> Process
-    ensures { λ r. ⌜ r ≡ movedTo q decision e ⌝ }
+// 01, "One turn at a time", proposal, look and crash: what the process becomes where it changes. (The answer for a work turn, which
+// changes none here, is not used.)
+pub(crate) fn becomes(q: Process, decision: u32, o: Operation) -> Process
+    ensures { λ r. ⌜ r ≡ movedTo q decision o ⌝ }
 {
-    match e {
+    match o {
         Operation::Propose(_, v) => part_moves::proposed(q, v),
         Operation::Step(_, _) => part_moves::crashed(q),
         Operation::Learn(_) => part_moves::learnt(q, decision),
         Operation::Crash(_) => part_moves::crashed(q),
-        Operation::Malformed => part_moves::crashed(q),
     }
 }
 
-// The one register operation of an entry that is no work turn: a look reads D.
-pub(crate) fn access_of(e: Operation) -> Access
-    ensures { λ r. ⌜ r ≡ otherAccess e ⌝ }
+// The one register operation of one that is no work turn: a look reads D.
+pub(crate) fn access_of(o: Operation) -> Access
+    ensures { λ r. ⌜ r ≡ otherAccess o ⌝ }
 {
-    match e {
+    match o {
         Operation::Propose(_, _) => Access::Nothing,
         Operation::Step(_, _) => Access::Nothing,
         Operation::Learn(_) => Access::ReadDecision,
         Operation::Crash(_) => Access::Nothing,
-        Operation::Malformed => Access::Nothing,
     }
 }

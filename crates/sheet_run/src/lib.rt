@@ -8,9 +8,12 @@ ghost use Rattle.sheet_laws.specs.Carried.{Begun};
 use model::Caller;
 use model::Counts;
 use model::Ending;
+use model::Entry;
 use model::Operation;
 use model::Ran;
 use model::Session;
+use model::numbers::BAD_ENTRY;
+use model::numbers::NO_SUCH_PROCESS;
 use part_registers::mark;
 use part_registers::value;
 use sheet_laws::Handed;
@@ -51,12 +54,15 @@ fn carry(sheet: &[u8], budget: usize, window: usize, mut s: Session, mut c: Coun
         let Handed::Next(e) = sheet_reader::entry_at(sheet, place) else {
             return ran(k, s, c, Ending::Finished);
         };
-        let p = entry::process_of(e);
+        let Entry::WellFormed(o) = e else {
+            return ran(k, s, c, entry::halt(budget, k, BAD_ENTRY));
+        };
+        let p = entry::process_of(o);
         if entry::halts(budget, k, s.n, p) {
-            return ran(k, s, c, entry::halt(budget, k));
+            return ran(k, s, c, entry::halt(budget, k, NO_SUCH_PROCESS));
         }
         let q = s.processes[p];
-        if let Operation::Step(_, leader) = e {
+        if let Operation::Step(_, leader) = o {
             let code = entry::step_refusal(q, c);
             if code != 0 {
                 return ran(k, s, c, Ending::Refused(code, k));
@@ -67,14 +73,14 @@ fn carry(sheet: &[u8], budget: usize, window: usize, mut s: Session, mut c: Coun
             s.processes[p] = part_next::next(window, s.limit, q, leader, x);
             c = part_counts::counted(a, x, c);
         } else {
-            let code = entry::refusal_of(q, c, e);
+            let code = entry::refusal_of(q, c, o);
             if code != 0 {
                 return ran(k, s, c, Ending::Refused(code, k));
             }
-            if entry::changes(s.decision, e) {
-                s.processes[p] = entry::becomes(q, s.decision, e);
+            if entry::changes(s.decision, o) {
+                s.processes[p] = entry::becomes(q, s.decision, o);
             }
-            c = part_counts::counted(entry::access_of(e), 0, c);
+            c = part_counts::counted(entry::access_of(o), 0, c);
         }
         k += 1;
         place = sheet_reader::place_after(sheet, place);

@@ -8,6 +8,10 @@ ghost use Rattle.model.specs.Board.{limitsOf};
 ghost use Rattle.model.specs.Sheet.{entriesAt};
 ghost use Rattle.model_write.specs.Write.{total, wellFormed, writeRefusal};
 use model::Caller;
+use model::numbers::BAD_BUFFER;
+use model::numbers::BAD_CUTS;
+use model::numbers::BAD_ENTRY;
+use model::numbers::BAD_RUN;
 use part_entry::formed;
 use part_entry::number32;
 
@@ -83,18 +87,18 @@ pub fn write_refusal(
         return opening;
     }
     if entries.len() % 6 != 0 {
-        return 12;
+        return BAD_RUN;
     }
     let fits = writable(entries.len(), lengths);
     let known = well_formed(entries);
     if !fits {
-        return 17;
+        return BAD_CUTS;
     }
     if !known {
-        return 13;
+        return BAD_ENTRY;
     }
     if room < 4 + 4 * lengths.len() + entries.len() {
-        return 15;
+        return BAD_BUFFER;
     }
     0
 }

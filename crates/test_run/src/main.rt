@@ -8,6 +8,7 @@ ghost use Prim.Native.Nat.{_≤_};
 ghost use Rattle.model.specs.Export.{endingCode};
 use model::Ending;
 use model::Session;
+use model::numbers::BUDGET_ENDED;
 
 // "0 for finished, 100 for budget ended, or the refusal."
 fn code(ending: Ending) -> u32
@@ -16,7 +17,7 @@ fn code(ending: Ending) -> u32
     match ending {
         Ending::Finished => 0,
         Ending::Refused(code, _) => code,
-        Ending::BudgetEnded => 100,
+        Ending::BudgetEnded => BUDGET_ENDED,
         Ending::Rejected(code) => code,
     }
 }

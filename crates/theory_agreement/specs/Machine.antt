@@ -2,8 +2,8 @@
 use Rattle.base.specs.Prelude.{ℕ, suc, zero, _*_, _≤_, _<_, arith, _≡_, refl, _∙_, true, false, List, [], _∷_, _++_}
 use Rattle.model_laws.specs.Types.{Session, Counts, Operation}
 use Rattle.model.specs.Board.{processAt, opened, maxProcesses, maxRounds}
-use Rattle.model.specs.Refusal.{refusal, tests, processOf, stepped}
-use Rattle.model.specs.Machine.{after, countsAfter, answered, perform}
+use Rattle.model.specs.Refusal.{refusal, tests, stepped}
+use Rattle.model.specs.Machine.{after, countsAfter, answered, perform, processOf}
 use Rattle.model.specs.Sound.{soundAt}
 use Rattle.model_laws.specs.Accepted.{accepted}
 use Rattle.model_laws.specs.Sounds.{sound-process}

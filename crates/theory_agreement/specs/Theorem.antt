@@ -1,7 +1,7 @@
 -- The agreement rule holds at every window that is wide enough: the calls follow the machine, and the machine's rule holds. The rule in service is an
 -- instance.
 use Rattle.base.specs.Prelude.{ℕ, _*_, _≤_, arith, _≡_, refl, sym, _∙_, ap, subst, false, List, []}
-use Rattle.model_laws.specs.Types.{Limits, Session, Counts, Operation, Propose, Step, Learn, Crash, Malformed, Changed, Stepped}
+use Rattle.model_laws.specs.Types.{Limits, Session, Counts, Operation, Propose, Step, Learn, Crash, Changed, Stepped}
 use Rattle.model.specs.Window.{window}
 use Rattle.model.specs.Board.{limitsOf, UpToServer}
 use Rattle.model.specs.Machine.{answered, perform, openingAt}
@@ -25,7 +25,6 @@ promised-operate W s c (Propose p v) a c′ e = rw (e .0, e .1) (propose-counts 
 promised-operate W s c (Step p leader) a c′ e = e
 promised-operate W s c (Learn p) a c′ e = e
 promised-operate W s c (Crash p) a c′ e = rw (e .0, e .1) (crash-counts false W s c p)
-promised-operate W s c Malformed a c′ e = absurd e
 
 -- A session that the machine reached: every operation at its window answers as the machine does, and not 3.
 module _ (w : ℕ → ℕ) {n L : ℕ} {m : Session} {h : List Event} (i : Reached (w n) n L m h) (f : Input) where

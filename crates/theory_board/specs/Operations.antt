@@ -1,10 +1,10 @@
 -- Each accepted operation of the machine, at any window, keeps the invariant: the one lemma, applied.
 use Rattle.base.specs.Prelude.{ℕ, zero, suc, _-_, _≡_, refl, sym, _∙_, Bool, true, false, true≢false, List, [], _∷_, _++_, not, not-false, arith}
-use Rattle.model_laws.specs.Types.{Phase, Idle, Waiting, Write, Scan, Adopt, Compare, Flag, CheckMark, CheckValue, Commit, Exhausted, Crashed, Decided, HasCommitted, HasAdopted, Session, Counts, Operation, Propose, Step, Learn, Crash, Malformed}
+use Rattle.model_laws.specs.Types.{Phase, Idle, Waiting, Write, Scan, Adopt, Compare, Flag, CheckMark, CheckValue, Commit, Exhausted, Crashed, Decided, HasCommitted, HasAdopted, Session, Counts, Operation, Propose, Step, Learn, Crash}
 use Rattle.model.specs.Board.{processAt}
 use Rattle.model.specs.Step.{accessAt, access, found, stored}
-use Rattle.model.specs.Refusal.{status, isOutside, isGone, processOf}
-use Rattle.model.specs.Machine.{accessOf, becomes, after}
+use Rattle.model.specs.Refusal.{status, isOutside, isGone}
+use Rattle.model.specs.Machine.{accessOf, becomes, after, processOf}
 use Rattle.model.specs.Sound.{soundProcess}
 use Rattle.model_laws.specs.Phases.{process-facts, inside-some, outside-start}
 use Rattle.model_laws.specs.Accepted.{Accepted}
@@ -86,4 +86,3 @@ module _ {W : ℕ} {s : Session} {h : List Event} (i : Invariant W s h) (c : Cou
   operation-invariant (Crash p) one a =
       turn-invariant i p _ _ [] (a .below) (i .long, i .matches) (i .lawful) (λ o ne. tt)
       (crash-stands (not-decided (λ φ. isGone (status φ)) refl (a .own .1 .0)) (i .stands p) (a .own .0))
-  operation-invariant Malformed one a = absurd (true≢false (a .formed))

@@ -1,7 +1,7 @@
 -- Contested is the number of marked rounds, after every list of calls on one tally and after every sheet.
 use Rattle.base.specs.Prelude.{ℕ, suc, zero, _≤_, arith, _≡_, refl, _∙_, ap, List, [], _∷_, eqb}
 use Rattle.base.specs.Bools.{cond-cases}
-use Rattle.model_laws.specs.Types.{Limits, Session, Counts, Operation, Ran, Stepped}
+use Rattle.model_laws.specs.Types.{Limits, Session, Counts, Operation, Entry, WellFormed, Malformed, Ran, Stepped}
 use Rattle.model.specs.Window.{window}
 use Rattle.model.specs.Board.{UpToServer, noCounts, opened, maxRounds}
 use Rattle.model.specs.Refusal.{refusal, openTestsAt, changed}
@@ -54,17 +54,18 @@ module _ {n L : ℕ} (wide : 1 ≤ window n) where
       ∙ reached-contested (f .counts) (f .operation) (machine-reached wide i (inputs ks)) before)
 
   -- Entry after entry.
-  runs-contested : {s : Session} {h : List Event} (b k : ℕ) (c : Counts) (es : List Operation) → Reached (window n) n L s h →
+  runs-contested : {s : Session} {h : List Event} (b k : ℕ) (c : Counts) (es : List Entry) → Reached (window n) n L s h →
       c .contested ≡ markedRounds s →
       let r = runFrom (window n) b k s c es in r .counts .contested ≡ markedRounds (r .session)
   unfolding runBy
   runs-contested b k c [] i same = same
   runs-contested zero k c (e ∷ es) i same = same
-  runs-contested {s} (suc b) k c (e ∷ es) i same =
-      let a = perform (window n) s c e in
+  runs-contested (suc b) k c (Malformed ∷ es) i same = same
+  runs-contested {s} (suc b) k c (WellFormed o ∷ es) i same =
+      let a = perform (window n) s c o in
       cond-cases (λ (r : Ran). r .counts .contested ≡ markedRounds (r .session)) (eqb (a .code) 0)
       (λ z.
-      runs-contested b (suc k) (a .counts) es (operation-reached wide (record { operation = e; counts = c }) i) (reached-contested c e i same))
+      runs-contested b (suc k) (a .counts) es (operation-reached wide (record { operation = o; counts = c }) i) (reached-contested c o i same))
       (λ z. same)
 
 pub contested : ContestedRule

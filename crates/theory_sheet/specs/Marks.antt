@@ -3,8 +3,8 @@ use Rattle.base.specs.Prelude.{ℕ, suc, zero, _+_, _-_, _≤_, _<_, arith, _�
 use Rattle.model_laws.specs.Types.{Access, Nothing, ReadValue, WriteValue, ReadMark, SetMark, ReadDecision, WriteDecision, Process, Session, Counts, Operation}
 use Rattle.model.specs.Board.{processAt}
 use Rattle.model.specs.Step.{bit, found, stored, turn, newlyMarked, counted}
-use Rattle.model.specs.Refusal.{refusal, tests, processOf, stepped}
-use Rattle.model.specs.Machine.{accessOf, becomes, after, countsAfter, answered, perform}
+use Rattle.model.specs.Refusal.{refusal, tests, stepped}
+use Rattle.model.specs.Machine.{accessOf, becomes, after, countsAfter, answered, perform, processOf}
 use Rattle.model.specs.Sound.{soundAt}
 use Rattle.model_laws.specs.Ranges.{InRange}
 use Rattle.model_laws.specs.Operations.{access-in-range}

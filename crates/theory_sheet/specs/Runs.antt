@@ -1,9 +1,10 @@
 -- A run of a sheet is the public operations, one after another, and the machine after the entries that were carried out.
 use Rattle.base.specs.Prelude.{ℕ, suc, zero, _+_, _≤_, arith, _≡_, refl, sym, _∙_, ap, cond, List, [], _∷_, length, take, eqb, eq-eqb}
 use Rattle.base.specs.Bools.{cond-cases}
-use Rattle.model_laws.specs.Types.{Limits, Server, Session, Counts, Operation, Ending, Finished, Refused, BudgetEnded, Process, Ran}
+use Rattle.model_laws.specs.Types.{Limits, Server, Session, Counts, Entry, WellFormed, Malformed, Ending, Finished, Refused, BudgetEnded, Process, Ran}
 use Rattle.model.specs.Window.{window}
 use Rattle.model.specs.Board.{limitsOf, UpToServer, opened, noCounts}
+use Rattle.model.specs.Numbers.{unsound, badEntry}
 use Rattle.model.specs.Machine.{perform}
 use Rattle.model.specs.Public.{operate}
 use Rattle.model.specs.Sound.{soundAs, sound}
@@ -24,38 +25,41 @@ use Rattle.theory_agreement.specs.Theorem.{operate-reached, never-unsound}
 
 module _ {n L : ℕ} (wide : 1 ≤ window n) where
   -- Entry after entry, from a session that the machine reached: they answer as the machine does, and none is refused with 3.
-  operate-runs : {s : Session} {h : List Event} (b k : ℕ) (c : Counts) (es : List Operation) → Reached (window n) n L s h →
+  operate-runs : {s : Session} {h : List Event} (b k : ℕ) (c : Counts) (es : List Entry) → Reached (window n) n L s h →
       let r = runFrom (window n) b k s c es in
-      (runBy operate b k s c es ≡ r) × ((j : ℕ) → r .ending ≡ Refused 3 j → ⊥)
+      (runBy operate b k s c es ≡ r) × ((j : ℕ) → r .ending ≡ Refused unsound j → ⊥)
   unfolding runBy soundAs
   operate-runs b k c [] i = (refl, λ j e. let z : _≡_ {A = ℕ} 0 1 = cc in omega arith)
   operate-runs zero k c (e ∷ es) i = (refl, λ j t. let z : _≡_ {A = ℕ} 0 1 = cc in omega arith)
-  operate-runs {s} (suc b) k c (e ∷ es) i =
-      let f : Input = record { operation = e; counts = c } in
-      let a = perform (window n) s c e in
+  operate-runs (suc b) k c (Malformed ∷ es) i = (refl, λ j t. let z : _≡_ {A = ℕ} badEntry unsound = cc in omega arith)
+  operate-runs {s} (suc b) k c (WellFormed o ∷ es) i =
+      let f : Input = record { operation = o; counts = c } in
+      let a = perform (window n) s c o in
       let rest = operate-runs b (suc k) (a .counts) es (operation-reached wide f i) in (
         rw (operate-reached i f) (ap (λ (r : Ran). cond (eqb (a .code) 0) r (ran k s c (Refused (a .code) k))) (rest .0)),
         λ j.
-            cond-cases (λ (r : Ran). r .ending ≡ Refused 3 j → ⊥) (eqb (a .code) 0) (λ z. rest .1 j) (λ z u. never-unsound i f (cc)),
+            cond-cases (λ (r : Ran). r .ending ≡ Refused unsound j → ⊥) (eqb (a .code) 0) (λ z. rest .1 j) (λ z u. never-unsound i f (cc)),
       )
 
 -- ---- the machine
 
--- The operations, oldest first, each with the counts that the one before left, on top of what the machine was fed before.
-abbrev pub fed : (W : ℕ) → Session → Counts → List Operation → List Input → List Input
+-- The operations of some entries, oldest first, each with the counts that the one before left, on top of what the machine was fed before.
+abbrev pub fed : (W : ℕ) → Session → Counts → List Entry → List Input → List Input
 fed W start c [] fs = fs
-fed W start c (o ∷ os) fs =
-    fed W start (perform W (machine W start fs) c o .counts) os (record { operation = o; counts = c } ∷ fs)
+fed W start c (Malformed ∷ es) fs = fed W start c es fs
+fed W start c (WellFormed o ∷ es) fs =
+    fed W start (perform W (machine W start fs) c o .counts) es (record { operation = o; counts = c } ∷ fs)
 
 -- And the counts that the last one left.
-abbrev pub countsLeft : (W : ℕ) → Session → Counts → List Operation → List Input → Counts
+abbrev pub countsLeft : (W : ℕ) → Session → Counts → List Entry → List Input → Counts
 countsLeft W start c [] fs = c
-countsLeft W start c (o ∷ os) fs =
-    countsLeft W start (perform W (machine W start fs) c o .counts) os (record { operation = o; counts = c } ∷ fs)
+countsLeft W start c (Malformed ∷ es) fs = countsLeft W start c es fs
+countsLeft W start c (WellFormed o ∷ es) fs =
+    countsLeft W start (perform W (machine W start fs) c o .counts) es (record { operation = o; counts = c } ∷ fs)
 
 -- Of a run after k entries: how many more were carried out, that its session and counts are the machine's after them, and that a session
 -- was made.
-record Follows (W : ℕ) (start : Session) (fs : List Input) (c : Counts) (es : List Operation) (k : ℕ) (r : Ran) : Type 0 where
+record Follows (W : ℕ) (start : Session) (fs : List Input) (c : Counts) (es : List Entry) (k : ℕ) (r : Ran) : Type 0 where
   pub count : ℕ
   pub carried : r .carried ≡ k + count
   pub session : r .session ≡ machine W start (fed W start c (take count es) fs)
@@ -63,23 +67,24 @@ record Follows (W : ℕ) (start : Session) (fs : List Input) (c : Counts) (es : 
   pub made : (qs : List Process) (b : List ℕ) → endingBuffer (r .ending) qs b ≡ decidedBytes qs
 
 -- No entry more.
-follows-none : {W : ℕ} {start : Session} {fs : List Input} (c : Counts) (es : List Operation) (k : ℕ) (e : Ending) →
+follows-none : {W : ℕ} {start : Session} {fs : List Input} (c : Counts) (es : List Entry) (k : ℕ) (e : Ending) →
     ((qs : List Process) (b : List ℕ) → endingBuffer e qs b ≡ decidedBytes qs) →
     Follows W start fs c es k (ran k (machine W start fs) c e)
 follows-none c es k e made = record { count = 0; carried = omega arith; session = refl; counts = refl; made = made }
 
-run-follows-from : (W : ℕ) (start : Session) (fs : List Input) (b k : ℕ) (c : Counts) (es : List Operation) →
+run-follows-from : (W : ℕ) (start : Session) (fs : List Input) (b k : ℕ) (c : Counts) (es : List Entry) →
     Follows W start fs c es k (runFrom W b k (machine W start fs) c es)
 unfolding runBy
 run-follows-from W start fs b k c [] = follows-none c [] k Finished (λ qs b. refl)
 run-follows-from W start fs zero k c (e ∷ es) = follows-none c (e ∷ es) k BudgetEnded (λ qs b. refl)
-run-follows-from W start fs (suc b) k c (e ∷ es) =
-    let a = perform W (machine W start fs) c e in
-    cond-cases (Follows W start fs c (e ∷ es) k) (eqb (a .code) 0)
+run-follows-from W start fs (suc b) k c (Malformed ∷ es) = follows-none c (Malformed ∷ es) k (Refused badEntry k) (λ qs b. refl)
+run-follows-from W start fs (suc b) k c (WellFormed o ∷ es) =
+    let a = perform W (machine W start fs) c o in
+    cond-cases (Follows W start fs c (WellFormed o ∷ es) k) (eqb (a .code) 0)
     (λ z.
-    let r = run-follows-from W start (record { operation = e; counts = c } ∷ fs) b (suc k) (a .counts) es in
+    let r = run-follows-from W start (record { operation = o; counts = c } ∷ fs) b (suc k) (a .counts) es in
     record { count = suc (r .count); carried = omega (arith, r .carried); session = r .session; counts = r .counts; made = r .made })
-    (λ z. follows-none c (e ∷ es) k (Refused (a .code) k) (λ qs b. refl))
+    (λ z. follows-none c (WellFormed o ∷ es) k (Refused (a .code) k) (λ qs b. refl))
 
 -- ---- a sheet
 
@@ -117,7 +122,7 @@ module _ (most : Limits) (up : UpToServer most) (t : List ℕ) (budget : ℕ) (o
   run-public = operate-runs wide budget 0 noCounts (entries t) (sheet-reached .1) .0 ∙ sym run-accepted
 
   -- No entry is refused with 3.
-  pub run-never-three : (k : ℕ) → runWithin most t budget .ending ≡ Refused 3 k → ⊥
+  pub run-never-three : (k : ℕ) → runWithin most t budget .ending ≡ Refused unsound k → ⊥
   run-never-three k e = operate-runs wide budget 0 noCounts (entries t) (sheet-reached .1) .1 k (rw run-accepted at e)
 
   -- The session and the counts that a run leaves are the machine's, after the entries that were carried out.

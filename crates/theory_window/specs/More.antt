@@ -8,11 +8,12 @@ use Rattle.model.specs.declared.Operation.{Operation}
 use Rattle.model.specs.declared.Process.{Process}
 use Rattle.model.specs.Board.{processAt, noCounts}
 use Rattle.model.specs.Step.{found, stored, turn}
-use Rattle.model.specs.Refusal.{refusal, tests, processOf, stepped}
-use Rattle.model.specs.Machine.{accessOf, becomes, after, countsAfter, answered, perform}
+use Rattle.model.specs.Refusal.{refusal, tests, stepped}
+use Rattle.model.specs.Machine.{accessOf, becomes, after, countsAfter, answered, perform, processOf}
 use Rattle.model.specs.Sound.{every}
 use Rattle.model_rule.specs.Event.{Event}
 use Rattle.model_rule.specs.Calls.{ifAccepted, events}
+use Rattle.model_laws.specs.Accepted.{tests-are}
 use Rattle.model_laws.specs.Operations.{after-same}
 use Rattle.model_rule_cases.specs.Play.{Move, operationOf, inputOf, played}
 use Rattle.model_rule_cases.specs.Breaks.{within}
@@ -60,7 +61,8 @@ after-sized W m s o = turn-sized m s (processOf o) _ _
 -- One operation of a process that is among the n, and so among the m.
 module _ (W m : ℕ) (s : Session) (o : Operation) (below : processOf o < s .n) (more : s .n ≤ m) where
   code-sized : refusal (tests (sized m s) noCounts o) ≡ refusal (tests s noCounts o)
-  code-sized = rw (lt-leb m (processOf o) (omega arith), lt-leb (s .n) (processOf o) below) refl
+  code-sized =
+      rw (tests-are (sized m s) noCounts o, tests-are s noCounts o, lt-leb m (processOf o) (omega arith), lt-leb (s .n) (processOf o) below) refl
 
   pub perform-sized : (perform W (sized m s) noCounts o .session ≡ sized m (perform W s noCounts o .session)) × (perform W (sized m s) noCounts o .code ≡ perform W s noCounts o .code)
   unfolding perform answered

@@ -4,6 +4,7 @@ use Rattle.base.specs.Prelude.{_≡_, _<_, refl, _∙_, ap, true, cond, not, _�
 use Rattle.base.specs.Arrays.{length-mapped}
 use Rattle.model.specs.Window.{window}
 use Rattle.model.specs.Step.{counted}
+use Rattle.model.specs.Numbers.{unsound}
 use Rattle.model.specs.Refusal.{refusal, full, learnTests}
 use Rattle.model.specs.Sound.{soundAs, soundPoll}
 use Rattle.model_laws.specs.Sounds.{sound-few, sound-low}
@@ -22,7 +23,7 @@ long c = search (needs, length-mapped)
 -- The number of the first refusal.
 code : (c : tie.After-first-refusal) →
     let a = c .before .before .before .before .args in
-    c .first-refusal .result ≡ refusal ((not (soundPoll (a .t1)), 3) ∷ turnTests (a .t1) (a .c) (a .p))
+    c .first-refusal .result ≡ refusal ((not (soundPoll (a .t1)), unsound) ∷ turnTests (a .t1) (a .c) (a .p))
 code c =
     let a = c .before .before .before .before .args in
     first-is true (a .t1) (a .p) (λ φ. learnTests φ (a .c)) (c .before .sound-as .ensures) (c .before .before .learn-refusal .ensures)

@@ -13,7 +13,7 @@ operation c = Crash (c .args .p)
 -- The number of the first refusal.
 code : (c : tie.After-first-refusal) →
     let start = c .before .before .before .before in c .first-refusal .result ≡ codeAs (start .args .poll) (start .args .t2) noCounts (operation start)
-code c = code-is _ _ noCounts (operation (c .before .before .before .before)) refl (c .before .before .sound-as .ensures) (c .before .crash-refusal .ensures) (c .first-refusal .ensures)
+code c = code-is _ _ noCounts (operation (c .before .before .before .before)) (c .before .before .sound-as .ensures) (c .before .crash-refusal .ensures) (c .first-refusal .ensures)
 
 -- Accepted, and refused.
 returns : tie.Need-returns

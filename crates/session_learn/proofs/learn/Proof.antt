@@ -15,7 +15,7 @@ operation c = Learn (c .args .p)
 code : (c : tie.After-first-refusal) →
     let start = c .before .before .before .before in c .first-refusal .result ≡ codeOf (start .args .t1) (start .args .c) (operation start)
 code c =
-    code-is false _ _ (operation (c .before .before .before .before)) refl
+    code-is false _ _ (operation (c .before .before .before .before))
     (c .before .sound .ensures) (c .before .before .learn-refusal .ensures) (c .first-refusal .ensures)
 
 -- Accepted, and refused.

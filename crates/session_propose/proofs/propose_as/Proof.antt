@@ -13,7 +13,7 @@ operation c = Propose (c .args .p) (c .args .v)
 -- The number of the first refusal.
 code : (c : tie.After-first-refusal) →
     let start = c .before .before .before .before in c .first-refusal .result ≡ codeAs (start .args .poll) (start .args .t2) noCounts (operation start)
-code c = code-is _ _ noCounts (operation (c .before .before .before .before)) refl (c .before .sound-as .ensures) (c .before .before .propose-refusal .ensures) (c .first-refusal .ensures)
+code c = code-is _ _ noCounts (operation (c .before .before .before .before)) (c .before .sound-as .ensures) (c .before .before .propose-refusal .ensures) (c .first-refusal .ensures)
 
 -- Accepted, and refused.
 returns : tie.Need-returns

@@ -21,7 +21,7 @@ operation c = Step (c .args .p) (c .args .leader)
 code : (c : tie.After-first-refusal) →
     let start = c .before .before .before .before in c .first-refusal .result ≡ codeOf (start .args .t1) (start .args .c) (operation start)
 code c =
-    code-is false _ _ (operation (c .before .before .before .before)) refl
+    code-is false _ _ (operation (c .before .before .before .before))
     (c .before .sound .ensures) (c .before .before .step-refusal .ensures) (c .first-refusal .ensures)
 
 -- Where the number is 0, from the place where the decision register is known.

@@ -1,10 +1,10 @@
 -- `sheet_run::carry` meets its contract. The loop's invariant is `Carrying`: the run from here on gives the answer, and the session is
 -- sound. The measure is the number of entries left. Assumes nothing.
-use Rattle.base.specs.Prelude.{ℕ, _<_, sub-zero, arith, _≡_, refl, sym, _∙_, false, [], _∷_, ⊎-elim, needs, length}
+use Rattle.base.specs.Prelude.{ℕ, _<_, sub-zero, arith, _≡_, refl, sym, _∙_, ap, false, [], _∷_, ⊎-elim, needs, length}
 use types.Run.{OneOf}
 use denote.Enum.Declared as Declared
 use Rattle.model.proofs.Operation as Operations
-use Rattle.model_laws.specs.Types.{Operation, Propose, Step, Learn, Crash, Malformed}
+use Rattle.model_laws.specs.Types.{Operation, Propose, Step, Learn, Crash, Entry, WellFormed}
 use Rattle.model.specs.Runner.{runFrom}
 use Rattle.model.specs.Sheet.{entries}
 use Rattle.sheet_laws.specs.declared.Handed.the-variants.{Next}
@@ -12,7 +12,7 @@ use Rattle.sheet_laws.specs.Places.{handed, rest}
 use Rattle.sheet_laws.specs.PlaceLaws.{begin-rest, begin-proper}
 use Rattle.sheet_laws.specs.Entries.{isStep, step-refusal, step-leaves, step-counts, other-changes, other-stays, other-counts}
 use Rattle.sheet_laws.specs.Carried.{Carrying, Entered, entered-none, tallied}
-use Rattle.sheet_laws.specs.Carried.{ends, row-low, shorter, halted, due, refused, goes-on}
+use Rattle.sheet_laws.specs.Carried.{ends, row-low, shorter, malformed, halted, due, refused, goes-on}
 use Rattle.sheet_run.proofs.carry.Statement.{statement}
 use Rattle.sheet_run.proofs.carry.Tie as tie
 
@@ -29,7 +29,7 @@ abbrev Here : Type 0
 Here = tie.Else1 Inv-loop μ-loop
 
 abbrev loop-of : Here → tie.At-loop Inv-loop μ-loop
-loop-of c = c .before .before .before .before .before .before .before
+loop-of c = c .before .before .before .before .before .before .before .before .before .before
 
 abbrev start-of : Here → tie.Start Inv-loop μ-loop
 start-of c = loop-of c .before .before .before
@@ -37,17 +37,19 @@ start-of c = loop-of c .before .before .before
 abbrev process-of : Here → ℕ
 process-of c = c .before .before .process-of .result
 
--- The entry that was handed out, and what it is.
+-- The operation that was handed out.
 abbrev Handed-out : Type 0
 Handed-out = tie.After-process-of Inv-loop μ-loop
 
-abbrev entry-of : Handed-out → Operation
-entry-of c = c .before .before .e .given .0 .0
+abbrev operation-of : Handed-out → Operation
+operation-of c = c .before .before .e2 .given .0 .0
 
 next-of : (c : Handed-out) →
-    let l = c .before .before .before .before .before in
-    handed (l .before .before .before .args .sheet .now) (l .loop .place) ≡ Next (entry-of c)
-next-of c = sym (c .before .before .before .before .entry-at .ensures) ∙ c .before .before .e .given .1
+    let l = c .before .before .before .before .before .before .before .before in
+    handed (l .before .before .before .args .sheet .now) (l .loop .place) ≡ Next (WellFormed (operation-of c))
+next-of c =
+    let h = c .before .before .before .before .before in
+    sym (h .before .before .entry-at .ensures) ∙ h .e .given .1 ∙ ap Next (c .before .before .e2 .given .1)
 
 -- There is budget left, and its process is one of the n.
 due-of : (c : Here) → (loop-of c .loop .k < start-of c .args .budget) × (process-of c < loop-of c .loop .s .n)
@@ -59,29 +61,28 @@ low c = row-low (loop-of c .loop .inv) (due-of c .1)
 -- A work turn.
 step-entered : (c : tie.After-step-refusal Inv-loop μ-loop) →
     let h = c .before .before .before .before .before in
-    Entered (loop-of h .loop .s) (loop-of h .loop .c) (entry-of (h .before .before)) (process-of h) (c .step-refusal .result)
+    Entered (loop-of h .loop .s) (loop-of h .loop .c) (operation-of (h .before .before)) (process-of h) (c .step-refusal .result)
 step-entered c =
     let h = c .before .before .before .before .before in
     record {
       named = h .before .before .process-of .ensures;
       below = due-of h .1;
-      code = c .step-refusal .ensures ∙ step-refusal _ _ (c .before .before .e2 .given .1);
+      code = c .step-refusal .ensures ∙ step-refusal _ _ (c .before .before .o .given .1);
     }
 
 abbrev stored-at : tie.After-next Inv-loop μ-loop → Here
 stored-at c = c .before .before .before .before .before .before .before .before .before .before .before .before .before
 
--- Any other entry.
-other-tag : (e : Operation) → OneOf (0 ∷ 2 ∷ 3 ∷ 4 ∷ []) (Declared.tagOf Operations.the-type e) → isStep e ≡ false
+-- Any other operation.
+other-tag : (o : Operation) → OneOf (0 ∷ 2 ∷ 3 ∷ []) (Declared.tagOf Operations.the-type o) → isStep o ≡ false
 other-tag (Propose p v) h = refl
-other-tag (Step p leader) h = absurd (⊎-elim (λ z. omega arith) (⊎-elim (λ z. omega arith) (⊎-elim (λ z. omega arith) (λ z. omega arith))) h)
+other-tag (Step p leader) h = absurd (⊎-elim (λ z. omega arith) (⊎-elim (λ z. omega arith) (λ z. omega arith)) h)
 other-tag (Learn p) h = refl
 other-tag (Crash p) h = refl
-other-tag Malformed h = refl
 
 other-entered : (c : tie.After-refusal-of Inv-loop μ-loop) →
     let h = c .before .before .before in
-    Entered (loop-of h .loop .s) (loop-of h .loop .c) (entry-of (h .before .before)) (process-of h) (c .refusal-of .result)
+    Entered (loop-of h .loop .s) (loop-of h .loop .c) (operation-of (h .before .before)) (process-of h) (c .refusal-of .result)
 other-entered c =
     let h = c .before .before .before in
     record {
@@ -107,29 +108,39 @@ returns c =
     let h = c .before .before .before in
     c .ran .ensures ∙ sym (ends (h .before .loop .inv) (sym (h .entry-at .ensures) ∙ c .before .enum-told .given .1))
 
--- Budget ended, or no such process.
+-- Budget ended, or malformed.
 returns-2 : tie.Need-returns-2 Inv-loop μ-loop
 returns-2 c =
     let t = c .before .before in
-    let h = t .before .before in
-    let l = h .before .before .before .before .before in
+    let h = t .before .before .before in
+    let l = h .before .before .before in
     c .ran2 .ensures
     ∙ rw (c .before .halt .ensures)
+    (sym (malformed (l .loop .inv) (sym (h .before .before .entry-at .ensures) ∙ h .e .given .1 ∙ ap Next (t .enum-told2 .given .1))))
+
+-- Budget ended, or no such process.
+returns-3 : tie.Need-returns-3 Inv-loop μ-loop
+returns-3 c =
+    let t = c .before .before in
+    let h = t .before .before in
+    let l = h .before .before .before .before .before .before .before .before in
+    c .ran3 .ensures
+    ∙ rw (c .before .halt2 .ensures)
     (sym (halted (l .loop .inv) (next-of h) (h .process-of .ensures) (sym (t .before .halts .ensures) ∙ t .if1 .taken)))
 
 -- Refused.
-returns-3 : tie.Need-returns-3 Inv-loop μ-loop
-returns-3 c =
-    let f = c .before .before in
-    let h = f .before .before .before .before .before in
-    c .ran3 .ensures
-    ∙ sym (refused (loop-of h .loop .inv) (next-of (h .before .before)) (due-of h .0) (step-entered f) (c .before .if2 .taken))
-
 returns-4 : tie.Need-returns-4 Inv-loop μ-loop
 returns-4 c =
     let f = c .before .before in
-    let h = f .before .before .before in
+    let h = f .before .before .before .before .before in
     c .ran4 .ensures
+    ∙ sym (refused (loop-of h .loop .inv) (next-of (h .before .before)) (due-of h .0) (step-entered f) (c .before .if2 .taken))
+
+returns-5 : tie.Need-returns-5 Inv-loop μ-loop
+returns-5 c =
+    let f = c .before .before in
+    let h = f .before .before .before in
+    c .ran5 .ensures
     ∙ sym (refused (loop-of h .loop .inv) (next-of (h .before .before)) (due-of h .0) (other-entered f) (c .before .if3 .taken))
 
 add-k : tie.Need-add-k Inv-loop μ-loop
@@ -140,7 +151,7 @@ loop-less c =
     let h = c .before .before .before in
     shorter (loop-of h .loop .inv) (next-of (h .before .before)) (c .place-after .ensures)
 
--- Carried out: a work turn, or any other entry, whose record changes or does not.
+-- Carried out: a work turn, or any other operation, whose record changes or does not.
 loop-again : tie.Need-loop-again Inv-loop μ-loop
 loop-again c =
     let j = c .before in
@@ -155,8 +166,8 @@ loop-again c =
     (step-entered
     (record {
       before = record {
-        before = record { before = record { before = j .before; match2 = w .0 }; e2 = w .1 };
-        known-told2 = w .2;
+        before = record { before = record { before = j .before; match3 = w .0 }; o = w .1 };
+        known-told3 = w .2;
       };
       step-refusal = w .3;
     }))
@@ -170,28 +181,21 @@ loop-again c =
     (w .12 .ensures))
     (c .place-after .ensures))
     (λ w.
-    let e = entry-of (h .before .before) in
-    let other = other-tag e (w .0 .keys2) in
-    let f = entered-none (other-entered (record { before = record { before = j .before; match2 = w .0 }; refusal-of = w .1 })) (w .2 .left) in
+    let o = operation-of (h .before .before) in
+    let other = other-tag o (w .0 .keys2) in
+    let f = entered-none (other-entered (record { before = record { before = j .before; match3 = w .0 }; refusal-of = w .1 })) (w .2 .left) in
     on f
     (w .8
     ∙ ⊎-elim
-    (λ v. v .2 ∙ other-changes W (l .s) (process-of h) e other (f .named) (sym (w .3 .ensures) ∙ v .0 .taken) (v .1 .ensures))
-    (λ v. v .1 ∙ other-stays W (l .s) (process-of h) (l .c) e other (sym (w .3 .ensures) ∙ v .0 .left) (sym (f .code)))
+    (λ v. v .2 ∙ other-changes W (l .s) (process-of h) o other (f .named) (sym (w .3 .ensures) ∙ v .0 .taken) (v .1 .ensures))
+    (λ v. v .1 ∙ other-stays W (l .s) (process-of h) o other (sym (w .3 .ensures) ∙ v .0 .left))
     (w .4 .came))
-    (w .7 ∙ tallied f (rw (w .5 .ensures) (other-counts (l .s) (l .c) e _ other)) (w .6 .ensures))
+    (w .7 ∙ tallied f (rw (w .5 .ensures) (other-counts (l .s) (l .c) o _ other)) (w .6 .ensures))
     (c .place-after .ensures))
-    (j .match2 .came)
+    (j .match3 .came)
 
 -- In the order of the code.
 pub carry-spec : {M : Type 1} → statement M
 carry-spec =
     tie.close
-    (tie.spec Inv-loop μ-loop (λ c κs. search needs) loop-holds (λ c κs. search needs) (λ c. search needs) (λ c. search needs) (λ c κs. search needs)
-    returns (λ c κs. search needs) (λ c κs. search needs) (λ c κs. search needs) (λ c κs. search needs) returns-2 (λ c. omega (arith, low c)) low
-    (λ c. search needs) (λ c κs. search needs) (λ c κs. search needs) returns-3 (λ c κs. search needs) (λ c κs. search needs) (λ c κs. search needs)
-    (λ c κs. search needs) (λ c κs. search needs) (λ c. omega (arith, low (stored-at c))) (λ c. low (stored-at c)) (λ c κs. search needs)
-    (λ c κs. search needs) (λ c κs. search needs) returns-4 (λ c κs. search needs) (λ c κs. search needs)
-    (λ c. omega (arith, low (c .before .before .before .before .before .before .before)))
-    (λ c. low (c .before .before .before .before .before .before .before)) (λ c κs. search needs) (λ c κs. search needs) add-k (λ c κs. search needs)
-    loop-less loop-again)
+    (tie.spec Inv-loop μ-loop (λ c κs. search needs) loop-holds (λ c κs. search needs) (λ c. search needs) (λ c. search needs) (λ c κs. search needs) returns (λ c. search needs) (λ c. search needs) (λ c κs. search needs) (λ c κs. search needs) returns-2 (λ c κs. search needs) (λ c κs. search needs) (λ c κs. search needs) (λ c κs. search needs) returns-3 (λ c. omega (arith, low c)) low (λ c. search needs) (λ c κs. search needs) (λ c κs. search needs) returns-4 (λ c κs. search needs) (λ c κs. search needs) (λ c κs. search needs) (λ c κs. search needs) (λ c κs. search needs) (λ c. omega (arith, low (stored-at c))) (λ c. low (stored-at c)) (λ c κs. search needs) (λ c κs. search needs) (λ c κs. search needs) returns-5 (λ c κs. search needs) (λ c κs. search needs) (λ c. omega (arith, low (c .before .before .before .before .before .before .before))) (λ c. low (c .before .before .before .before .before .before .before)) (λ c κs. search needs) (λ c κs. search needs) add-k (λ c κs. search needs) loop-less loop-again)

@@ -1,8 +1,7 @@
 -- `sheet_write_refusal::well_formed` meets its contract. The loop's invariant: the entries from i on decide. Assumes nothing.
 use Rattle.base.specs.Prelude.{ℕ, suc, _+_, _-_, _*_, _/_, _≤_, min, arith, sub-zero, _≡_, sym, _∙_, ap, Bool, not, _&&_, List, ⊎-elim, length, not-true, not-false, needs}
 use Rattle.model.specs.Bytes.{byteAt}
-use Rattle.model.specs.Refusal.{isMalformed}
-use Rattle.model.specs.Sheet.{entryOf, entryAt, entriesAt}
+use Rattle.model.specs.Sheet.{entryOf, entryAt, entriesAt, isMalformed}
 use Rattle.model_write.specs.Write.{wellFormed}
 use Rattle.sheet_write_refusal.proofs.well_formed.Statement.{statement}
 use Rattle.sheet_write_refusal.proofs.well_formed.Tie as tie

@@ -7,4 +7,4 @@ pub changes-spec : {M : Type 1} → statement M
 changes-spec =
     tie.close
     (tie.spec (λ c. search needs) (λ c. search needs) (λ c. search needs) (λ c. search needs) (λ c. search needs) (λ c. search needs)
-    (λ c. search needs) (λ c. rw (c .enum-told3 .given .1)) (λ c. search needs) (λ c. search needs))
+    (λ c. rw (c .enum-told3 .given .1)) (λ c. search needs))
