@@ -42,6 +42,8 @@ fn waiting(limit: usize, round: usize, estimate: u32, leader: bool, x: u32) -> P
             }
             return process(upward(limit, round + 1), round + 1, estimate);
         }
+    }
+    if left { // hint no
         return process(Phase::Waiting, round, estimate);
     }
     process(Phase::Exhausted, round, estimate)

@@ -1,5 +1,5 @@
 -- `part_next::waiting` meets its contract, at every window. Assumes nothing.
-use Rattle.base.specs.Prelude.{_<_, add-assoc, needs, ltb-true, eq-eqb, ne-eqb}
+use Rattle.base.specs.Prelude.{_<_, _≡_, sym, _∙_, ⊎-elim, true, true≢false, ltb, add-assoc, needs, ltb-true, eq-eqb, ne-eqb}
 use Rattle.model.specs.Step.{waitingRule, nextAt}
 use Rattle.part_next.proofs.waiting.Statement.{statement}
 use Rattle.part_next.proofs.waiting.Tie as tie
@@ -21,11 +21,14 @@ filled c W =
 -- It is not: with hint no, and since no round is left.
 stays : tie.Need-returns-3
 unfolding nextAt waitingRule
-stays c W = rw (c .before .before .if1 .taken, c .before .if2 .left) (c .process3 .ensures)
+stays c W =
+    let a = c .before .before .before .args in
+    let t : ltb (a .round) (a .limit) ≡ true = c .before .if4 .taken in
+    ⊎-elim (λ w. rw (t, w .1 .left) (c .process3 .ensures)) (λ w. absurd (true≢false (sym t ∙ w .left))) (c .before .before .if1 .came)
 
 spent : tie.Need-returns-4
 unfolding nextAt waitingRule
-spent c W = rw (c .before .if1 .left) (c .process4 .ensures)
+spent c W = rw (c .before .if4 .left) (c .process4 .ensures)
 
 -- Where a register is read, a round is left, so that the sum fits: one of the two tests says so.
 below : (c : tie.Then2) → let a = c .before .before .args in a .round < a .limit
