@@ -1,4 +1,5 @@
--- Document 02, wish 3, the two round trips of writer and reader, as claims about the definitions.
+-- Document 02, wish 3, the two round trips of writer and reader, as claims about the definitions. `theory_write/specs/Functions.antt` has
+-- them of the functions.
 use Prim.Native.Nat.{ℕ, _+_, _/_, _≤_, _<_}
 use mathlib.Core.Path.{_≡_}
 use mathlib.Core.Bool.{Bool, true, _&&_}
