@@ -32,7 +32,7 @@ opening caller n L = openingAt (limitsOf caller) (window n) n L
 
 -- ---- one operation: what it accesses, and what its process becomes
 
--- The one register operation, by the record q of the process: a proposal and a crash have none; a work turn as its phase says; "a look
+-- The one register operation, by the record q of the process: a proposal and a crash have none; a work turn as its phase says; "A look
 -- reads D".
 unfoldable pub accessOf : (limit : ℕ) → Process → Operation → Access
 accessOf L q (Propose p v) = Nothing
@@ -41,8 +41,8 @@ accessOf L q (Learn p) = ReadDecision
 accessOf L q (Crash p) = Nothing
 accessOf L q Malformed = Nothing
 
--- What the process becomes by the value x that was read, at window W: "a proposal moves a seat from out to gate with own value v"; a work
--- turn and a look as `Step` has them; "a crash moves a working or spent seat to crashed; round and own value remain".
+-- What the process becomes by the value x that was read, at window W: "A proposal moves a seat from out to gate with own value v"; a work
+-- turn and a look as `Step` has them; "A crash moves a working or spent seat to crashed; round and own value remain".
 unfoldable pub becomes : (W L : ℕ) → Process → Operation → (x : ℕ) → Process
 becomes W L q (Propose p v) x = process Waiting (q .round) v
 becomes W L q (Step p leader) x = next W L q leader x

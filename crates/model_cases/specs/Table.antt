@@ -44,7 +44,7 @@ contended =
     ∷ Step 1 true
     ∷ []
 
--- "From there work 0, 0, 1, 1, 1."
+-- "From there work 0, 0, 1, 1, 1".
 continued : List Operation
 unfolding contended
 continued = contended ++ (Step 0 true ∷ Step 0 true ∷ Step 1 true ∷ Step 1 true ∷ Step 1 true ∷ [])
