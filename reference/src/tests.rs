@@ -64,9 +64,13 @@ impl Case {
         case
     }
 
-    /// The contested case of two seats, as far as its first seven turns.
+    /// The contested case of two seats, as far as its first seven turns, at the least L.
     fn contested() -> Case {
-        let mut case = Case::open(2, 3);
+        Case::contested_at(3)
+    }
+
+    fn contested_at(limit: usize) -> Case {
+        let mut case = Case::open(2, limit);
         case.propose(0, 3);
         case.propose(1, 8);
         case.work(&[0, 1, 0, 1, 0, 0, 1]);

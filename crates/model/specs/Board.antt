@@ -12,7 +12,7 @@ use Rattle.model.specs.declared.Caller.{Caller}
 use Rattle.model.specs.declared.Caller.the-variants.{Server, Cart}
 use Rattle.model.specs.declared.Limits.{Limits}
 
--- "Seats n: 1 to 64." The most processes that a session holds.
+-- "Seats n: 1 to 64, numbered from 0." The most processes that a session holds.
 abbrev pub maxProcesses : ℕ
 maxProcesses = 64
 
@@ -33,11 +33,11 @@ pub record UpToServer (most : Limits) : Type 0 where
 
 -- ---- what a session holds
 
--- "A value register T[r]", r from 1; 0 is blank.
+-- 01: "a value register T[r]", r from 1; 0 is blank.
 abbrev pub valueAt : Session → ℕ → ℕ
 valueAt s r = getD (s .values) (r - 1) 0
 
--- "A mark C[r]", r from 1.
+-- 01: "a mark C[r]", r from 1.
 abbrev pub markAt : Session → ℕ → Bool
 markAt s r = getD (s .marks) (r - 1) false
 

@@ -33,7 +33,7 @@ decidedValue Decided e = e
 decidedValue HasCommitted e = 0
 decidedValue HasAdopted e = 0
 
--- "For s from 0 to 63, bytes 4s to 4s + 3 hold seat s's decided value."
+-- 01: "for s from 0 to 63, bytes 4s to 4s + 3 hold seat s's decided value, little-endian, or 0 where there is none."
 abbrev pub decidedBytes : List Process → List ℕ
 decidedBytes [] = []
 decidedBytes (q ∷ qs) = bytes32 (decidedValue (q .phase) (q .estimate)) ++ decidedBytes qs
@@ -52,7 +52,7 @@ endingBuffer (Refused k i) qs b = decidedBytes qs
 endingBuffer BudgetEnded qs b = decidedBytes qs
 endingBuffer (Rejected k) qs b = b
 
--- "A buffer of exactly 256 bytes .. 15 is tested first." 02, wish 9: "the C entry and the report use the server's" limits.
+-- 01: "a buffer of exactly 256 bytes .. 15 is tested first." 02, wish 9: "the C entry and the report use the server's" limits.
 unfoldable pub exportCode : (sheet : List ℕ) (budget : ℕ) (buffer : List ℕ) → ℕ
 exportCode s budget b = cond (eqb (length b) 256) (endingCode (run Server s budget .ending)) badBuffer
 

@@ -39,7 +39,7 @@ processOf (Step p leader) = p
 processOf (Learn p) = p
 processOf (Crash p) = p
 
--- The one register operation, by the record q of the process: a proposal and a crash have none; a work turn as its phase says; "a look
+-- The one register operation, by the record q of the process: a proposal and a crash have none; a work turn as its phase says; "A look
 -- reads D".
 unfoldable pub accessOf : (limit : ℕ) → Process → Operation → Access
 accessOf L q (Propose p v) = Nothing
@@ -47,8 +47,8 @@ accessOf L q (Step p leader) = access L q leader
 accessOf L q (Learn p) = ReadDecision
 accessOf L q (Crash p) = Nothing
 
--- What the process becomes by the value x that was read, at window W: "a proposal moves a seat from out to gate with own value v"; a work
--- turn and a look as `Step` has them; "a crash moves a working or spent seat to crashed; round and own value remain".
+-- What the process becomes by the value x that was read, at window W: "A proposal moves a seat from out to gate with own value v"; a work
+-- turn and a look as `Step` has them; "A crash moves a working or spent seat to crashed; round and own value remain".
 unfoldable pub becomes : (W L : ℕ) → Process → Operation → (x : ℕ) → Process
 becomes W L q (Propose p v) x = process Waiting (q .round) v
 becomes W L q (Step p leader) x = next W L q leader x

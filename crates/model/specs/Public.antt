@@ -17,7 +17,7 @@ use Rattle.model.specs.Refusal.{tests}
 use Rattle.model.specs.Machine.{answered}
 use Rattle.model.specs.Sound.{soundAtAs}
 
--- An answer with the counts that the caller lent, as they stand at the end: "the caller lends its tally, which a turn updates where
+-- An answer with the counts that the caller lent, as they stand at the end: "The caller lends its tally, which a turn updates where
 -- it stands".
 abbrev pub withCounts : Changed → Counts → Stepped
 withCounts a c = record { code = a .code; session = a .session; counts = c }
@@ -28,7 +28,7 @@ withoutCounts a = record { code = a .code; session = a .session }
 
 -- ---- at any window
 
--- "3: session not sound", tested first; "session, tally, buffer unchanged". Proposals and crashes are those of polls too (02, wish 6), where 3 is
+-- 3, "session not sound", tested first; "session, tally, buffer unchanged". Proposals and crashes are those of polls too (02, wish 6), where 3 is
 -- by a poll's soundness: `poll` says which. (A poll's turn is its own: `model_poll`.)
 unfoldable pub operateAtAs : (poll : Bool) → (W : ℕ) → Session → Counts → Operation → Stepped
 operateAtAs poll W s c o = answered ((not (soundAtAs poll W s), unsound) ∷ tests s c o) W s c o

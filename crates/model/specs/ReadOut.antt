@@ -21,7 +21,7 @@ abbrev pub registerAnswer : ℕ → (value : ℕ) (marked : Bool) → RegisterAn
 registerAnswer zero v m = record { code = 0; value = v; marked = m }
 registerAnswer (suc k) v m = record { code = suc k; value = 0; marked = false }
 
--- "14: read-out of a round not 1 to L."
+-- 14: "read-out of a round not 1 to L".
 unfoldable pub register : Session → (r : ℕ) → RegisterAnswer
 register s r =
     registerAnswer (refusal ((not (sound s), unsound) ∷ (not (leb 1 r && leb r (s .limit)), noSuchRound) ∷ [])) (valueAt s r) (markAt s r)
@@ -64,7 +64,7 @@ unfoldable pub valuesTo : (T : List ℕ) (r : ℕ) → List ℕ
 valuesTo T zero = []
 valuesTo T (suc r) = withNew (take r T) (getD T r 0) (valuesTo T r)
 
--- "The values held by the filled registers among T[1] to T[L]."
+-- 01: "the values held by the filled registers among T[1] to T[L]".
 abbrev pub standingValues : Session → List ℕ
 standingValues s = valuesTo (s .values) (s .limit)
 
@@ -76,7 +76,7 @@ abbrev pub countAnswer : ℕ → (count : ℕ) → CountAnswer
 countAnswer zero c = record { code = 0; count = c }
 countAnswer (suc k) c = record { code = suc k; count = 0 }
 
--- "It returns how many."
+-- "It returns how many".
 abbrev pub standingAnswer : Session → (buffer : List ℕ) → CountAnswer
 standingAnswer s buffer = countAnswer (standingRefusal s buffer) (length (standingValues s))
 

@@ -31,7 +31,7 @@ refusal (t ∷ ts) = cond (t .0) (t .1) (refusal ts)
 
 -- ---- the situations of a process
 
--- "Seat out"; working, "gate to commit"; "seat spent"; "seat crashed or decided". 02, wish 6: "a turn or crash of an answered seat gives 8".
+-- 01: "seat out"; working, "gate to commit"; "seat spent"; "seat crashed or decided". 02, wish 6: "a turn or crash of an answered seat gives 8".
 abbrev pub status : Phase → Status
 status Idle = Outside
 status Waiting = Active
@@ -71,7 +71,7 @@ isGone Gone = true
 abbrev pub maxCount : ℕ
 maxCount = 4294967295
 
--- "Some tally count already 4,294,967,295."
+-- 01: "some tally count already 4,294,967,295".
 unfoldable pub full : Counts → Bool
 full c = leb maxCount (c .reads) || leb maxCount (c .writes) || leb maxCount (c .contested)
 

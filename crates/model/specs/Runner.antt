@@ -43,7 +43,7 @@ abbrev pub ranOr : (refusal : ℕ) → Ran → Ran
 ranOr zero r = r
 ranOr (suc k) r = ran 0 (opened 0 0) noCounts (Rejected (suc k))
 
--- A sheet within a caller's limits: "the runner opens a session and an empty tally".
+-- A sheet within a caller's limits: "The runner opens a session and an empty tally".
 unfoldable pub runWithin : Limits → (sheet : List ℕ) → (budget : ℕ) → Ran
 runWithin most s budget =
     ranOr (sheetRefusal most s)

@@ -24,7 +24,7 @@ runCount s = byteAt s 1
 abbrev pub roundLimit : List ℕ → ℕ
 roundLimit s = word16 s 2
 
--- ---- the runs: "Then p pairs, 16-bit offset and 16-bit length, offsets from the sheet's start."
+-- ---- the runs: "Then p pairs, 16-bit offset and 16-bit length, offsets from the sheet's start, sorted by offset."
 
 -- A run of entries: where it starts, and its length in bytes (01: a pair).
 pub record Run : Type 0 where
@@ -51,15 +51,15 @@ abbrev pub inOrder : (from size : ℕ) → List Run → Bool
 inOrder from size [] = true
 inOrder from size (x ∷ xs) = leb from (x .offset) && leb (x .offset + x .size) size && inOrder (x .offset + x .size) size xs
 
--- "12: a run's length not a multiple of 6."
+-- 12: "a run's length not a multiple of 6".
 abbrev pub wholeEntries : Run → Bool
 wholeEntries x = eqb (x .size % 6) 0
 
--- "10: sheet under 4 or over 65,535 bytes, over 16 pairs, or too short for its pairs."
+-- 10: "sheet under 4 or over 65,535 bytes, over 16 pairs, or too short for its pairs".
 abbrev pub hasHeader : List ℕ → Bool
 hasHeader s = leb 4 (length s) && leb (length s) 65535 && leb (runCount s) 16 && leb (headerEnd s) (length s)
 
--- "Sheet 10, 1, 2, 11 over all pairs, 12 over all runs."
+-- "Sheet 10, 1, 2, 11 over all pairs, 12 over all runs".
 abbrev pub sheetTests : Limits → List ℕ → List Test
 sheetTests most s =
     (not (hasHeader s), badSheet)

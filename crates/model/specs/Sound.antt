@@ -18,7 +18,7 @@ abbrev pub every : {A : Type 0} → (A → Bool) → List A → Bool
 every test [] = true
 every test (x ∷ xs) = test x && every test xs
 
--- The rules of each phase, of a session and (poll true) of a poll. 01: "Out has round 0 ..; put has round 1 or more; seek k has 1 ≤ r < k ≤ L;
+-- The rules of each phase, of a session and (poll true) of a poll. 01: "out has round 0 ..; put has round 1 or more; seek k has 1 ≤ r < k ≤ L;
 -- take k has 1 ≤ r ≤ k ≤ L; compare and flag have r ≥ 1 and i below the smaller of r and W; the checks have r ≥ W and i < W; commit has
 -- r ≥ W; spent has r = L." 02, wish 6: "A sound poll keeps a session's rules and has .. no spent or decided seat, gate only below round W,
 -- and answered seats at round W; no sound session has an answered seat."
@@ -39,7 +39,7 @@ soundPhaseAs poll W L r Decided = not poll
 soundPhaseAs poll W L r HasCommitted = poll && eqb r W
 soundPhaseAs poll W L r HasAdopted = poll && eqb r W
 
--- "Out has .. value 0, every other stance a value above 0 and a round of at most L", and the phase's own clause.
+-- 01: "out has .. value 0, every other stance a value above 0 and a round of at most L", and the phase's own clause.
 unfoldable pub soundProcessAs : (poll : Bool) → (W L : ℕ) → Process → Bool
 soundProcessAs poll W L q =
     cond (isOutside (status (q .phase))) (eqb (q .estimate) 0) (ltb 0 (q .estimate))

@@ -133,8 +133,8 @@ turn s p a becomes = withProcess (stored s a (processAt s p .estimate)) p (becom
 abbrev pub newlyMarked : (x : ℕ) → ℕ
 newlyMarked x = cond (eqb x 0) 1 0
 
--- "Register reads, register writes (T, C and D), and contested": in 01 "the number of flag writes"; in 02, wish 2, "the number of flag writes that
--- found their round unmarked". "A second flag on a marked round is still a register write." x is what the operation found.
+-- 01: "register reads, register writes (T, C and D), and contested", there "the number of flag writes"; in 02, wish 2, "the number of flag
+-- writes that found their round unmarked". "A second flag on a marked round is still a register write." x is what the operation found.
 unfoldable pub counted : Access → (x : ℕ) → Counts → Counts
 counted Nothing x c = c
 counted (ReadValue r) x c = record { reads = c .reads + 1; writes = c .writes; contested = c .contested }

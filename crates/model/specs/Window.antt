@@ -8,7 +8,7 @@ unfoldable pub rootFrom : ℕ → ℕ → ℕ → ℕ
 rootFrom zero m n = m
 rootFrom (suc fuel) m n = cond (leb n (m * m)) m (rootFrom fuel (suc m) n)
 
--- "The root of n, rounded up to a whole number": the smallest m with m · m at least n.
+-- 01: "the root of n, rounded up to a whole number": the smallest m with m · m at least n.
 unfoldable pub rootUp : ℕ → ℕ
 rootUp n = rootFrom n 0 n
 

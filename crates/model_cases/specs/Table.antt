@@ -1,5 +1,6 @@
--- Document 01, "Paper cases": the starred rows, in their order and as document 02 has them now, with the other windows that its wish 8 names, and that
--- all of them hold of the machine.
+-- Document 01, "Paper cases": the starred rows, in their order and as document 02 has them now, with the other windows that its wish 8
+-- names, and that all of them hold of the machine. The cases that 01 plays at L = 3 with one process and at L = 5 with two are played at
+-- those L, and again at the least L of wish 8.
 use Prim.Native.Nat.{ℕ}
 use mathlib.Core.Path.{_≡_, refl}
 use mathlib.Core.Bool.{true, false}
@@ -16,16 +17,20 @@ use Rattle.model.specs.Sound.{every}
 use Rattle.model_cases.specs.Play.{Case, holds, repeat}
 use Rattle.model_cases.specs.Play.Shows.{answers, hasWindow, register, marked, decision, stands, counts}
 
--- n = 1, L = 2, proposal 7, hints yes.
+-- n = 1: proposal 7, hints yes.
 solo : ℕ → List Operation
 solo turns = Propose 0 7 ∷ repeat turns (Step 0 true)
 
--- From its commit on, at gate in round L: hints no.
+-- Proposal 7, and 19 hints of no.
+unhinted : List Operation
+unhinted = Propose 0 7 ∷ repeat 19 (Step 0 false)
+
+-- From its commit on, with L = 2 at gate in round L: hints no.
 unled : ℕ → List Operation
 unfolding solo
 unled turns = solo 12 ++ repeat turns (Step 0 false)
 
--- n = 2, L = 3: seat 0 proposes 3, seat 1 proposes 8; hints yes; work 0, 1, 0, 1, 0, 0, 1.
+-- n = 2: seat 0 proposes 3, seat 1 proposes 8; hints yes; work 0, 1, 0, 1, 0, 0, 1.
 contended : List Operation
 contended =
     Propose 0 3
@@ -39,13 +44,13 @@ contended =
     ∷ Step 1 true
     ∷ []
 
--- "From there work 0, 0, 1, 1, 1."
+-- "From there work 0, 0, 1, 1, 1".
 continued : List Operation
 unfolding contended
 continued = contended ++ (Step 0 true ∷ Step 0 true ∷ Step 1 true ∷ Step 1 true ∷ Step 1 true ∷ [])
 
 pub table : List Case
-unfolding solo unled contended continued
+unfolding solo unhinted unled contended continued
 table =
     -- opening
     record { n = 0; limit = 16; operations = []; shows = answers 1 ∷ [] }
@@ -60,27 +65,30 @@ table =
     ∷ record { n = 4; limit = 4; operations = []; shows = answers 0 ∷ hasWindow 4 ∷ [] }
     ∷ record { n = 5; limit = 5; operations = []; shows = answers 0 ∷ hasWindow 5 ∷ [] }
     ∷ record { n = 9; limit = 6; operations = []; shows = answers 0 ∷ hasWindow 6 ∷ [] }
-    -- one process: round 1 is over after 3 turns; commit and a blank D after 11; D is 7 after 12
+    -- one process. 01: "n = 1, L = 3, proposal 7, hints yes: after 3 work turns round 1 is over; after 18 the stance is commit and D is
+    -- blank; after 19 D is 7, 15 reads, 4 writes." 02, wish 8: "The paper case of one seat becomes 12 work turns to the commit, 9 reads, 3
+    -- writes". So the stance is commit and D is blank after 11. Round 3 follows where L = 3; after 19 turns D and the counts are as in 01.
+    ∷ record { n = 1; limit = 3; operations = solo 3; shows = answers 0 ∷ stands 0 Waiting 1 7 ∷ [] }
+    ∷ record { n = 1; limit = 3; operations = solo 11; shows = stands 0 Commit 2 7 ∷ decision 0 ∷ [] }
+    ∷ record { n = 1; limit = 3; operations = solo 12; shows = decision 7 ∷ counts 9 3 0 ∷ [] }
+    ∷ record { n = 1; limit = 3; operations = solo 19; shows = decision 7 ∷ counts 15 4 0 ∷ [] }
+    -- and with L = 2
     ∷ record { n = 1; limit = 2; operations = solo 3; shows = answers 0 ∷ stands 0 Waiting 1 7 ∷ [] }
     ∷ record { n = 1; limit = 2; operations = solo 11; shows = stands 0 Commit 2 7 ∷ decision 0 ∷ [] }
     ∷ record { n = 1; limit = 2; operations = solo 12; shows = decision 7 ∷ counts 9 3 0 ∷ [] }
-    -- the same with hints of no, 19 of them as in 01
-    ∷ record {
-      n = 1;
-      limit = 2;
-      operations = Propose 0 7 ∷ repeat 19 (Step 0 false);
-      shows = answers 0 ∷ stands 0 Waiting 0 7 ∷ counts 0 0 0 ∷ [];
-    }
-    -- two processes
+    -- "The same with 19 hints of no: still at gate, round 0, tally all 0." With L = 3, and with L = 2.
+    ∷ record { n = 1; limit = 3; operations = unhinted; shows = answers 0 ∷ stands 0 Waiting 0 7 ∷ counts 0 0 0 ∷ [] }
+    ∷ record { n = 1; limit = 2; operations = unhinted; shows = answers 0 ∷ stands 0 Waiting 0 7 ∷ counts 0 0 0 ∷ [] }
+    -- two processes. 01: "n = 2, L = 5, seat 0 proposes 3, seat 1 proposes 8. Hints yes. Work 0, 1, 0, 1, 0, 0, 1: T[1] = 8, C[1] marked,
+    -- 4 reads, 3 writes, 1 contested." "From there work 0, 0, 1, 1, 1: T[2] = 3; seat 1 stands at compare 0, round 2, value 3; 8 reads, 4
+    -- writes."
+    ∷ record { n = 2; limit = 5; operations = contended; shows = register 1 8 ∷ marked 1 ∷ counts 4 3 1 ∷ [] }
+    ∷ record { n = 2; limit = 5; operations = continued; shows = register 2 3 ∷ stands 1 (Compare 0) 2 3 ∷ counts 8 4 1 ∷ [] }
+    -- and with L = 3, by 02, wish 8 ("The other cases are worked again.")
     ∷ record { n = 2; limit = 3; operations = contended; shows = register 1 8 ∷ marked 1 ∷ counts 4 3 1 ∷ [] }
-    ∷ record {
-      n = 2;
-      limit = 3;
-      operations = continued;
-      shows = register 2 3 ∷ stands 1 (Compare 0) 2 3 ∷ counts 8 4 1 ∷ [];
-    }
-    -- at gate with round L, where 01 has "hint no, gate; hint yes, spent" and 02, wish 5, spent for both: hint no; hint yes; a further work turn after
-    -- either; a look
+    ∷ record { n = 2; limit = 3; operations = continued; shows = register 2 3 ∷ stands 1 (Compare 0) 2 3 ∷ counts 8 4 1 ∷ [] }
+    -- at gate with round L, where 01 has "hint no, gate; hint yes, spent" and 02, wish 5, spent for both: hint no; hint yes; a further work
+    -- turn after either; a look
     ∷ record { n = 1; limit = 2; operations = unled 1; shows = answers 0 ∷ stands 0 Exhausted 2 7 ∷ counts 9 3 0 ∷ [] }
     ∷ record { n = 1; limit = 2; operations = solo 13; shows = answers 0 ∷ stands 0 Exhausted 2 7 ∷ counts 9 3 0 ∷ [] }
     ∷ record { n = 1; limit = 2; operations = unled 2; shows = answers 9 ∷ stands 0 Exhausted 2 7 ∷ counts 9 3 0 ∷ [] }

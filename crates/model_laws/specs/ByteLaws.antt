@@ -56,7 +56,7 @@ word32-drop n s i = simp (getD-drop, add-assoc)
 abbrev pub decidedAt : List Process → (p : ℕ) → ℕ
 decidedAt qs p = decidedValue (getD qs p idle .phase) (getD qs p idle .estimate)
 
--- "Bytes 4s to 4s + 3 hold seat s's decided value", and past the last process 0 is read.
+-- 01: "bytes 4s to 4s + 3 hold seat s's decided value", and past the last process 0 is read.
 pub decided-word : (qs : List Process) (p : ℕ) → ((q : ℕ) → decidedAt qs q < 4294967296) → word32 (decidedBytes qs) (4 * p) ≡ decidedAt qs p
 decided-word [] p low = refl
 decided-word (q ∷ qs) zero low = word32-first _ (decidedBytes qs) (low 0)

@@ -64,7 +64,7 @@ turned ts W s c p = polled (stepped (refusal ts) s (turnAfter W s p) c (turnCoun
 
 -- ---- the machine
 
--- "Proposals, turns and crashes", each with what it brings: the process, and the number proposed.
+-- 02, wish 6: "proposals, turns and crashes", each with what it brings: the process, and the number proposed.
 pub data PollOperation : Type 0 where
   proposes : (p v : ℕ) → PollOperation
   turns : (p : ℕ) → PollOperation

@@ -28,7 +28,7 @@ module _ (W : ℕ) (s : Session) (c : Counts) (p : ℕ) (below : p < s .n) where
   read = record { reads = c .reads + 1; writes = c .writes; contested = c .contested }
 
   module _ (long : p < length (s .processes)) (room : full c ≡ false) where
-    -- "Its turn at commit answers committed with its value and writes no D": the record alone changes, and nothing is counted.
+    -- 02: "its turn at commit answers committed with its value and writes no D": the record alone changes, and nothing is counted.
     pub commit-answers : q .phase ≡ Commit →
         pollPerform W s c (turns p)
         ≡ record { code = 0; session = withProcess s p (process HasCommitted (q .round) (q .estimate)); counts = c; answer = Commits (q .estimate) }
@@ -36,7 +36,7 @@ module _ (W : ℕ) (s : Session) (c : Counts) (p : ℕ) (below : p < s .n) where
     commit-answers at =
         rw (lt-leb (s .n) p below, at, room, getD-set-same (s .processes) p (process HasCommitted (q .round) (q .estimate)) idle long) refl
 
-    -- "Where a check of that round fails it answers adopted with its value": at a marked round,
+    -- 02: "where a check of that round fails it answers adopted with its value": at a marked round,
     pub marked-adopts : (i : ℕ) → q .phase ≡ CheckMark i → markAt s (q .round - i) ≡ true →
         pollPerform W s c (turns p)
         ≡ record { code = 0; session = withProcess s p (process HasAdopted (q .round) (q .estimate)); counts = read; answer = Adopts (q .estimate) }
@@ -63,7 +63,7 @@ module _ (W : ℕ) (s : Session) (c : Counts) (p : ℕ) (below : p < s .n) where
   unfolding pollPerform turned
   working-turn works room = rw (lt-leb (s .n) p below, works, room) refl
 
-  -- "A turn or crash of an answered seat gives 8", and changes nothing.
+  -- 02: "a turn or crash of an answered seat gives 8", and changes nothing.
   module _ (gone : status (q .phase) ≡ Gone) where
     pub gone-turn : pollPerform W s c (turns p) ≡ record { code = processGone; session = s; counts = c; answer = Pending }
     unfolding pollPerform turned
@@ -80,7 +80,7 @@ false-if : (b : Bool) → (b ≡ true → ⊥) → b ≡ false
 false-if true never = absurd (never refl)
 false-if false never = refl
 
--- "No sound session has an answered seat": a session's operations and read-outs refuse a poll with one.
+-- 02: "no sound session has an answered seat": a session's operations and read-outs refuse a poll with one.
 pub answered-no-session : (s : Session) (p v : ℕ) → Carries (answerOf (processAt s p)) v → sound s ≡ false
 unfolding answerOf soundAs
 answered-no-session s p v has =

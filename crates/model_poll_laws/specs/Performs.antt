@@ -132,7 +132,7 @@ accepted-here s c (proposes p v) a = outside-here (status (processAt s p .phase)
 accepted-here s c (turns p) a = a .here
 accepted-here s c (crashes p) a = a .own .1 .0
 
--- "An answered process takes no further turn or crash": it keeps its record through every operation.
+-- 02, wish 6: "a turn or crash of an answered seat gives 8". So an answered process keeps its record through every operation.
 pub answered-stays : (W : ℕ) (s : Session) (c : Counts) (o : PollOperation) (p v : ℕ) → Carries (answerOf (processAt s p)) v →
     processAt (pollPerform W s c o .session) p ≡ processAt s p
 answered-stays W s c o p v has =

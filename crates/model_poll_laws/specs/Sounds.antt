@@ -66,12 +66,12 @@ module _ (W : ℕ) where
   Ends r left φ =
       (isOutside (status φ) ≡ isOutside (status left)) × (soundPhase W W r left ≡ true → soundPhaseAs true W W r φ ≡ true)
 
-  -- "Gate only below round W."
+  -- 02: "gate only below round W".
   ends-waiting : {r : ℕ} → r < W → Ends r Waiting Waiting
   unfolding soundPhaseAs
   ends-waiting {r} low = (refl, λ t. lt-ltb r W low)
 
-  -- "Answered seats at round W."
+  -- 02: "answered seats at round W".
   ends-answered : {r : ℕ} → W ≤ r → r ≤ W → Ends r Waiting HasAdopted
   unfolding soundPhaseAs
   ends-answered {r} high low = (refl, λ t. eq-eqb r W (omega arith))
@@ -162,7 +162,7 @@ quiet-decision s (SetMark r) e = refl
 quiet-decision s ReadDecision e = refl
 quiet-decision s WriteDecision e = refl
 
--- "Writes no D."
+-- 02: "writes no D".
 pub poll-decision : (s : Session) (L : ℕ) (q : Process) (e : ℕ) → stored s (pollAccess L q) e .decision ≡ s .decision
 unfolding pollAccess
 poll-decision s L q e = quiet-decision s (access L q true) e
@@ -175,7 +175,7 @@ poll-access-range W L M q low t = quiet-range M (access L q true) (operation-rea
 -- ---- the poll after a proposal, a turn and a crash
 
 module _ (W : ℕ) (s : Session) (t : soundAtAs true W s ≡ true) where
-  -- "L = W, a blank D."
+  -- 02: "L = W, a blank D".
   pub poll-limit : s .limit ≡ W
   unfolding pollRegisters
   poll-limit = eqb-true (s .limit) W (and-left (eqb (s .limit) W) _ (sound-facts true W s t .only))

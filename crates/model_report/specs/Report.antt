@@ -20,7 +20,7 @@ use Rattle.model.specs.declared.Ran.{Ran}
 use Rattle.model.specs.Board.{highestFilled}
 use Rattle.model.specs.Runner.{run}
 
--- "A budget of 10,921."
+-- 01: "a budget of 10,921".
 abbrev pub reportBudget : ℕ
 reportBudget = 10921
 
@@ -50,18 +50,18 @@ newline = 10 ∷ []
 
 -- ---- the lines
 
--- "Sheet refused CODE"; "outcome refused CODE INDEX"; otherwise "outcome finished" and the number of entries carried out.
+-- 01: "sheet refused CODE"; "outcome refused CODE INDEX"; otherwise "outcome finished" and the number of entries carried out.
 abbrev pub outcomeLine : Ending → (carried : ℕ) → List ℕ
 outcomeLine Finished k = bytes "outcome finished" ++ field k ++ newline
 outcomeLine (Refused c i) k = bytes "outcome refused" ++ field c ++ field i ++ newline
 outcomeLine BudgetEnded k = bytes "outcome finished" ++ field k ++ newline
 outcomeLine (Rejected c) k = bytes "sheet refused" ++ field c ++ newline
 
--- "The tally line is reads, writes, contested."
+-- "The tally line is reads, writes, contested".
 abbrev pub tallyLine : Counts → List ℕ
 tallyLine c = bytes "tally" ++ field (c .reads) ++ field (c .writes) ++ field (c .contested) ++ newline
 
--- "The board line is the highest filled round (0 for none) and D."
+-- 01: "the board line is the highest filled round (0 for none) and D."
 abbrev pub boardLine : Session → List ℕ
 boardLine s = bytes "board" ++ field (highestFilled s) ++ field (s .decision) ++ newline
 

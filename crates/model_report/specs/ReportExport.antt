@@ -1,5 +1,5 @@
--- The board report for callers in C: what they get for a sheet and a buffer. "15: lent buffer of wrong length, buffer unchanged" (document 01,
--- "Numbers returned"): here one that is shorter than the text.
+-- The board report for callers in C: what they get for a sheet and a buffer. 15, "lent buffer of wrong length" and "buffer unchanged"
+-- (document 01, "Numbers returned"): here one that is shorter than the text.
 use Prim.Native.Nat.{ℕ}
 use mathlib.Core.Bool.{Bool, cond}
 use mathlib.Core.List.{List, _++_}

@@ -1,4 +1,5 @@
--- Document 02, wish 3, the two round trips of writer and reader, as claims about the definitions.
+-- Document 02, wish 3, the two round trips of writer and reader, as claims about the definitions. `theory_write/specs/Functions.antt` has
+-- them of the functions.
 use Prim.Native.Nat.{ℕ, _+_, _/_, _≤_, _<_}
 use mathlib.Core.Path.{_≡_}
 use mathlib.Core.Bool.{Bool, true, _&&_}
@@ -31,7 +32,7 @@ runBytes s (x ∷ xs) = take (x .size) (drop (x .offset) s) ++ runBytes s xs
 abbrev pub entryBytes : List ℕ → List ℕ
 entryBytes s = runBytes s (runs s)
 
--- "No gaps and no trailing bytes": the first run starts where the pairs end, each next one where the run before it ends, and the sheet ends with
+-- 02: "no gaps and no trailing bytes": the first run starts where the pairs end, each next one where the run before it ends, and the sheet ends with
 -- the last run; a sheet of no runs ends with its pairs.
 abbrev pub follow : (from size : ℕ) → List Run → Bool
 follow from size [] = eqb from size

@@ -27,7 +27,8 @@ abbrev pub pairBytes : List Run → List ℕ
 pairBytes [] = []
 pairBytes (x ∷ xs) = bytes16 (x .offset) ++ (bytes16 (x .size) ++ pairBytes xs)
 
--- 01: "Byte 0: n. Byte 1: the count p of pairs. Bytes 2 and 3: L. Then p pairs"; 02: "first run starts at 4 + 4p". Then the entries.
+-- 01: "Byte 0: n. Byte 1: the count p of pairs, 0 to 16. Bytes 2 and 3: L. Then p pairs"; 02: "first run starts at 4 + 4p". Then the
+-- entries.
 unfoldable pub sheetOf : (n L : ℕ) (entries lengths : List ℕ) → List ℕ
 sheetOf n L es ms = (n ∷ length ms ∷ bytes16 L) ++ (pairBytes (laidOut (4 + 4 * length ms) ms) ++ es)
 

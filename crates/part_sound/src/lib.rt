@@ -14,7 +14,7 @@ fn held(member: bool, limit: usize, q: Process) -> bool
     member & (0 < q.estimate) & (q.round <= limit)
 }
 
-// "Records from n on are out; out has round 0 and value 0, every other stance a value above 0 and a round of at most L", and the
+// 01: "records from n on are out; out has round 0 and value 0, every other stance a value above 0 and a round of at most L", and the
 // clause of the phase, in a session or (02, wish 6) in a poll.
 pub fn record_sound(poll: bool, window: usize, limit: usize, member: bool, q: Process) -> bool
     ensures { λ r. ⌜ r ≡ (member || isOutside (status (q .phase))) && soundProcessAs poll window limit q ⌝ }

@@ -7,7 +7,7 @@ ghost use Rattle.model.specs.Sound.{every, soundAs, sound as soundOf};
 use model::Session;
 use part_sound::record_sound;
 
-// "Registers and marks past L are blank and unmarked": those from an index on.
+// 01: "registers and marks past L are blank and unmarked": those from an index on.
 fn blank_from<'a>(values: &'a [u32; 256], marks: &'a [bool; 256], from: usize) -> bool
     requires { ⌜ (length (now values) ≡ 256) × (length (now marks) ≡ 256) ⌝ }
     ensures { λ r. ⌜ r ≡ every (λ x. eqb x 0) (drop from (now (values .entry))) && every not (drop from (now (marks .entry))) ⌝ }

@@ -1,4 +1,4 @@
-// The operations that count, with the counts lent (01: "the caller lends its tally, which a turn updates where it stands"). A
+// The operations that count, with the counts lent (01: "The caller lends its tally, which a turn updates where it stands"). A
 // refused call leaves the counts as they were, by the same equation.
 ghost use mathlib.Core.Path.{_≡_};
 ghost use Rattle.model.specs.Public.{withCounts, step as stepOf, learn as learnOf};

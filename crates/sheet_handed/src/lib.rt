@@ -6,7 +6,7 @@ use sheet_laws::ENTRY;
 use sheet_laws::Handed;
 use sheet_laws::RUN;
 
-// What the place hands out. "An entry has 6 bytes."
+// What the place hands out. "An entry has 6 bytes: kind, seat, 32-bit value."
 pub fn handed(s: &[u8], place: usize) -> Handed
     ensures { λ r. ⌜ r ≡ handedOf (now (s .entry)) place ⌝ }
 {

@@ -17,7 +17,7 @@ most-of s from size (x ∷ xs) f h =
     let o = in-order from size x xs h in
     rw (length-append, length-entriesAt) (omega (arith, most-of s (x .offset + x .size) size xs (o .1) (o .2)))
 
--- "A budget of 10,921" is enough for every sheet that is accepted.
+-- 01: "a budget of 10,921" is enough for every sheet that is accepted.
 pub most-entries : (most : Limits) (s : List ℕ) → sheetRefusal most s ≡ 0 → length (entries s) ≤ 10921
 unfolding entries
 most-entries most s h =

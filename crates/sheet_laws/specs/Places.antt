@@ -39,7 +39,7 @@ openedRun i x = record { run = i + 1; at = x .offset; left = x .size / 6 }
 abbrev pub between : (i : ℕ) → Position
 between i = record { run = i; at = 0; left = 0 }
 
--- The first of the runs i, i + 1, .., as many as told, that has an entry, opened. ("Length 0 is allowed.")
+-- The first of the runs i, i + 1, .., as many as told, that has an entry, opened. ("Length 0 is allowed".)
 unfoldable pub openFrom : List ℕ → (i count : ℕ) → Position
 openFrom s i zero = between i
 openFrom s i (suc k) = cond (leb 6 (runAt s i .size)) (openedRun i (runAt s i)) (openFrom s (i + 1) k)
@@ -79,7 +79,7 @@ abbrev pub before : Handed → List Entry → List Entry
 before (Next e) es = e ∷ es
 before End es = []
 
--- "Ends within the sheet", which has 65,535 bytes at most: so it is with every run of an accepted sheet.
+-- 01: "ends within the sheet", which has 65,535 bytes at most: so it is with every run of an accepted sheet.
 pub record Inside (s : List ℕ) : Type 0 where
   pub ends : (i : ℕ) → i < runCount s → runAt s i .offset + runAt s i .size ≤ 65535
 

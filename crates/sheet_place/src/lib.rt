@@ -6,7 +6,7 @@ ghost use Rattle.sheet_laws.specs.Places.{encode, openFrom, begin as beginOf, a
 use sheet_laws::ENTRY;
 use sheet_laws::RUN;
 
-// The first run from the given one on that has an entry, opened. "Length 0 is allowed."
+// The first run from the given one on that has an entry, opened. "Length 0 is allowed".
 fn open_from(s: &[u8], first: usize) -> usize
     requires { ⌜ first < 17179869184 ⌝ }
     ensures { λ r. ⌜ r ≡ encode (openFrom (now (s .entry)) first (runCount (now (s .entry)) - first)) ⌝ }

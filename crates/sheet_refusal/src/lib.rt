@@ -35,8 +35,8 @@ fn runs_refusal(s: &[u8]) -> u32
     code
 }
 
-// 0 where it is accepted, within the caller's limits. "Order: Sheet 10, 1, 2, 11 over all pairs, 12 over all runs." "10: sheet
-// under 4 or over 65,535 bytes, over 16 pairs, or too short for its pairs." "Byte 0: n. Byte 1: the count p of pairs. Bytes 2
+// 0 where it is accepted, within the caller's limits. "Order: .. Sheet 10, 1, 2, 11 over all pairs, 12 over all runs". 10: "sheet
+// under 4 or over 65,535 bytes, over 16 pairs, or too short for its pairs". "Byte 0: n. Byte 1: the count p of pairs, 0 to 16. Bytes 2
 // and 3: L."
 pub fn refusal(caller: Caller, s: &[u8]) -> u32
     ensures { λ r. ⌜ r ≡ sheetRefusal (limitsOf caller) (now (s .entry)) ⌝ }

@@ -14,6 +14,7 @@ use session_read_process::process_record;
 use session_read_register::register;
 use session_values::standing_values;
 use std::num::wrapping_add_u32;
+use use_input::Input;
 
 // A session of 8 processes and 256 rounds, or a poll of 8, in which all but process 7 have proposed.
 fn proposed(poll: bool) -> Session {
@@ -112,7 +113,9 @@ fn turned(count: u32) -> u32 {
 
 fn main() {
     let mut asked = [0u8; 5];
-    io::read_full(0, &mut asked);
+    let Input::Bytes(_) = use_input::read(b"test_bench", &mut asked) else {
+        return;
+    };
     let operation = asked[0];
     let count = part_bytes::word32(&asked, 1);
     let start = proposed(false);

@@ -13,6 +13,7 @@ use model::Session;
 use model_poll::Answer;
 use model_poll::PollStepped;
 use part_bytes::byte;
+use use_input::Input;
 
 // A number behind a blank.
 fn print(n: u64) {
@@ -209,7 +210,9 @@ fn poll(bytes: &[u8], at: usize) -> usize
 
 fn main() {
     let mut input = io::large_buffer();
-    let n = io::read_full(0, &mut input);
+    let Input::Bytes(n) = use_input::read(b"test_poll", &mut input) else {
+        return;
+    };
     let bytes = &input[..n];
     let mut at: usize = 0;
     while at < n {

@@ -9,6 +9,7 @@ ghost use Rattle.model.specs.Export.{endingCode};
 use model::Ending;
 use model::Session;
 use model::numbers::BUDGET_ENDED;
+use use_input::Input;
 
 // "0 for finished, 100 for budget ended, or the refusal."
 fn code(ending: Ending) -> u32
@@ -59,16 +60,12 @@ fn print_standing(s: Session, asked: usize) {
     io::write_all(1, b"\n");
 }
 
-fn main() {
-    let mut bytes = [0u8; 7];
-    io::read_full(0, &mut bytes);
+// The sheet run as the first seven bytes of the input say, and its two lines.
+fn print_run(bytes: &[u8; 7], sheet: &[u8]) {
     let caller = test_caller_byte::caller_of(bytes[0]);
-    let budget = part_bytes::word32(&bytes, 1) as usize;
-    let asked = part_bytes::word16(&bytes, 5) as usize;
-    // A sheet of 65,535 bytes is the longest; one more that is read shows that it is longer.
-    let mut sheet = io::large_buffer();
-    let n = io::read_full(0, &mut sheet);
-    let ran = sheet_run::run(caller, &sheet[..n], budget);
+    let budget = part_bytes::word32(bytes, 1) as usize;
+    let asked = part_bytes::word16(bytes, 5) as usize;
+    let ran = sheet_run::run(caller, sheet, budget);
     let ending = ran.ending;
     let counts = ran.counts;
     print(code(ending) as u64, b" ");
@@ -78,4 +75,17 @@ fn main() {
     print(counts.contested as u64, b"\n");
     let left = ran.session;
     print_standing(left, asked);
+}
+
+fn main() {
+    let mut bytes = [0u8; 7];
+    let Input::Bytes(_) = use_input::read(b"test_run", &mut bytes) else {
+        return;
+    };
+    // A sheet of 65,535 bytes is the longest; one more that is read shows that it is longer.
+    let mut sheet = io::large_buffer();
+    let Input::Bytes(n) = use_input::read(b"test_run", &mut sheet) else {
+        return;
+    };
+    print_run(&bytes, &sheet[..n]);
 }

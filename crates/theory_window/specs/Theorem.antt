@@ -80,15 +80,15 @@ too-short W n least enough few safe =
 pub exact-windows : ExactWindows
 exact-windows W n least few = (λ below L. below-threshold (λ m. W) n L below, λ enough. too-short W n least enough few)
 
--- For these n the window that is shorter than the one in service by one is safe too, and the one before is not; for every other n from 2 to 64 it is
--- not safe.
+-- The smallest safe window for n from 2 to 64: for these n it is one less than the window in service, for every other it is the window in
+-- service. (A window is safe exactly where n is below its threshold: `exact-windows`.)
 abbrev shorterToo : List ℕ
 shorterToo = 13 ∷ 17 ∷ 21 ∷ 26 ∷ 31 ∷ 32 ∷ 37 ∷ 38 ∷ 43 ∷ 44 ∷ 50 ∷ 51 ∷ 57 ∷ 58 ∷ 59 ∷ []
 
-pub least-safe : every
+pub smallest-safe : every
     (λ n.
     let W = window n in
     cond (holds n shorterToo) (ltb n (threshold (W - 1)) && leb (threshold (W - 2)) n) (leb (threshold (W - 1)) n))
     (from 2 63) ≡ true
 unfolding window rootUp rootFrom
-least-safe = refl
+smallest-safe = refl

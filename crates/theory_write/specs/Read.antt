@@ -14,7 +14,7 @@ use Rattle.model_write_laws.specs.Facts.{WriteFacts, facts-write}
 use Rattle.model_laws.specs.SheetFacts.{sheet-facts}
 
 -- As many cuts as runs.
-length-lengthsOf : (s : List ℕ) → length (lengthsOf s) ≡ runCount s
+pub length-lengthsOf : (s : List ℕ) → length (lengthsOf s) ≡ runCount s
 length-lengthsOf s = simp (length-map, length-runsFrom)
 
 -- Of a sheet without gaps whose runs are whole entries:

@@ -2,7 +2,7 @@
 ghost use mathlib.Core.Path.{_≡_};
 ghost use Rattle.model.specs.Board.{highestFrom};
 
-// "The highest filled round (0 for none)".
+// 01: "the highest filled round (0 for none)".
 pub fn highest(values: &[u32]) -> usize
     ensures { λ r. ⌜ r ≡ highestFrom 0 0 (now (values .entry)) ⌝ }
 {

@@ -9,7 +9,7 @@ use use_report_seats::put_seats;
 use use_text::Bytes;
 use use_text::put_line;
 
-// "Outcome refused CODE INDEX", "sheet refused CODE", "outcome finished" and "the number of entries carried out".
+// 01: "outcome refused CODE INDEX", "sheet refused CODE", "outcome finished" and "the number of entries carried out".
 fn put_outcome(out: &mut Bytes, at: usize, ending: Ending, carried: usize) -> usize
     ensures { λ r. ⌜ Put (now (out .entry)) at (outcomeLine ending carried) (now (out .exit)) r ⌝ }
 {
@@ -37,7 +37,7 @@ fn put_tally(out: &mut Bytes, at: usize, c: Counts) -> usize
     )
 }
 
-// "The board line is the highest filled round (0 for none) and D".
+// 01: "the board line is the highest filled round (0 for none) and D".
 fn put_board(out: &mut Bytes, at: usize, s: Session) -> usize
     ensures { λ r. ⌜ Put (now (out .entry)) at (boardLine s) (now (out .exit)) r ⌝ }
 {
