@@ -1,7 +1,7 @@
 #!/usr/bin/env bash
 # Builds the library and installs what a C program needs under PREFIX, which is made if it is not there:
 # include/janus.h, lib/libjanus.a and lib/pkgconfig/janus.pc.
-# The first time takes about two minutes on 2 processors; what it is at is told on standard error.
+# The first time takes minutes; what it is at, and how long it took, is told on standard error.
 #
 # usage: ./install.sh PREFIX
 #

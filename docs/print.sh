@@ -17,12 +17,12 @@ for package in "${packages[@]}"; do
     [[ $(dpkg-query -W -f '${Status}' "$package" 2>/dev/null) == *" installed" ]] || missing+=("$package")
 done
 if ((${#missing[@]})); then
-    as_root=()
-    [[ $(id -u) == 0 ]] || { needs sudo; as_root=(sudo); }
+    apt=(apt-get -q)
+    [[ $(id -u) == 0 ]] || { needs sudo; apt=(sudo "${apt[@]}"); }
     at "installing ${missing[*]}"
     log=$(mktemp)
     trap 'rm -f "$log"' EXIT
-    { "${as_root[@]}" apt-get update -q && "${as_root[@]}" apt-get install -y -q --no-install-recommends "${missing[@]}"; } >"$log" 2>&1 || {
+    { "${apt[@]}" update && "${apt[@]}" install -y --no-install-recommends "${missing[@]}"; } >"$log" 2>&1 || {
         cat "$log" >&2
         echo "print.sh: not installed: ${missing[*]}; what was said is above" >&2
         exit 1

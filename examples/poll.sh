@@ -1,6 +1,6 @@
 #!/usr/bin/env bash
 # Proves and builds the program of polls, as far as something has changed since the last time, and runs it on a poll.
-# The first time takes about two minutes on 2 processors; what it is at is told on standard error.
+# The first time takes minutes; what it is at, and how long it took, is told on standard error.
 #
 # usage: examples/poll.sh [POLL]      examples/two_answers.poll where left out
 #

@@ -105,8 +105,9 @@ told 2 'try --help' "$poll" one two three
 export PATH=$out/bin:$PATH
 cat >"$out/bin/rt" <<'RT'
 #!/usr/bin/env bash
-# In place of rt: tells of three crates, and makes a program or an archive that says how often rt was called and shows its input. With a file
-# called broken in the tree it fails after the first crate; with one called slow it goes on after that only when there is one called seen.
+# In place of rt: tells of three crates, and makes a program or an archive that says how often rt was called and shows its input.
+# With a file called broken in the tree it fails after the first crate; with one called slow it goes on after that only when there is
+# one called seen.
 echo "$*" >>calls
 case $1 in
 fmt) exit ;;
@@ -145,7 +146,9 @@ cp "$list" here.txt
 
 # CRATE: what is told while it is proved, but for the seconds.
 told_of() {
-    printf '%s\n' "proving $1 and what it is made of, 3 crates" "proved 1 of 3: base" "proved 2 of 3: model" "proved 3 of 3: $1" "proved 3 of 3 crates of $1 in N s"
+    echo "proving $1 and what it is made of, 3 crates"
+    printf 'proved %s of 3: %s\n' 1 base 2 model 3 "$1"
+    echo "proved 3 of 3 crates of $1 in N s"
 }
 without_seconds() { sed -E 's/ in [0-9]+ s/ in N s/' "$@"; }
 
@@ -261,6 +264,15 @@ told 127 'build.sh: not found on PATH: rustc, the Rust compiler; gcc' env PATH="
 told 127 'build.sh: not found on PATH: rustc, the Rust compiler; gcc' env PATH="$out/bin:$out/bare" reference/build.sh
 told 127 'documents.sh: not found on PATH: python3' env PATH="$out/bare" tests/documents.sh
 told 2 'it takes no arguments; this is too much: more' tests/documents.sh more
+
+# ---------------------------------------------------------------- print.sh: the pages, if what makes them is installed
+told 2 'one folder is named at most' docs/print.sh one two
+if /usr/bin/python3 -c 'import markdown, weasyprint' 2>/dev/null; then
+    same <(docs/print.sh "$out/print" | sed -E 's/[0-9]+ pages/N pages/') \
+        <(printf "print: $out/print/%s\n" 'PAPER-CASES.pdf, N pages' 'form.pdf, 1 page')
+else
+    echo "scripts: the pages for the printer are not made here, for weasyprint is not installed"
+fi
 
 # ---------------------------------------------------------------- differential.sh: wrong arguments are told before anything is built
 for arguments in many 0 -5 1.5 '5000 x' '5000 -1' '5000 7 8' '5000 7777777777777777777'; do
