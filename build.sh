@@ -53,9 +53,9 @@ prove() {
 # NAME: tells that something is compiled; what is said goes from standard input to standard output.
 compiling() {
     local began=$SECONDS
-    at "compiling $1"
+    tell "compiling $1"
     cat
-    done_with "compiled $1 in $((SECONDS - began)) s"
+    tell_end "compiled $1 in $((SECONDS - began)) s"
 }
 
 archive=target/staticlib/libjanus.a

@@ -1,17 +1,17 @@
 # What the scripts share. They read it with `. PATH/common.sh`; it is not run by itself. It sets `root` to the folder of the repository.
 root=$(cd "$(dirname "${BASH_SOURCE[0]}")" && pwd)
-script=$0
+called=$0
 
 # ARGUMENTS: with --help or -h alone, prints the comment at the head of the script that was called, and ends.
 helped() {
     [[ $# == 1 && ($1 == --help || $1 == -h) ]] || return 0
-    sed -n '2,${ /^#/!q; s/^# \{0,1\}//; p; }' "$script"
+    sed -n '2,${ /^#/!q; s/^# \{0,1\}//; p; }' "$called"
     exit 0
 }
 
 # WORDS..: says on standard error that the script was called wrongly, and ends with 2.
 refuse() {
-    echo "${script##*/}: $*; try --help" >&2
+    echo "${called##*/}: $*; try --help" >&2
     exit 2
 }
 
@@ -33,18 +33,18 @@ needs() {
         missing+=${missing:+; }$program
     done
     [[ -z $missing ]] || {
-        echo "${script##*/}: not found on PATH: $missing" >&2
+        echo "${called##*/}: not found on PATH: $missing" >&2
         exit 127
     }
 }
 
 # WORDS..: what the script is at, on standard error. On a terminal one line that is renewed, else a line each.
-at() {
+tell() {
     if [[ -t 2 ]]; then printf '\r\e[K%s' "$*" >&2; else printf '%s\n' "$*" >&2; fi
 }
 
 # WORDS..: what the script has done, on standard error. On a terminal it takes the place of what the script was at, and stays.
-done_with() {
+tell_end() {
     if [[ -t 2 ]]; then printf '\r\e[K' >&2; fi
     printf '%s\n' "$*" >&2
 }
@@ -67,12 +67,12 @@ crates_of() {
 proving() {
     local line proved=0 all began=$SECONDS
     all=$(crates_of "$1")
-    at "proving $1 and what it is made of, $all crates"
+    tell "proving $1 and what it is made of, $all crates"
     while IFS= read -r line || [[ -n $line ]]; do
         printf '%s\n' "$line"
         [[ $line =~ ^rt:\ ([A-Za-z0-9_]+)\ proved\ \( ]] || continue
         proved=$((proved + 1))
-        at "proved $proved of $all: ${BASH_REMATCH[1]}"
+        tell "proved $proved of $all: ${BASH_REMATCH[1]}"
     done
-    done_with "proved $proved of $all crates of $1 in $((SECONDS - began)) s"
+    tell_end "proved $proved of $all crates of $1 in $((SECONDS - began)) s"
 }

@@ -19,7 +19,7 @@ done
 if ((${#missing[@]})); then
     apt=(apt-get -q)
     [[ $(id -u) == 0 ]] || { needs sudo; apt=(sudo "${apt[@]}"); }
-    at "installing ${missing[*]}"
+    tell "installing ${missing[*]}"
     log=$(mktemp)
     trap 'rm -f "$log"' EXIT
     { "${apt[@]}" update && "${apt[@]}" install -y --no-install-recommends "${missing[@]}"; } >"$log" 2>&1 || {
@@ -27,6 +27,6 @@ if ((${#missing[@]})); then
         echo "print.sh: not installed: ${missing[*]}; what was said is above" >&2
         exit 1
     }
-    done_with "installed ${missing[*]}"
+    tell_end "installed ${missing[*]}"
 fi
 /usr/bin/python3 "$root/docs/print.py" "${1:-$root/target/print}"
