@@ -70,7 +70,8 @@ proving() {
     tell "proving $1 and what it is made of, $all crates"
     while IFS= read -r line || [[ -n $line ]]; do
         printf '%s\n' "$line"
-        [[ $line =~ ^rt:\ ([A-Za-z0-9_]+)\ proved\ \( ]] || continue
+        # rt staticlib says of the crate itself that its archive is there.
+        [[ $line =~ ^rt:\ ([A-Za-z0-9_]+)\ proved\ \( || $line =~ ^rt:\ .*/lib([A-Za-z0-9_]+)\.a\ has\  ]] || continue
         proved=$((proved + 1))
         tell "proved $proved of $all: ${BASH_REMATCH[1]}"
     done

@@ -121,9 +121,17 @@ echo "fn base::first: proved"
 echo "rt: base proved (unchanged since it was last proved)"
 [[ ! -e broken ]] || { echo "a proof that failed"; echo "rt: model NOT PROVED (exit 1, 1 s)"; exit 1; }
 while [[ -e slow && ! -e seen ]]; do sleep 0.05; done
-printf '%s\n' "rt: model proved (2 s)" "a note, and no end of words" "rt: $2 proved (0 s)" "rt: $2 ran as nobody" "rt: ok, 3 crates proved"
-made=target/bin/$2
-[[ $1 != staticlib ]] || made=target/staticlib/lib$2.a
+printf '%s\n' "rt: model proved (2 s)" "a note, and no end of words"
+case $1 in
+check)
+    made=target/bin/$2
+    printf '%s\n' "rt: $2 proved (0 s)" "rt: $2 ran as nobody" "rt: ok, 3 crates proved"
+    ;;
+staticlib)
+    made=target/staticlib/lib$2.a
+    echo "rt: $made has the functions of $2 that are marked"
+    ;;
+esac
 mkdir -p "$(dirname "$made")"
 printf '#!/bin/sh\necho build %s\ncat\n' "$(wc -l <calls)" >"$made"
 chmod +x "$made"
