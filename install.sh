@@ -1,18 +1,20 @@
 #!/usr/bin/env bash
 # Builds the library and installs what a C program needs under PREFIX, which is made if it is not there:
 # include/janus.h, lib/libjanus.a and lib/pkgconfig/janus.pc.
+# The first time takes minutes; what it is at, and how long it took, is told on standard error.
 #
 # usage: ./install.sh PREFIX
+#
+# It needs the Rattle kit.
 set -euo pipefail
-if [[ $# -ne 1 || -z $1 || $1 == -* ]]; then
-    echo "install.sh: one folder to install to is needed: ./install.sh PREFIX" >&2
-    exit 2
-fi
+. "$(dirname "$0")/common.sh"
+helped "$@"
+[[ $# == 1 && -n $1 && $1 != -* ]] || refuse "one folder to install to is needed: ./install.sh PREFIX"
+needs rt
 mkdir -p "$1"
 prefix=$(cd "$1" && pwd)
-cd "$(dirname "$0")"
+cd "$root"
 
-echo "install.sh: proving and building the library; the first time takes minutes"
 ./build.sh archive
 install -d "$prefix/include" "$prefix/lib/pkgconfig"
 install -m 644 include/janus.h "$prefix/include/janus.h"

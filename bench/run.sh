@@ -2,8 +2,15 @@
 # The benchmark: builds both sides for release and prints a table of sheets that are run, one of a sheet that is written and one of single
 # operations. With valgrind on the machine it also counts instructions an entry that is run: those of 11 calls on a sheet of 10,921 entries
 # less those of one call, by the entries of ten.
+#
+# usage: bench/run.sh
+#
+# It needs the Rattle kit, rustc and gcc.
 set -euo pipefail
-cd "$(dirname "$0")/.."
+. "$(dirname "$0")/../common.sh"
+takes_nothing "$@"
+needs rt rustc gcc
+cd "$root"
 ./build.sh archive test_bench reference
 out=target/bench
 mkdir -p "$out"

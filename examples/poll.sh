@@ -1,18 +1,19 @@
 #!/usr/bin/env bash
 # Proves and builds the program of polls, as far as something has changed since the last time, and runs it on a poll.
+# The first time takes minutes; what it is at, and how long it took, is told on standard error.
 #
 # usage: examples/poll.sh [POLL]      examples/two_answers.poll where left out
+#
+# It needs the Rattle kit and python3. examples/poll.py --help has the lines of a poll.
 set -euo pipefail
+. "$(dirname "$0")/../common.sh"
+helped "$@"
 program=test_poll
-root=$(cd "$(dirname "$0")/.." && pwd)
-(($# <= 1)) || {
-    echo "poll.sh: one poll at a time; this is too much: ${*:2}" >&2
-    exit 2
-}
+(($# <= 1)) || refuse "one poll at a time; this is too much: ${*:2}"
+needs rt python3
 
 bytes=$(mktemp)
 trap 'rm -f "$bytes"' EXIT
 "$root/examples/poll.py" "${1:-$root/examples/two_answers.poll}" "$bytes"
-echo "poll.sh: proving and building $program where it changed; the first time takes some two minutes" >&2
 "$root/build.sh" "$program"
 "$root/target/bin/$program" <"$bytes"

@@ -1,4 +1,4 @@
-#!/bin/sh
+#!/usr/bin/env bash
 # Builds the reference program, its unit tests, polls, which compares it with the
 # program test_poll, and short_windows, which breaks the agreement rule at windows
 # that are too short, into target/reference/ and runs the tests. With the paths of a
@@ -6,14 +6,17 @@
 # with the reference: differential, writes and callers.
 #
 # usage: reference/build.sh [LIBRARY CALLERS]
-set -eu
+set -euo pipefail
+. "$(dirname "$0")/../common.sh"
+helped "$@"
+needs rustc gcc
 
 library=
 if [ $# -gt 0 ]; then
     library=$(cd "$(dirname "$1")" && pwd)
     callers=$(cd "$(dirname "$2")" && pwd)
 fi
-cd "$(dirname "$0")/.."
+cd "$root"
 out=target/reference
 mkdir -p "$out"
 

@@ -2,7 +2,10 @@
 # Calls the library from C: the header in each language that it is for, the example of examples/, whose output is compared, and
 # the checks of c_*.c.
 set -euo pipefail
-cd "$(dirname "$0")/.."
+. "$(dirname "$0")/../common.sh"
+takes_nothing "$@"
+needs rt gcc g++ rustc python3 nm
+cd "$root"
 
 ./build.sh archive reference
 out=target/tests

@@ -3,7 +3,10 @@
 # and past the limits of either, of the proved library beside the separate program (reference/callers.rs). Then that wrong programs are found:
 # by that, and where soundness goes by the cart's limits by the program's own tests and beside test_run.
 set -euo pipefail
-cd "$(dirname "$0")/.."
+. "$(dirname "$0")/../common.sh"
+takes_nothing "$@"
+needs rt gcc rustc python3
+cd "$root"
 ./build.sh reference test_run
 target/reference/callers
 

@@ -7,22 +7,19 @@
 # the counts are printed. Every 50th of the first 100,000 sheets goes through the report's program too.
 #
 # usage: tests/differential.sh [SHEETS [SEED]]      as long as one likes; 100,000 sheets from seed 1 in the gate
+#                                               SHEETS is 1 or more, SEED 0 or more, each of at most 18 digits
 set -euo pipefail
+. "$(dirname "$0")/../common.sh"
+helped "$@"
 report=use_report
 sheets=${1-100000}
 seed=${2-1}
-
-refuse() {
-    echo "differential.sh: $*" >&2
-    echo "usage: tests/differential.sh [SHEETS [SEED]]      SHEETS 1 or more, SEED 0 or more, each of at most 18 digits" >&2
-    exit 2
-}
-
 (($# <= 2)) || refuse "this is too much: ${*:3}"
 [[ $sheets =~ ^0*[1-9][0-9]{0,17}$ ]] || refuse "'$sheets' is no number of sheets"
 [[ $seed =~ ^[0-9]{1,18}$ ]] || refuse "'$seed' is no seed"
 
-cd "$(dirname "$0")/.."
+needs rt gcc rustc
+cd "$root"
 ./build.sh reference "$report"
 export BOARD_REPORT=target/bin/$report
 target/reference/differential "$sheets" "$seed"

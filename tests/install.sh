@@ -2,12 +2,15 @@
 # Installs to a temporary folder, and builds and runs the example against what was installed there and nothing else: from C and
 # from C++, by the flags of the pkg-config file, and inside a shared library that hides the library's names.
 set -euo pipefail
-cd "$(dirname "$0")/.."
+. "$(dirname "$0")/../common.sh"
+takes_nothing "$@"
+needs rt gcc g++ nm
+cd "$root"
 room=$(mktemp -d)
 trap 'rm -rf "$room"' EXIT
 fail() { echo "install: FAILED: $1" >&2; exit 1; }
 
-for words in "" "one two" --help; do
+for words in "" "one two" --what; do
     # shellcheck disable=SC2086  # the words are arguments
     if said=$(./install.sh $words 2>&1); then fail "arguments '$words' were taken"; fi
     [[ $said == *"./install.sh PREFIX"* ]] || fail "arguments '$words': $said"

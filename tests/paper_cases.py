@@ -1,17 +1,25 @@
 #!/usr/bin/env python3
 """Holds docs/PAPER-CASES.md, its picture and the sample polls to the rules and to the separately written program.
 
+usage:
     paper_cases.py check     fails if a table differs, an arrow of the picture, or the text of a poll
     paper_cases.py write     writes the tables and the texts anew
 
-A table stands between `<!-- NAME -->` and `<!-- end -->`. `rules`, `turns`, `refusals`, `counts`, `windows`, `opening-refusals`,
-`poll-rules` and `poll-refusals` are made of paper_rules.py; so is `openings`, worked for either caller, and each of its answers must be
-the separately written program's; `case NAME` has the turns of examples/NAME.sheet, played by those rules, and each of its
-lines must be the trace's; `form` is the same table with nothing in it; `poll NAME` has the turns of examples/NAME.poll, played by
-the rules of a poll. What stands at `turns-alone` is written and held by turns.py, and here left alone. The text of each
-examples/NAME.poll as it is played, answers, counts, registers and seats, stands in examples/NAME.out and must be the separately
-written program's. In docs/walk.svg a box is an element with data-stance, an arrow one with data-from and data-to; boxes, arrows and
-their words must be those of the rules.
+A table stands between `<!-- NAME -->` and `<!-- end -->`. The page must have them in the order in which one works: board, rules,
+picture, refusals, counts, form, cases, polls, and at the end who opens and what the window saves.
+
+- `rules`, `turns`, `refusals`, `counts`, `windows`, `opening-refusals`, `poll-rules` and `poll-refusals` are made of paper_rules.py.
+- `openings` is worked by them for either caller. Each answer must be the separately written program's.
+- `case NAME` has the turns of examples/NAME.sheet, played by those rules. Each of its lines must be the trace's.
+- `scope` has the starred cases of document 01, with the n and L that they have there, at the window of then and of now. What 01 and
+  wish 8 say of each must be found, and each turn must be the trace's.
+- `form` is the table of a case with nothing in it.
+- `poll NAME` has the turns of examples/NAME.poll, played by the rules of a poll.
+- `turns-alone` is written and held by turns.py, and here left alone.
+
+The text of each examples/NAME.poll as it is played, answers, counts, registers and seats, stands in examples/NAME.out and must be
+the separately written program's. In docs/walk.svg a box is an element with data-stance, an arrow one with data-from and data-to;
+boxes, arrows and their words must be those of the rules, and the picture must fit on an A4 page.
 """
 import re
 import sys
@@ -21,16 +29,19 @@ from itertools import zip_longest
 sys.dont_write_bytecode = True
 from paper_lists import LISTS, POLLS, ROOT, poll, poll_texts, printed, read_by, sheet
 from paper_play import POLL, SESSION, Opening, Play, Poll, Turn, shown
-from paper_rules import COUNTS, LIMITS, MOST_SEATS, NEVER_IN_POLLS, OPENING_REFUSALS, RULES, STANCES, WINDOW, window
+from paper_rules import COUNTS, LIMITS, MOST_SEATS, NEVER_IN_POLLS, OPENING_REFUSALS, RULES, STANCES, WINDOW, window, window_before
 
 EXAMPLES = ROOT / "examples"
 PAGE = ROOT / "docs" / "PAPER-CASES.md"
 PICTURE = ROOT / "docs" / "walk.svg"
 MARKED = re.compile(r"(<!-- ([\w-]+(?: \w+)?) -->\n)(.*?)(<!-- end -->)", re.S)
 RULE_HEAD = ["Rule", "Stands at", "Turn", "Do", "If", "Then stands at"]
-CASE_HEAD = ["Turn", "Seat and turn", "Rule", "Read or written", "T", "C", "D", "Stands at", "r", "Own"]
-CASE_HEAD += [count.capitalize() for count, _, _ in COUNTS]
+COUNTED = [count.capitalize() for count, _, _ in COUNTS]
+CASE_HEAD = ["No.", "Turn", "Rule", "Read or written", "T", "C", "D", "Stands at", "r", "Own", *COUNTED]
+FORM_ROWS = 30
 NOTHING = "·"
+# In millimetres: A4 less the margins of docs/print.css.
+PICTURE_WIDTH, PICTURE_HEIGHT = 190, 240
 
 
 def table(head, rows):
@@ -50,7 +61,7 @@ def bold(then):
 def rule_lines(rules):
     """A line for each thing that may be found."""
     for first, (at, turn, when, does, outcomes) in rules.numbered():
-        turn = "the same turn" if at == "go on" else ", ".join(filter(None, [rules.words(turn), when]))
+        turn = "the same turn" if at == "go on" else ", ".join(filter(None, [rules.turns(turn), when]))
         for number, (found, then) in enumerate(outcomes, first):
             yield [number, "*go on*" if at == "go on" else at, turn, does or "nothing", found, bold(then)]
 
@@ -92,7 +103,7 @@ def turns_table():
 
 def refusals_table(rules=SESSION):
     """What a refused turn gets."""
-    return table(["Refused with", "Turn", "If"], [[number, rules.words(turns), met] for number, turns, met in rules.refusals])
+    return table(["Refused with", "Turn", "If"], [[number, rules.turns(turns), met] for number, turns, met in rules.refusals])
 
 
 def counts_table():
@@ -155,9 +166,9 @@ def openings_table():
 
 # ---------------------------------------------------------------- the cases
 
-def trace(data):
-    """The columns of each line that the separately written program traces."""
-    return [[part.strip() for part in line.split("|")] for line in printed("trace", data)]
+def trace(data, width=""):
+    """The columns of each line that the separately written program traces, at a window of that width where one is given."""
+    return [[part.strip() for part in line.split("|")] for line in printed(f"trace {width}", data)]
 
 
 def columns(board):
@@ -169,26 +180,87 @@ def columns(board):
 
 def played(play, words):
     """Plays a turn: the page's line without its number, and the trace's last columns."""
-    seen = len(play.used)
-    register = play.turn(words)
+    seen, (word, *rest) = len(play.used), words.split()
+    register, shown_words = play.turn(words), " ".join([play.rules.kinds[word], *rest])
     if register.startswith("refused"):
-        return [words, "", register, *columns(play.board), "", "", "", *play.counts], [register]
+        return [shown_words, "", register, *columns(play.board), "", "", "", *play.counts], [register]
     seat = play.seats[int(words.split()[1])]
     used = ", ".join(str(rule) for rule in play.used[seen:])
-    line = [words, used, register, *columns(play.board), seat.stance(), seat.round, seat.own, *play.counts]
+    line = [shown_words, used, register, *columns(play.board), seat.stance(), seat.round, seat.own, *play.counts]
     return line, [register, str(seat), " ".join(map(str, play.counts))]
 
 
-def case_table(name):
-    """A case, played by the rules; each line must be the trace's."""
-    data = (EXAMPLES / f"{name}.sheet").read_bytes()
-    play, rows = Play(data[0], int.from_bytes(data[2:4], "little")), []
-    for index, words, *expected in trace(data):
+def played_sheet(name, data, width=None):
+    """A sheet, played by the rules, and the page's lines; each line must be the trace's."""
+    play, rows = Play(data[0], int.from_bytes(data[2:4], "little"), width), []
+    for index, words, *expected in trace(data, width or ""):
         line, told = played(play, words)
         if told != expected:
             sys.exit(f"paper cases: {name}, turn {index}, {words}: the rules give {told}, the trace {expected}")
         rows.append([index, *line])
-    return table(CASE_HEAD, rows)
+    return play, rows
+
+
+def case_table(name):
+    """A case, played by the rules."""
+    return table(CASE_HEAD, played_sheet(name, (EXAMPLES / f"{name}.sheet").read_bytes())[1])
+
+
+# ---------------------------------------------------------------- the scope document's own cases
+
+# 01, "Paper cases": the starred ones that play turns, but for those at gate in round L and of a second proposal, which name no n and no
+# L. For each n, L, the numbers proposed, seat 0's first, the hint, and the seats that work; and what the document says of it. The first
+# of a pair is 01's, the second wish 8's, where that wish says it otherwise.
+FIRST, SECOND = [0, 1, 0, 1, 0, 0, 1], [0, 0, 1, 1, 1]
+OVER, COMMIT = {"stands at": "gate", "r": 1}, {"stands at": "commit", "D": "blank"}
+SCOPE = [
+    (1, 3, [7], "yes", [([0] * 3, OVER), ([0] * 3, OVER)]),
+    (1, 3, [7], "yes", [([0] * 18, COMMIT), ([0] * 11, COMMIT)]),
+    (1, 3, [7], "yes", [([0] * 19, {"D": 7, "reads": 15, "writes": 4}), ([0] * 12, {"D": 7, "reads": 9, "writes": 3})]),
+    (1, 3, [7], "no", [([0] * 19, {"stands at": "gate", "r": 0, "reads": 0, "writes": 0, "contested": 0})] * 2),
+    (2, 5, [3, 8], "yes", [(FIRST, {"T[1]": 8, "C[1]": "marked", "reads": 4, "writes": 3, "contested": 1})] * 2),
+    (2, 5, [3, 8], "yes", [(FIRST + SECOND, {"T[2]": 3, "stands at": "compare 0", "r": 2, "own": 3, "reads": 8, "writes": 4})] * 2),
+]
+
+
+def facts(play, seat):
+    """What may be said of a board and of the seat whose turn was the last."""
+    said = dict(zip((count for count, _, _ in COUNTS), play.counts))
+    said |= {"stands at": seat.stance(), "r": seat.round, "own": seat.own, "D": play.board["D"].get(None, "blank")}
+    for r in range(1, play.limit + 1):
+        said |= {f"T[{r}]": play.board["T"].get(r, "blank"), f"C[{r}]": shown(play.board["C"].get(r, False))}
+    return said
+
+
+def scope_row(n, limit, proposed, hint, seats, claims, width):
+    """The table's line for one case at one window, and the last line of the page's form. What the document says of it must be found."""
+    words = [f"propose {seat} {number}" for seat, number in enumerate(proposed)] + [f"work {seat} {hint}" for seat in seats]
+    data = sheet.sheet(n, limit, [b"".join(sheet.entry(line.split()) for line in words)])
+    play, rows = played_sheet(f"01, n = {n}, L = {limit}, W = {width}", data, width)
+    if len(rows) != len(words):
+        sys.exit(f"paper cases: 01, n = {n}, L = {limit}: {len(rows)} of {len(words)} turns are played")
+    found = facts(play, play.seats[seats[-1]])
+    for what, said in claims.items():
+        if found[what] != said:
+            sys.exit(f"paper cases: 01, n = {n}, L = {limit}, W = {width}: {what} should be {said} and is {found[what]}")
+    who = f"{len(seats)} of seat 0" if n == 1 else ", ".join(map(str, seats))
+    _, _, _, _, values, marks, decision, *seat_and_counts = rows[-1]
+    return [n, limit, width, f"{who}; hint {hint}", values, marks, decision, *seat_and_counts]
+
+
+def scope_table():
+    """The scope document's cases at the window of then and of now. With the least L of now each is the same but for L."""
+    rows = []
+    for n, limit, proposed, hint, (before, now) in SCOPE:
+        rows.append(scope_row(n, limit, proposed, hint, *before, window_before(n)))
+        rows.append(scope_row(n, limit, proposed, hint, *now, window(n)))
+        least = scope_row(n, window(n), proposed, hint, *now, window(n))
+        if [least[0], limit, *least[2:]] != rows[-1]:
+            sys.exit(f"paper cases: 01, n = {n}: with L = {window(n)} it is {least}, with L = {limit} {rows[-1]}")
+    return table(["n", "L", "W", "Work turns", *CASE_HEAD[CASE_HEAD.index("T"):]], rows)
+
+
+# ---------------------------------------------------------------- the polls
 
 
 def played_poll(name):
@@ -215,7 +287,7 @@ def poll_outs():
 
 def form_table():
     """The blank form."""
-    return table(CASE_HEAD, [[turn, *[""] * (len(CASE_HEAD) - 1)] for turn in range(3)])
+    return table(CASE_HEAD, [[""] * len(CASE_HEAD)] * FORM_ROWS)
 
 
 def made(name):
@@ -224,22 +296,37 @@ def made(name):
     return TABLES[kind](*case)
 
 
+# The tables, in the order in which one works; the picture stands where WALK does.
 TABLES = {
-    "rules": rules_table,
-    "turns": turns_table,
-    "refusals": refusals_table,
-    "counts": counts_table,
     "windows": windows_table,
-    "opening-refusals": opening_refusals_table,
-    "openings": openings_table,
+    "rules": rules_table,
+    "refusals": refusals_table,
+    "turns": turns_table,
+    "counts": counts_table,
     "form": form_table,
     "case": case_table,
+    "scope": scope_table,
     "poll-rules": poll_rules_table,
     "poll-refusals": lambda: refusals_table(POLL),
     "poll": poll_table,
+    "opening-refusals": opening_refusals_table,
+    "openings": openings_table,
+    "turns-alone": None,
 }
 # What another program writes.
-ELSEWHERE = {"turns-alone"}
+ELSEWHERE = {name for name, make in TABLES.items() if make is None}
+WALK = "](walk.svg)"
+
+
+def check_order(page):
+    """Fails unless the page has each table, and the picture behind the rules, in the order in which one works; the tables' kinds."""
+    kinds = [name.split()[0] for _, name, _, _ in MARKED.findall(page)]
+    found = list(dict.fromkeys(kinds))
+    if found != list(TABLES):
+        sys.exit(f"paper cases: the page has {', '.join(found)}, and should have {', '.join(TABLES)}")
+    if not page.index("<!-- rules -->") < page.index(WALK) < page.index("<!-- refusals -->"):
+        sys.exit("paper cases: the picture does not stand between the rules and the refusals")
+    return kinds
 
 
 # ---------------------------------------------------------------- the picture
@@ -278,7 +365,11 @@ def drawn(*names):
 
 
 def check_picture():
-    """Fails if the picture's boxes and arrows are not those of the rules; how many arrows there are."""
+    """Fails if the picture's boxes and arrows are not those of the rules, or if it does not fit on A4; how many arrows there are."""
+    sizes = [xml.etree.ElementTree.parse(PICTURE).getroot().get(side, "") for side in ("width", "height")]
+    for size, most in zip(sizes, (PICTURE_WIDTH, PICTURE_HEIGHT)):
+        if not size.endswith("mm") or float(size.removesuffix("mm")) > most:
+            sys.exit(f"paper cases: docs/walk.svg is {' by '.join(sizes)}; {PICTURE_WIDTH}mm by {PICTURE_HEIGHT}mm fit on an A4 page")
     ruled = [*ruled_boxes(), *ruled_arrows()]
     seen = [*drawn("data-stance"), *drawn("data-from", "data-to")]
     for one in ruled + seen:
@@ -288,26 +379,28 @@ def check_picture():
 
 
 def main():
+    words = sys.argv[1:]
+    if words in (["--help"], ["-h"]):
+        print(__doc__.strip())
+        return
+    if words not in (["check"], ["write"]):
+        sys.exit(f"paper_cases.py: {' '.join(words) or 'nothing'}: check or write is wanted; try --help")
     page = PAGE.read_text(encoding="utf-8")
-    names = [name for _, name, _, _ in MARKED.findall(page)]
+    kinds = check_order(page)
     new = MARKED.sub(lambda m: m[0] if m[2] in ELSEWHERE else m[1] + "\n" + made(m[2]) + "\n" + m[4], page)
     texts = {PAGE: new, **poll_outs()}
-    if sys.argv[1:] == ["write"]:
+    if words == ["write"]:
         for path, text in texts.items():
             path.write_text(text, encoding="utf-8")
     for path, text in texts.items():
         if not path.exists() or path.read_text(encoding="utf-8") != text:
             sys.exit(f"paper cases: {path.relative_to(ROOT)} differs from the rules or the trace; `tests/paper_cases.py write` writes it anew")
-    kinds = [name.split()[0] for name in names]
-    missing = {*TABLES, *ELSEWHERE} - set(kinds)
-    if missing:
-        sys.exit(f"paper cases: the page lacks {', '.join(missing)}")
     for random in f"{LISTS:,} random lists", f"{POLLS:,} random polls":
         if random not in page:
             sys.exit(f"paper cases: the page does not speak of {random}")
     cases, polls, others = kinds.count("case"), kinds.count("poll"), sum(map(kinds.count, ELSEWHERE))
     print(f"paper cases: {cases} cases are the trace's, {polls} of a poll and {len(texts) - 1} polls' texts the program's, "
-          f"{len(kinds) - cases - polls - others} tables and {check_picture()} arrows the rules'")
+          f"{len(kinds) - cases - polls - others} tables and {check_picture()} arrows the rules'; document 01 says so of {len(SCOPE)} cases")
 
 
 if __name__ == "__main__":

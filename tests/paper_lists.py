@@ -2,7 +2,7 @@
 """Plays random lists and random polls by the rules of docs/PAPER-CASES.md and compares each line with what the separately written
 program has: the trace of a list, the text of a poll.
 
-    paper_lists.py [LISTS [SEED]]      and a third as many polls
+usage: paper_lists.py [LISTS [SEED]]      and a third as many polls; 3000 lists from seed 1 where left out
 
 Every rule and every refusal must be met, and marks of rounds that are unmarked and of rounds that are marked. Each list and each poll
 must leave as many rounds marked as contested says. Seats must become spent by turns with hint no, and take a further turn. In polls too
@@ -294,7 +294,13 @@ def checked(what, lists, found, rules, never=()):
 
 
 def main():
-    count, seed = [*map(int, sys.argv[1:]), *[LISTS, SEED][len(sys.argv) - 1:]]
+    words = sys.argv[1:]
+    if words in (["--help"], ["-h"]):
+        print(__doc__.strip())
+        return
+    if len(words) > 2 or not all(word.isdecimal() for word in words):
+        sys.exit(f"paper_lists.py: {' '.join(words)}: a number of lists and a seed are named at most; try --help")
+    count, seed = [*map(int, words), *[LISTS, SEED][len(words):]]
     chance = random.Random(seed)
     lists = [Composer(chance).compose() for _ in range(count)]
     told = checked("list", lists, traces([one.sheet() for one in lists]), SESSION)

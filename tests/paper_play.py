@@ -7,7 +7,7 @@ program test_poll writes.
 import re
 
 from paper_rules import ANSWERS, COUNTS, LIMITS, OPENING_REFUSALS, POLL_REFUSALS, POLL_RULES, POLL_STANCES, POLL_TURNS
-from paper_rules import REFUSALS, RULES, STANCES, window
+from paper_rules import REFUSALS, RULES, STANCES, WORKING, window
 
 BLANK = {"T": 0, "C": False, "D": 0}
 
@@ -107,7 +107,7 @@ def matched(words, patterns):
 
 def condition(words):
     """What tells of a turn whether the words hold."""
-    asked = [ASKED.get(part) or matched(part, COMPARED) for part in re.split(", | and ", words)]
+    asked = [ASKED.get(part) or matched(re.sub(" is (already|now) ", " is ", part), COMPARED) for part in re.split(", | and ", words)]
     if len(asked) == 1:
         return asked[0]
     return lambda turn: all(holds(turn) for holds in asked)
@@ -218,6 +218,8 @@ class Row:
 
     def __init__(self, first, row, rules):
         _, _, when, does, outcomes = row
+        if " now " in when or any(" already " in found for found, _ in outcomes):
+            raise ValueError(f"paper_rules.py: `already` is said before anything is done, `now` after it: {row}")
         self.fits, self.does, self.outcomes = condition(when), actions(does), []
         for number, (found, then) in enumerate(outcomes, first):
             stance, _, rest = then.partition("; ")
@@ -259,18 +261,18 @@ class Rules:
             first += len(row[4])
 
     def heads_of(self, at):
-        """The stances that a row is for, `A to B` being all from A to B."""
+        """The stances that a row is for."""
         for part in at.split(", "):
-            first, *last = part.split(" to ")
-            if first == "go on":
-                yield first
-                continue
-            head = self.heads.index(first.split()[0])
-            yield from self.heads[head:self.heads.index(last[0]) + 1 if last else head + 1]
+            if part == "any working stance":
+                yield from (stance.split()[0] for stance in WORKING)
+            elif part == "go on":
+                yield part
+            else:
+                yield self.heads[self.heads.index(part.split()[0])]
 
-    def words(self, kinds):
-        """The words of a list for those turns."""
-        return ", ".join(word for word, kind in self.kinds.items() if kind in kinds.split(", "))
+    def turns(self, kinds):
+        """Those of the turns that a list of these rules has."""
+        return ", ".join(kind for kind in self.kinds.values() if kind in kinds.split(", "))
 
 
 SESSION = Rules(STANCES, RULES, REFUSALS)
@@ -301,8 +303,8 @@ class Play:
 
     rules, caller = SESSION, "server"
 
-    def __init__(self, n, limit):
-        self.n, self.limit, self.window = n, limit, window(n)
+    def __init__(self, n, limit, width=None):
+        self.n, self.limit, self.window = n, limit, width or window(n)
         self.seats = [Seat() for _ in range(n)]
         self.board = {row: {} for row in BLANK}
         self.counts = [0] * len(COUNTS)

@@ -23,19 +23,22 @@ STANCES = [
     "decided",
 ]
 
+# The stances at which a seat is working.
+WORKING = STANCES[STANCES.index("gate"):STANCES.index("commit") + 1]
+
 # Stands at, turn, if, does, and for each thing that may be found: what the seat then stands at. Of the rows for a stance and a
 # turn the first one that fits is taken, and of what is found the first one that fits. "go on" is no stance: it is followed in
-# the same turn.
+# the same turn. "already" is said of a number before anything is done, "now" of one after it.
 RULES = [
     ("out", "propose", "", "", [("", "gate; the number proposed becomes the own value")]),
-    ("gate", "work", "r is L", "", [("", "spent")]),
+    ("gate", "work", "r is already L", "", [("", "spent")]),
     ("gate", "work", "r is below L, hint no", "", [("", "gate")]),
     (
         "gate",
         "work",
         "otherwise",
         "add 1 to r; read T[r]",
-        [("blank", "put"), ("filled, r is L", "take L"), ("filled, r is below L", "seek r + 1")],
+        [("blank", "put"), ("filled, r is now L", "take L"), ("filled, r is now below L", "seek r + 1")],
     ),
     ("put", "work", "", "write the own value to T[r]", [("", "compare 0")]),
     (
@@ -73,13 +76,13 @@ RULES = [
     ),
     ("commit", "work", "", "write the own value to D", [("", "gate")]),
     (
-        "gate to commit, spent",
+        "any working stance, spent",
         "look",
         "",
         "read D",
         [("blank", "as before"), ("filled", "decided; it becomes the own value")],
     ),
-    ("gate to commit, spent", "crash", "", "", [("", "crashed")]),
+    ("any working stance, spent", "crash", "", "", [("", "crashed")]),
 ]
 
 # Number, turns, if: tried from top to bottom, before the rules.
@@ -116,7 +119,7 @@ OPENING_REFUSALS = [
     (2, "session, sheet", "L is above the most rounds"),
 ]
 
-# 02, wish 8. 01 had 2 times the root of n, rounded up to a whole number, plus 1.
+# 02, wish 8.
 WINDOW = "the smallest whole number that, multiplied by itself, gives 4 times n or more"
 
 
@@ -125,9 +128,14 @@ def window(n):
     return next(number for number in range(4 * n + 1) if number * number >= 4 * n)
 
 
+def window_before(n):
+    """01, before that wish: "2 times (the root of n, rounded up to a whole number) + 1"."""
+    return 2 * next(root for root in range(n + 1) if root * root >= n) + 1
+
+
 # ---------------------------------------------------------------- polls
 
-# A poll is played by the rules above, with L = W. The turns of its list, and which of the turns above each is: there are no looks, and
+# A poll is played by the rules above, with L = W. The lines of its list, and which of the turns above each is: there are no looks, and
 # no turn has a hint, so that none has hint no.
 POLL_TURNS = {"propose": "propose", "turn": "work", "crash": "crash"}
 

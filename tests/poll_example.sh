@@ -1,7 +1,10 @@
 #!/usr/bin/env bash
 # The sample polls, as README runs the first of them: what the proved program writes is the text beside each.
 set -euo pipefail
-cd "$(dirname "$0")/.."
+. "$(dirname "$0")/../common.sh"
+takes_nothing "$@"
+needs rt python3
+cd "$root"
 examples/poll.sh | cmp - examples/two_answers.out
 count=0
 for poll in examples/*.poll; do

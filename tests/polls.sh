@@ -6,7 +6,10 @@
 #
 # usage: tests/polls.sh [POLLS [SEED]]      as long as one likes; 4,000 polls from seed 1, and the wrong programs, in the gate
 set -euo pipefail
-cd "$(dirname "$0")/.."
+. "$(dirname "$0")/../common.sh"
+helped "$@"
+needs rt gcc rustc
+cd "$root"
 ./build.sh reference test_poll
 polls=$PWD/target/reference/polls
 proved=$PWD/target/bin/test_poll

@@ -1,7 +1,10 @@
 #!/usr/bin/env bash
 # The separately written program: its own tests, the sample sheets, the page docs/PAPER-CASES.md, and that its harness finds a wrong library.
 set -euo pipefail
-cd "$(dirname "$0")/.."
+. "$(dirname "$0")/../common.sh"
+takes_nothing "$@"
+needs rt gcc rustc python3
+cd "$root"
 ./build.sh reference
 tail -n 1 target/built/reference.log
 for list in examples/*.txt; do

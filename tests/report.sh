@@ -3,7 +3,10 @@
 # cases on sheets, the least L of one seat and of 64, and sheets over the bedside cart's limits (02, wish 9: "the C entry and the report
 # use the server's").
 set -euo pipefail
-cd "$(dirname "$0")/.."
+. "$(dirname "$0")/../common.sh"
+takes_nothing "$@"
+needs rt gcc rustc
+cd "$root"
 crate=use_report
 program=target/bin/$crate
 ./build.sh reference

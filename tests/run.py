@@ -21,6 +21,10 @@ import sys
 sys.dont_write_bytecode = True
 from paper_rules import window
 
+if sys.argv[1:] in (["--help"], ["-h"]):
+    print(__doc__.strip())
+    sys.exit()
+
 PROVED, SEPARATE = sys.argv[1:]
 SEED = 1
 RANDOM_SHEETS = 300

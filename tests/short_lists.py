@@ -7,6 +7,10 @@ import re
 import sys
 from pathlib import Path
 
+if sys.argv[1:] in (["--help"], ["-h"]):
+    print(__doc__.strip())
+    sys.exit()
+
 MOVE = re.compile(r"proposes (\d+) (\d+)|turns \(([^)]*)\[\]\)|repeat (\d+) \(works (\d+)\)|works (\d+)|looks (\d+)")
 
 

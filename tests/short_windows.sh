@@ -3,7 +3,10 @@
 # which two turns commit different numbers, and polls with two answers; within the bound, no such thing. The window in service is the least one
 # within it (02, wish 8). Then lists as sheets, with their traces, and that wrong lists and wrong machines are found.
 set -euo pipefail
-cd "$(dirname "$0")/.."
+. "$(dirname "$0")/../common.sh"
+takes_nothing "$@"
+needs rt gcc rustc python3
+cd "$root"
 ./build.sh reference
 short_windows=target/reference/short_windows
 "$short_windows"

@@ -29,6 +29,10 @@ import tempfile
 from concurrent.futures import ThreadPoolExecutor
 from pathlib import Path
 
+if sys.argv[1:] in (["--help"], ["-h"]):
+    print(__doc__.strip())
+    sys.exit()
+
 ROOT = Path(__file__).resolve().parent.parent
 EDITS = ROOT / "tests" / "theorem-edits"
 ANSWERS = {"committed": "Commits", "adopted": "Adopts"}

@@ -1,4 +1,7 @@
 #!/usr/bin/env bash
 # The theorem's proof refuses wrong machines.
 set -euo pipefail
-python3 "$(dirname "$0")/theorem_edits.py"
+. "$(dirname "$0")/../common.sh"
+takes_nothing "$@"
+needs rt python3
+python3 "$root/tests/theorem_edits.py"

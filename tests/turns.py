@@ -1,6 +1,7 @@
 #!/usr/bin/env python3
 """Measures how many turns the shorter windows of 02, wish 8, save one seat that works alone on an empty board, by running sheets.
 
+usage:
     turns.py                    prints the table
     turns.py check DOCUMENT     fails unless the table in that document, between `<!-- turns-alone -->` and `<!-- end -->`, is this one
     turns.py write DOCUMENT     writes it there
@@ -18,6 +19,7 @@ from pathlib import Path
 sys.dont_write_bytecode = True
 from paper_cases import MARKED, table
 from paper_lists import PROGRAM, ROOT, sheet
+from paper_rules import window_before
 
 REPORT = ROOT / "target" / "bin" / "use_report"
 NAME = "turns-alone"
@@ -49,11 +51,6 @@ def alone(n, limit, turns):
 def window_now(n):
     """The least L that is not refused with 2."""
     return next(limit for limit in range(MOST_ROUNDS + 1) if report(sheet.sheet(n, limit, [])) != ["sheet refused 2"])
-
-
-def window_before(n):
-    """01: "2 times (the root of n, rounded up to a whole number) + 1"."""
-    return 2 * next(root for root in range(n + 1) if root * root >= n) + 1
 
 
 def tally_now(n, limit, turns):
@@ -105,6 +102,9 @@ def hold(what, document, made):
 
 def main():
     words = sys.argv[1:]
+    if words in (["--help"], ["-h"]):
+        print(__doc__.strip())
+        return
     if words and (len(words) != 2 or words[0] not in ("check", "write")):
         sys.exit("usage: turns.py [check DOCUMENT | write DOCUMENT]")
     made = table(HEAD, [row(n) for n in SEATS])

@@ -2,7 +2,10 @@
 # How many turns the shorter windows of 02, wish 8, save a seat that works alone: docs/PAPER-CASES.md has what is measured (tests/turns.py).
 # Then that a wrong figure there is found.
 set -euo pipefail
-cd "$(dirname "$0")/.."
+. "$(dirname "$0")/../common.sh"
+takes_nothing "$@"
+needs rt gcc rustc python3
+cd "$root"
 ./build.sh reference use_report
 page=docs/PAPER-CASES.md
 python3 tests/turns.py check "$page"

@@ -4,7 +4,10 @@
 # by a product, two that add up the wrong numbers, and the three that wish 8 shuts out: 01's, one less than the smallest, and the root of 4n
 # rounded down.
 set -euo pipefail
-cd "$(dirname "$0")/.."
+. "$(dirname "$0")/../common.sh"
+takes_nothing "$@"
+needs rt gcc rustc objdump
+cd "$root"
 ./build.sh archive window reference
 out=target/tests/window
 mkdir -p "$out"

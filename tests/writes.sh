@@ -6,6 +6,9 @@
 #
 # usage: tests/writes.sh [CALLS [SEED]]      200,000 calls from seed 1 in the gate
 set -euo pipefail
-cd "$(dirname "$0")/.."
+. "$(dirname "$0")/../common.sh"
+helped "$@"
+needs rt gcc rustc
+cd "$root"
 ./build.sh reference
 target/reference/writes "${1-200000}" "${2-1}" "${@:3}"

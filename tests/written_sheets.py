@@ -17,6 +17,10 @@ sys.path.append(str(ROOT / "examples"))
 import sheet
 from paper_rules import MOST_ROUNDS, MOST_SEATS, window
 
+if sys.argv[1:] in (["--help"], ["-h"]):
+    print(__doc__.strip())
+    sys.exit()
+
 PROGRAM = sys.argv[1]
 LISTS, SEED = 170, 1
 MOST_RUNS, MOST_ENTRIES = 16, 10_921
