@@ -110,7 +110,7 @@ def way(block, faults):
 
 def main():
     if sys.argv[1:] not in (["check"], ["write"]):
-        sys.exit(__doc__)
+        sys.exit(print(__doc__) if sys.argv[1:] == ["--help"] else __doc__)
     found, faults = crates(), []
     for name, needs in found.items():
         faults += [f"{name} depends on {d}, of a higher layer" for d in needs if layer(name) < layer(d)]

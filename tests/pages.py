@@ -1,12 +1,11 @@
 #!/usr/bin/env python3
-"""Checks README.md and docs/*.md: their size, and that what they cite exists. Takes no arguments.
+"""tests/pages.py checks README.md and docs/*.md: their size, and that what they cite exists.
 
 - README has at most 100 lines and 1,000 words; a note of docs/CHANGES.md has at most 150 words beside its table.
 - A line has at most 100 columns. Rows of tables and blocks of code may be wider, except in README.
 - A link leads to a file, and to a heading of it where it names one.
 - In backticks: a path is a file or a pattern that finds one; `crate::name` is declared in that crate; `crate/label` is an edit of it; any
-  other single word is a word of the code, the definitions or the scripts. Words in capitals stand for something. CHANGES tells of the
-  past, and its words may be gone.
+  single word is a word of the code or the scripts. Words in capitals stand for something. In CHANGES, which tells of the past, it may be gone.
 """
 import re
 import sys
@@ -32,14 +31,13 @@ def fault_of(cited, known):
     """What is wrong with a text in backticks, or None."""
     for piece in cited.split():
         if PATH.fullmatch(piece) and not MADE.match(piece):
-            crate, _, label = piece.partition("/")
-            edit = crate in CRATES and (ROOT / "crates" / crate / "must-fail" / f"{label}.edit").exists()
-            if not edit and not any(any(place.glob(piece.rstrip("/"))) for place in PLACES):
+            edit = ROOT / "crates" / piece.replace("/", "/must-fail/", 1)
+            if not Path(f"{edit}.edit").exists() and not any(any(place.glob(piece.rstrip("/"))) for place in PLACES):
                 return "there is no such file"
     if found := re.fullmatch(r"(\w+)::(\w+)(?:\(.*\))?", cited):
         crate, name = found.groups()
-        source = "".join(f.read_text(encoding="utf-8") for f in (ROOT / "crates" / crate / "src").glob("*.rt"))
-        declared = re.search(rf"\b(fn|struct|enum|type|const) {name}\b", source)
+        source = [f.read_text(encoding="utf-8") for f in (ROOT / "crates" / crate / "src").glob("*.rt")]
+        declared = any(re.search(rf"\b(fn|struct|enum|type|const) {name}\b", text) for text in source)
         return None if declared or crate not in CRATES and ({crate, name} <= known or crate == "io") else "there is no such name"
     word = re.fullmatch(r"([A-Za-z][\w′-]*)(?:\([^)]*\))?", cited)
     return "no such word is in the code" if word and not word[1].isupper() and word[1] not in known else None
@@ -63,17 +61,19 @@ def main():
         faults += [f"{name}: `{text}`: {fault}" for text in cited if (fault := fault_of(text, known))]
         for file, part in re.findall(r"\]\(([^)#]*)#?([^)]*)\)", plain):
             to = (ROOT if name == "README.md" else ROOT / "docs") / (file or name)
-            titles = re.findall(r"^#+ (.*)", PAGES.get(to.name, ""), re.M)
-            if not to.exists() or part and part not in [re.sub(r"[^\w -]", "", t.lower()).replace(" ", "-") for t in titles]:
+            titles = [re.sub(r"[^\w -]", "", t.lower()).replace(" ", "-") for t in re.findall(r"^#+ (.*)", PAGES.get(to.name, ""), re.M)]
+            if not to.exists() or part and part not in titles:
                 faults.append(f"{name}: the link to {file}#{part} leads nowhere")
     lines, words = PAGES["README.md"].count("\n"), len(PAGES["README.md"].split())
-    faults += [f"README.md has {lines} lines and {words} words, and may have 100 and 1,000"] if lines > 100 or words > 1000 else []
+    faults += [f"README.md has {lines} lines and {words} words, and may have 100 and 1,000"] * (lines > 100 or words > 1000)
     for note in re.split(r"^## ", PAGES["CHANGES.md"], flags=re.M)[1:]:
         words = sum(len(line.split()) for line in note.splitlines()[1:] if not line.startswith("|"))
-        faults += [f"CHANGES.md: {words} words, and 150 are wanted at most: {note.splitlines()[0]}"] if words > 150 else []
+        faults += [f"CHANGES.md: {words} words, and 150 are wanted at most: {note.splitlines()[0]}"] * (words > 150)
     if faults:
         sys.exit("pages: " + "\npages: ".join(faults))
     print(f"pages: {len(PAGES)} pages are within their limits, and what they cite exists")
 
 
+if sys.argv[1:]:
+    sys.exit(print(__doc__) if sys.argv[1:] == ["--help"] else __doc__)
 main()

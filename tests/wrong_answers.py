@@ -62,7 +62,7 @@ def table(crate, faults):
 
 def main():
     if sys.argv[1:] not in (["check"], ["list"]):
-        sys.exit(__doc__)
+        sys.exit(print(__doc__) if sys.argv[1:] == ["--help"] else __doc__)
     faults = []
     tables = [table(crate, faults) for crate in crates()]
     if faults:
