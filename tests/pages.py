@@ -5,7 +5,7 @@
 - A line has at most 100 columns. Rows of tables and blocks of code may be wider, except in README.
 - A link leads to a file, and to a heading of it where it names one.
 - In backticks: a path is a file or a pattern that finds one; `crate::name` is declared in that crate; `crate/label` is an edit of it; any
-  single word is a word of the code or the scripts. Words in capitals stand for something. In CHANGES, which tells of the past, it may be gone.
+  single word is a word of the code or the scripts. Words in capitals stand for something. CHANGES may name what is gone.
 """
 import re
 import sys
