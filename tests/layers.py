@@ -1,24 +1,24 @@
 #!/usr/bin/env python3
-"""Holds docs/LAYERS.md and README's table of crates to crates.txt and to the code.
+"""Makes the drawing of the layers and the table of crates in docs/CRATES.md, and holds the page to the code.
 
-    layers.py check     fails if the drawing differs from crates.txt, a crate depends on one of a higher layer, a crate is missing in
-                        README, or a step of the way of an entry is no call in the code
-    layers.py write     draws the layers anew
+    layers.py check     fails if the drawing or the table differs from what is made, if a crate depends on one of a higher layer,
+                        or if a step of "one entry's way" is no call in the code
+    layers.py write     writes the drawing and the table anew
 
-A crate's layer is its name up to the first `_`. The drawing stands between `<!-- layers -->` and `<!-- end -->`. In the block behind
-`<!-- way -->` each line is `crate::function` under the function that calls it, two spaces deeper; `calls` is read off the callers' source.
+A crate's layer is its name up to the first `_`. What lives in a crate is the first sentence of the comment at the head of its lib.rt
+or main.rt. The drawing stands between `<!-- layers -->` and `<!-- end -->`, the table between `<!-- crates -->` and `<!-- end -->`.
+In the block behind `<!-- way -->` each line is `crate::function` under the function that calls it, two spaces deeper; whether it is
+called is read off the caller's source.
 """
 import re
 import sys
 from pathlib import Path
 
 ROOT = Path(__file__).resolve().parent.parent
-PAGE = ROOT / "docs" / "LAYERS.md"
-README = ROOT / "README.md"
+PAGE = ROOT / "docs" / "CRATES.md"
 KIT = {"io", "libc", "os", "bytes", "check"}
 # From the lowest up.
 LAYERS = ["base", "model", "part", "session", "poll", "sheet", "use", "janus", "test", "theory"]
-DRAWING = re.compile(r"(<!-- layers -->\n).*?(<!-- end -->)", re.S)
 WAY = re.compile(r"<!-- way -->\n+```\n(.*?)```", re.S)
 
 
@@ -36,15 +36,46 @@ def layer(name):
     return LAYERS.index(name.split("_")[0])
 
 
-def drawing(found):
-    """The layers, highest first, each crate with the crates of its own layer that it depends on."""
-    rows = []
+def layers(found):
+    """The layers, highest first, each with the number of its crates and the lower layers that it stands on."""
+    lines = []
     for at, title in reversed(list(enumerate(LAYERS))):
-        names = sorted(name for name in found if layer(name) == at)
+        names = [name for name in found if layer(name) == at]
         if names:
             below = sorted({LAYERS[layer(d)] for name in names for d in found[name]} - {title}, key=LAYERS.index)
-            rows.append(f"| **{title}** | {' '.join(f'`{name}`' for name in names)} | {', '.join(below) or '-'} |")
-    return "\n| Layer | Crates | Stands on |\n|---|---|---|\n" + "\n".join(rows) + "\n\n"
+            on = "stands on " + ", ".join(below) if below else "stands on nothing"
+            lines.append(f"{title:<8} {len(names):>2} {'crates' if len(names) > 1 else 'crate ':<6}   {on}")
+    return "\n```\n" + "\n".join(lines) + "\n```\n\n"
+
+
+def first_sentence(crate):
+    """The first sentence of the comment at the head of a crate's source."""
+    folder = ROOT / "crates" / crate / "src"
+    file = next((folder / name for name in ("lib.rt", "main.rt") if (folder / name).exists()), None)
+    if file is None:
+        sys.exit(f"layers: {crate} has neither src/lib.rt nor src/main.rt")
+    head = re.match(r"(?://[^\n]*\n)+", file.read_text(encoding="utf-8"))
+    if not head:
+        sys.exit(f"layers: {file.relative_to(ROOT)} does not begin with a comment that says what lives there")
+    text = " ".join(line[2:].strip() for line in head[0].splitlines())
+    return re.split(r"(?<=[.\"])\s+(?=[A-Z0-9(`\"])", text)[0].replace("|", "\\|")
+
+
+def table(found):
+    """A row for each crate, in the order of the layers from the highest down, and of their names."""
+    rows = ["| Layer | Crate | What lives there |", "|---|---|---|"]
+    for at, title in reversed(list(enumerate(LAYERS))):
+        for place, name in enumerate(sorted(name for name in found if layer(name) == at)):
+            rows.append(f"| {'' if place else f'**{title}**'} | `{name}` | {first_sentence(name)} |")
+    return "\n" + "\n".join(rows) + "\n\n"
+
+
+def put(page, name, text):
+    """The page with the text in the place of that name."""
+    made, count = re.subn(rf"(<!-- {name} -->\n).*?(<!-- end -->)", lambda m: m[1] + text + m[2], page, flags=re.S)
+    if count != 1:
+        sys.exit(f"layers: {PAGE.name} has {count} places called {name}, not one")
+    return made
 
 
 def source(crate):
@@ -78,23 +109,21 @@ def way(block, faults):
 
 
 def main():
+    if sys.argv[1:] not in (["check"], ["write"]):
+        sys.exit(print(__doc__) if sys.argv[1:] == ["--help"] else __doc__)
     found, faults = crates(), []
     for name, needs in found.items():
         faults += [f"{name} depends on {d}, of a higher layer" for d in needs if layer(name) < layer(d)]
     page = PAGE.read_text(encoding="utf-8")
-    made = DRAWING.sub(lambda m: m[1] + drawing(found) + m[2], page)
-    if sys.argv[1:] == ["write"]:
+    made = put(put(page, "layers", layers(found)), "crates", table(found))
+    if sys.argv[1] == "write":
         PAGE.write_text(made, encoding="utf-8")
-    elif sys.argv[1:] != ["check"]:
-        sys.exit("usage: layers.py check|write")
     elif made != page:
-        faults.append("docs/LAYERS.md differs from crates.txt: tests/layers.py write")
+        faults.append("docs/CRATES.md differs from crates.txt and the crates' first lines: tests/layers.py write")
     way(WAY.search(page)[1], faults)
-    readme = README.read_text(encoding="utf-8")
-    faults += [f"README's table has no `{name}`" for name in found if f"`{name}`" not in readme]
     if faults:
         sys.exit("layers: " + "\nlayers: ".join(faults))
-    print(f"layers: {len(found)} crates stand as docs/LAYERS.md draws them; one entry's way is the code's")
+    print(f"layers: {len(found)} crates stand as docs/CRATES.md has them; one entry's way is the code's")
 
 
 main()
