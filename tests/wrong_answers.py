@@ -14,7 +14,7 @@ from pathlib import Path
 ROOT = Path(__file__).resolve().parent.parent
 HEAD = "| Contract | Edit | The rule that it breaks |\n|---|---|---|\n"
 PUBLIC = re.compile(r'^pub (?:extern "C" )?fn (\w+)', re.M)
-THEOREM = re.compile(r"^pub ([\w-]+) :", re.M)
+THEOREM = re.compile(r"^ *pub ([\w-]+) :", re.M)
 
 
 def crates():
