@@ -972,8 +972,8 @@ impl Coverage {
     /// Notes why a sheet was refused, by the bytes alone.
     fn sheet_refused(&mut self, sheet: &[u8], refusal: Refusal) {
         match refusal {
-            Refusal::Sheet => self.ten(sheet),
-            Refusal::Processes => {
+            Refusal::BadSheet => self.ten(sheet),
+            Refusal::BadProcessCount => {
                 self.note(match sheet[0] {
                     0 => Event::NoSeats,
                     _ => Event::ManySeats,
@@ -982,8 +982,8 @@ impl Coverage {
                 let limit = usize::from(u16::from_le_bytes([sheet[2], sheet[3]]));
                 self.note_if(limit < least_limit(1) || limit > 256, Event::OneFirst);
             }
-            Refusal::Limit => self.two(sheet),
-            Refusal::Pairs => self.eleven(sheet),
+            Refusal::BadRoundLimit => self.two(sheet),
+            Refusal::BadPairs => self.eleven(sheet),
             _ => self.note(Event::RunLength),
         }
     }
@@ -1014,7 +1014,7 @@ impl Coverage {
         let mut opened = sheet.to_vec();
         opened[2..4].copy_from_slice(&256u16.to_le_bytes());
         let next = Sheet::read(Caller::Server, &opened).err();
-        self.note_if(next == Some(Refusal::Pairs), Event::TwoFirst);
+        self.note_if(next == Some(Refusal::BadPairs), Event::TwoFirst);
     }
 
     fn eleven(&mut self, sheet: &[u8]) {
@@ -1047,20 +1047,20 @@ impl Coverage {
         let crashed = phase == Phase::Crashed;
         use Event::*;
         self.note(match refusal {
-            Refusal::NoProcess => [NoSeatPropose, NoSeatWork, NoSeatLook, NoSeatCrash][kind],
+            Refusal::NoSuchProcess => [NoSeatPropose, NoSeatWork, NoSeatLook, NoSeatCrash][kind],
             Refusal::BlankProposal if phase == Phase::Idle => BlankOut,
             Refusal::BlankProposal => BlankOther,
-            Refusal::Proposed => Twice,
-            Refusal::Idle => [OutWork, OutLook, OutCrash][kind - 1],
-            Refusal::Ended if crashed => [CrashedWork, CrashedLook, CrashedCrash][kind - 1],
-            Refusal::Ended => [DecidedWork, DecidedLook, DecidedCrash][kind - 1],
-            Refusal::Exhausted if entry[2] == 1 => SpentYes,
-            Refusal::Exhausted => SpentNo,
+            Refusal::SecondProposal => Twice,
+            Refusal::ProcessOut => [OutWork, OutLook, OutCrash][kind - 1],
+            Refusal::ProcessGone if crashed => [CrashedWork, CrashedLook, CrashedCrash][kind - 1],
+            Refusal::ProcessGone => [DecidedWork, DecidedLook, DecidedCrash][kind - 1],
+            Refusal::ProcessSpent if entry[2] == 1 => SpentYes,
+            Refusal::ProcessSpent => SpentNo,
             _ if kind > 3 => WrongKind,
             _ => [WrongKind, WrongWork, WrongLook, WrongCrash][kind],
         });
         let beyond = number >= session.n;
-        self.note_if(refusal == Refusal::Entry && beyond, ThirteenFirst);
+        self.note_if(refusal == Refusal::BadEntry && beyond, ThirteenFirst);
     }
 
     /// Notes what a case reaches under one of its budgets.
@@ -1120,13 +1120,13 @@ impl Coverage {
         let opened = Sheet::read(Caller::Server, sheet).is_ok();
         let (seats, rounds) = most(Caller::Cart);
         match refusal {
-            Refusal::Processes => {
+            Refusal::BadProcessCount => {
                 let n = usize::from(sheet[0]);
                 self.note_if(n == 0, Event::CartNoSeats);
                 self.note_if(opened && n == seats + 1, Event::CartSeventeen);
                 self.note_if(opened && n > seats + 1, Event::CartManySeats);
             }
-            Refusal::Limit => {
+            Refusal::BadRoundLimit => {
                 let limit = usize::from(u16::from_le_bytes([sheet[2], sheet[3]]));
                 self.note_if(limit <= rounds, Event::CartLimitLow);
                 self.note_if(opened && limit == rounds + 1, Event::CartSixtyFive);
@@ -1148,12 +1148,12 @@ impl Coverage {
 fn mended(sheet: &[u8], refusal: Refusal) -> Option<Vec<u8>> {
     let mut sheet = sheet.to_vec();
     match refusal {
-        Refusal::Sheet if sheet.len() < 4 => return None,
-        Refusal::Sheet if sheet.len() > MAX_BYTES => sheet.truncate(MAX_BYTES),
-        Refusal::Sheet => sheet[1] = 0,
-        Refusal::Processes => sheet[0] = 1,
-        Refusal::Limit => sheet[2..4].copy_from_slice(&64u16.to_le_bytes()),
-        Refusal::Pairs => lay_anew(&mut sheet),
+        Refusal::BadSheet if sheet.len() < 4 => return None,
+        Refusal::BadSheet if sheet.len() > MAX_BYTES => sheet.truncate(MAX_BYTES),
+        Refusal::BadSheet => sheet[1] = 0,
+        Refusal::BadProcessCount => sheet[0] = 1,
+        Refusal::BadRoundLimit => sheet[2..4].copy_from_slice(&64u16.to_le_bytes()),
+        Refusal::BadPairs => lay_anew(&mut sheet),
         _ => return None,
     }
     Some(sheet)
@@ -1243,7 +1243,7 @@ impl Observer {
 
     /// Notes a 9 after the process was spent by a turn with hint no.
     fn later(&self, operation: Operation, refusal: Refusal, coverage: &mut Coverage) {
-        if let (Operation::Step { process, leader }, Refusal::Exhausted) = (operation, refusal) {
+        if let (Operation::Step { process, leader }, Refusal::ProcessSpent) = (operation, refusal) {
             let event = [Event::SpentNoLater, Event::SpentYesLater][usize::from(leader)];
             coverage.note_if(self.spent_by_no[process], event);
         }

@@ -791,12 +791,12 @@ impl Observer {
             Call::Crash { .. } => 2,
         };
         let events = match (refusal, voter) {
-            (Refusal::NoProcess, _) => [NoSeatPropose, NoSeatTurn, NoSeatCrash],
+            (Refusal::NoSuchProcess, _) => [NoSeatPropose, NoSeatTurn, NoSeatCrash],
             (Refusal::BlankProposal, Some(Voter::Walking(p))) if p.phase == Phase::Idle => {
                 [BlankOut; 3]
             }
             (Refusal::BlankProposal, _) => [BlankOther; 3],
-            (Refusal::Idle, _) => [OutTurn, OutTurn, OutCrash],
+            (Refusal::ProcessOut, _) => [OutTurn, OutTurn, OutCrash],
             (_, Some(Voter::Answered(Answer::Committed(_), _))) => {
                 [TwiceCommitted, CommittedTurn, CommittedCrash]
             }
@@ -811,7 +811,7 @@ impl Observer {
 
     /// Notes a refusal of the session's read-out.
     fn no_session(&self, process: usize, refusal: Refusal, coverage: &mut Coverage) {
-        if refusal == Refusal::NoProcess {
+        if refusal == Refusal::NoSuchProcess {
             return coverage.note(Event::SessionNoSeat);
         }
         coverage.note_if(process >= self.poll.n, Event::SessionFirst);

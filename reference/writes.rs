@@ -269,10 +269,10 @@ impl Call {
     fn mended(&self, refusal: Refusal) -> Call {
         let mut call = self.clone();
         match refusal {
-            Refusal::Processes => call.n = 1,
-            Refusal::Limit => call.limit = self.most().1,
-            Refusal::RunLength => call.entries.truncate(self.entries.len() / ENTRY * ENTRY),
-            Refusal::Cuts => {
+            Refusal::BadProcessCount => call.n = 1,
+            Refusal::BadRoundLimit => call.limit = self.most().1,
+            Refusal::BadRun => call.entries.truncate(self.entries.len() / ENTRY * ENTRY),
+            Refusal::BadCuts => {
                 call.entries.truncate(ENTRY * MOST_ENTRIES);
                 call.runs = vec![call.entries.len() / ENTRY];
             }
@@ -405,7 +405,7 @@ const APART: &[(&str, u64)] = &[
 fn apart(call: &Call, refusal: Refusal) -> usize {
     let (seats, rounds) = call.most();
     match refusal {
-        Refusal::Processes => usize::from(call.n > seats + 1),
+        Refusal::BadProcessCount => usize::from(call.n > seats + 1),
         _ => 2 + usize::from(call.limit > rounds + 1),
     }
 }
@@ -448,22 +448,22 @@ impl Coverage {
 fn note_refused(call: &Call, refusal: Refusal, coverage: &mut Coverage) {
     let Coverage { reached, below, .. } = coverage;
     match refusal {
-        Refusal::Processes => note_seats(call, reached),
-        Refusal::Limit => note_limit(call, reached, below),
-        Refusal::RunLength => reached.note(match call.entries.len() % ENTRY {
+        Refusal::BadProcessCount => note_seats(call, reached),
+        Refusal::BadRoundLimit => note_limit(call, reached, below),
+        Refusal::BadRun => reached.note(match call.entries.len() % ENTRY {
             1 => Event::Ragged1,
             5 => Event::Ragged5,
             _ => Event::Ragged,
         }),
-        Refusal::Cuts => note_cuts(call, reached),
-        Refusal::Entry => note_entry(call, reached),
+        Refusal::BadCuts => note_cuts(call, reached),
+        Refusal::BadEntry => note_entry(call, reached),
         _ => reached.note(match call.size() - call.room {
             _ if call.room == 0 => Event::NoRoom,
             1 => Event::ByteShort,
             _ => Event::Short,
         }),
     }
-    if refusal == Refusal::Buffer {
+    if refusal == Refusal::BadBuffer {
         // The last to be tested.
         return;
     }

@@ -47,7 +47,7 @@ wrong "with a cart that opens 17" session.rs 's/processes: 16,/processes: 17,/' 
 wrong "with a cart that opens 15" session.rs 's/processes: 16,/processes: 15,/' 'cart, opening, n 16, L 0: library 2, reference 1$'
 wrong "with the server's rounds on the cart" session.rs 's/rounds: 64,/rounds: MAX_ROUNDS,/' 'cart, opening, n 1, L 65: library 2, reference 0$'
 wrong "with 63 rounds on the cart" session.rs 's/rounds: 64,/rounds: 63,/' 'cart, opening, n 1, L 64: library 0, reference 2$'
-wrong "that tests 2 before 1" session.rs 's/^    check_processes(most, n)?;/    if limit > most.rounds {\n        return Err(Refusal::Limit);\n    }\n&/' \
+wrong "that tests 2 before 1" session.rs 's/^    check_processes(most, n)?;/    if limit > most.rounds {\n        return Err(Refusal::BadRoundLimit);\n    }\n&/' \
     'server, opening, n 0, L 257: library 1, reference 2$'
 wrong "that opens the cart's sessions by the server's limits" session.rs 's/check_opening(caller.limits(), window/check_opening(Caller::Server.limits(), window/' \
     'cart, opening, n 1, L 65: library 2, reference 0$'

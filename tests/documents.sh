@@ -1,5 +1,6 @@
 #!/usr/bin/env bash
-# The pages: their limits, what they cite, the table of crates and the edits, held to the code. Then that wrong pages are found, in a copy.
+# The pages: their limits, what they cite, the table of crates, the edits and the refusals, held to the code; the public functions, held to two
+# rules. Then that wrong pages, names and functions are found, in a copy.
 #
 # usage: tests/documents.sh
 set -euo pipefail
@@ -10,6 +11,8 @@ cd "$root"
 python3 tests/pages.py
 python3 tests/layers.py check
 python3 tests/wrong_answers.py check
+python3 tests/refusals.py
+python3 tests/contracts.py
 
 room=$(mktemp -d)
 trap 'rm -rf "$room"' EXIT
@@ -42,4 +45,34 @@ wrong 'the link to PROVED.md#gone leads nowhere' docs/NAMES.md '[PROVED](PROVED.
 wrong '101 columns' docs/NAMES.md "$(printf '%0101d' 0)"
 wrong 'and may have 100 and 1,000' README.md "$(printf '\\n%.0s' {1..100})"
 wrong 'and 150 are wanted at most: a note' docs/CHANGES.md "## a note\n\n$(printf 'word\\n%.0s' {1..151})"
-echo "documents: $count wrong pages are found"
+
+# WORDS PROGRAM FILE OLD NEW: with the new text in place of the old one in that file the program fails, in those words.
+misled() {
+    local said
+    rm -rf "$room"/*
+    cp -r crates include reference docs "$room"
+    mkdir "$room/tests"
+    cp "tests/$2" "$room/tests"
+    grep -qF -- "$4" "$room/$3"
+    python3 - "$room/$3" "$4" "$5" <<'END'
+import sys
+path, old, new = sys.argv[1:]
+text = open(path, encoding="utf-8").read()
+open(path, "w", encoding="utf-8").write(text.replace(old, new, 1))
+END
+    if said=$(python3 "$room/tests/$2" 2>&1) || ! grep -qF -- "$1" <<<"$said"; then
+        echo "documents: FAILED: $2 with '$5' in $3: $said" >&2
+        exit 1
+    fi
+    count=$((count + 1))
+}
+misled 'code: 9 is PROCESS_SPENT, and None in the definitions' refusals.py crates/model/specs/Numbers.antt 'processSpent = 9' 'processSpent = 19'
+misled 'code: 6 is SECOND_ONE' refusals.py crates/model/src/numbers.rt SECOND_PROPOSAL SECOND_ONE
+misled 'separate program: 12 is BAD_CUTS' refusals.py reference/src/refusal.rs 'BadRun = 12' 'BadCuts = 12'
+misled 'header: 4 is NO_SEAT' refusals.py include/janus.h JANUS_NO_SUCH_SEAT JANUS_NO_SEAT
+misled 'page: 14, NO_SUCH_ROUND, is missing' refusals.py docs/REFUSALS.md '| 14 |' '| 24 |'
+misled "'return 3;' has a number and no name" refusals.py crates/session_refusal/src/lib.rt 'return UNSOUND;' 'return 3;'
+misled 'session_refusal/src/lib.rt: first_refusal has a `requires`' contracts.py crates/session_refusal/src/lib.rt '    ensures {' '    requires { ⌜ n ≡ 3 ⌝ }
+    ensures {'
+misled 'has no `ensures`' contracts.py crates/session_refusal/src/lib.rt '    ensures {' '    hides {'
+echo "documents: $count wrong pages, names and functions are found"

@@ -56,7 +56,7 @@ miscounts "only flag writes of marked rounds as contested" 's/u32::from(!\*mark)
 miscounts "a read for a flag write" 's/ \*mark = true;/ *mark = true; self.counts.reads += 1;/' 'report: library$'
 wrong differential phase.rs "reads the hint before the round limit" 's/if self.round == bounds.limit {/if leader \&\& self.round == bounds.limit {/' '\(code: library 9, reference [0-9]*\|report: library\)$'
 wrong differential phase.rs "spends a seat one round early" 's/if self.round == bounds.limit {/if self.round + 1 == bounds.limit {/' '\(code: library [0-9]*, reference 9\|report: library\)$'
-wrong differential session.rs "lets a spent seat back to the gate" 's/return Err(Refusal::Exhausted);/process.phase = Phase::Waiting;/' 'code: library 9, reference [0-9]*$'
+wrong differential session.rs "lets a spent seat back to the gate" 's/return Err(Refusal::ProcessSpent);/process.phase = Phase::Waiting;/' 'code: library 9, reference [0-9]*$'
 miswrites() {
     wrong writes write.rs "$@"
 }

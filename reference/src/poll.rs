@@ -112,7 +112,7 @@ impl Poll {
             return Err(Refusal::BlankProposal);
         }
         if *voter != Voter::IDLE {
-            return Err(Refusal::Proposed);
+            return Err(Refusal::SecondProposal);
         }
         *voter = Voter::Walking(Process {
             phase: Phase::Waiting,
@@ -182,7 +182,7 @@ impl Poll {
     pub fn read_process(&self, process: usize) -> Result<Voter, Refusal> {
         self.check_sound()?;
         let seated = &self.voters[..self.n];
-        seated.get(process).copied().ok_or(Refusal::NoProcess)
+        seated.get(process).copied().ok_or(Refusal::NoSuchProcess)
     }
 
     /// 01, "Numbers returned", 3.
@@ -237,10 +237,10 @@ fn step(
 /// answered seat gives 8".
 fn working(voter: &mut Voter) -> Result<&mut Process, Refusal> {
     match voter {
-        Voter::Answered(..) => Err(Refusal::Ended),
+        Voter::Answered(..) => Err(Refusal::ProcessGone),
         Voter::Walking(process) => match process.phase {
-            Phase::Idle => Err(Refusal::Idle),
-            Phase::Crashed => Err(Refusal::Ended),
+            Phase::Idle => Err(Refusal::ProcessOut),
+            Phase::Crashed => Err(Refusal::ProcessGone),
             _ => Ok(process),
         },
     }

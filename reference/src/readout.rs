@@ -10,7 +10,7 @@ impl Session {
     pub fn read_round(&self, round: usize) -> Result<(u32, bool), Refusal> {
         self.check_sound()?;
         if round < 1 || round > self.limit as usize {
-            return Err(Refusal::NoRound);
+            return Err(Refusal::NoSuchRound);
         }
         let place = round - 1;
         Ok((self.registers.values[place], self.registers.marks[place]))
@@ -20,7 +20,7 @@ impl Session {
     pub fn read_process(&self, process: usize) -> Result<Process, Refusal> {
         self.check_sound()?;
         let seated = &self.processes[..self.n];
-        seated.get(process).copied().ok_or(Refusal::NoProcess)
+        seated.get(process).copied().ok_or(Refusal::NoSuchProcess)
     }
 
     /// D. (01, order: 3.)
@@ -36,7 +36,7 @@ impl Session {
         self.check_sound()?;
         let mut found = [0; MAX_ROUNDS];
         let count = self.collect_standing(&mut found);
-        let lent = buffer.get_mut(..count).ok_or(Refusal::Buffer)?;
+        let lent = buffer.get_mut(..count).ok_or(Refusal::BadBuffer)?;
         lent.copy_from_slice(&found[..count]);
         Ok(count)
     }

@@ -6,44 +6,44 @@
 #[repr(u8)]
 pub enum Refusal {
     /// Seats not 1 to the caller's most. (02, wish 9.)
-    Processes = 1,
+    BadProcessCount = 1,
     /// L below W or above the caller's most rounds. (02, wish 9.)
-    Limit = 2,
+    BadRoundLimit = 2,
     /// Session or poll not sound.
     Unsound = 3,
     /// Seat number n or above.
-    NoProcess = 4,
+    NoSuchProcess = 4,
     /// Proposal of 0.
     BlankProposal = 5,
     /// Proposal, seat not out.
-    Proposed = 6,
+    SecondProposal = 6,
     /// Work, look or crash, seat out.
-    Idle = 7,
+    ProcessOut = 7,
     /// Work, look or crash, seat crashed or decided, or answered in a poll. (02, wish
     /// 6.)
-    Ended = 8,
+    ProcessGone = 8,
     /// Work, seat spent.
-    Exhausted = 9,
+    ProcessSpent = 9,
     /// Sheet under 4 or over 65,535 bytes, over 16 pairs, or too short for its
     /// pairs.
-    Sheet = 10,
+    BadSheet = 10,
     /// Pairs unsorted, overlapping, before the end of the pairs, or past the
     /// sheet.
-    Pairs = 11,
+    BadPairs = 11,
     /// A run's length not a multiple of 6; of a writer's entries, their length. (02,
     /// wish 3.)
-    RunLength = 12,
+    BadRun = 12,
     /// Entry with an unknown kind or a wrong value.
-    Entry = 13,
+    BadEntry = 13,
     /// Read-out of a round not 1 to L.
-    NoRound = 14,
+    NoSuchRound = 14,
     /// Lent buffer of wrong length.
-    Buffer = 15,
+    BadBuffer = 15,
     /// Work or look, some tally count already 4,294,967,295.
     CountsFull = 16,
     /// Writing a sheet: more than 16 runs, over 65,535 bytes, or run lengths that
     /// do not add up to the entries. (02, wish 3.)
-    Cuts = 17,
+    BadCuts = 17,
 }
 
 impl Refusal {

@@ -65,7 +65,7 @@ pub fn run(sheet: &Sheet, budget: u64, session: &mut Session, counts: &mut Count
 /// entry and the report use the server's".)
 pub fn entry(bytes: &[u8], budget: u64, buffer: &mut [u8]) -> u32 {
     if buffer.len() != BUFFER {
-        return Refusal::Buffer.code();
+        return Refusal::BadBuffer.code();
     }
     let sheet = match Sheet::read(Caller::Server, bytes) {
         Ok(sheet) => sheet,

@@ -98,7 +98,7 @@ pub struct Session {
 #[inline]
 pub(crate) fn check_processes(most: Limits, n: usize) -> Result<(), Refusal> {
     if n == 0 || n > most.processes {
-        return Err(Refusal::Processes);
+        return Err(Refusal::BadProcessCount);
     }
     Ok(())
 }
@@ -114,7 +114,7 @@ pub(crate) fn check_opening(
 ) -> Result<(), Refusal> {
     check_processes(most, n)?;
     if limit < window(n) as usize || limit > most.rounds {
-        return Err(Refusal::Limit);
+        return Err(Refusal::BadRoundLimit);
     }
     Ok(())
 }
@@ -242,7 +242,7 @@ impl Session {
             return Err(Refusal::BlankProposal);
         }
         if process.phase != Phase::Idle {
-            return Err(Refusal::Proposed);
+            return Err(Refusal::SecondProposal);
         }
         process.phase = Phase::Waiting;
         process.estimate = value;
@@ -264,7 +264,7 @@ impl Session {
         };
         let process = alive(&mut self.processes[..self.n], process)?;
         if process.phase == Phase::Exhausted {
-            return Err(Refusal::Exhausted);
+            return Err(Refusal::ProcessSpent);
         }
         let mut board = board(&mut self.registers, counts, watch)?;
         process.step(leader, bounds, &mut board);
@@ -312,7 +312,7 @@ pub(crate) fn board<'a, W: FnMut(Access)>(
 /// The process of that number among the n, or 4.
 #[inline]
 pub(crate) fn present<P>(processes: &mut [P], process: usize) -> Result<&mut P, Refusal> {
-    processes.get_mut(process).ok_or(Refusal::NoProcess)
+    processes.get_mut(process).ok_or(Refusal::NoSuchProcess)
 }
 
 /// The process of that number, working or spent, or 4, 7, 8 in this order.
@@ -320,8 +320,8 @@ pub(crate) fn present<P>(processes: &mut [P], process: usize) -> Result<&mut P, 
 fn alive(processes: &mut [Process], process: usize) -> Result<&mut Process, Refusal> {
     let process = present(processes, process)?;
     match process.phase {
-        Phase::Idle => Err(Refusal::Idle),
-        Phase::Crashed | Phase::Decided => Err(Refusal::Ended),
+        Phase::Idle => Err(Refusal::ProcessOut),
+        Phase::Crashed | Phase::Decided => Err(Refusal::ProcessGone),
         _ => Ok(process),
     }
 }

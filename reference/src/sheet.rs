@@ -32,7 +32,7 @@ impl Operation {
     #[inline]
     pub fn decode(entry: &[u8]) -> Result<Operation, Refusal> {
         let &[kind, process, a, b, c, d] = entry else {
-            return Err(Refusal::Entry);
+            return Err(Refusal::BadEntry);
         };
         let process = usize::from(process);
         let value = u32::from_le_bytes([a, b, c, d]);
@@ -44,7 +44,7 @@ impl Operation {
             }),
             (2, 0) => Ok(Operation::Learn { process }),
             (3, 0) => Ok(Operation::Crash { process }),
-            _ => Err(Refusal::Entry),
+            _ => Err(Refusal::BadEntry),
         }
     }
 
@@ -85,13 +85,13 @@ impl<'a> Sheet<'a> {
         bytes: &'a [u8],
     ) -> Result<Sheet<'a>, Refusal> {
         let &[n, p, limit_low, limit_high, ref rest @ ..] = bytes else {
-            return Err(Refusal::Sheet);
+            return Err(Refusal::BadSheet);
         };
         if bytes.len() > MAX_BYTES || p > MAX_PAIRS {
-            return Err(Refusal::Sheet);
+            return Err(Refusal::BadSheet);
         }
         let Some(pairs) = rest.get(..PAIR * usize::from(p)) else {
-            return Err(Refusal::Sheet);
+            return Err(Refusal::BadSheet);
         };
         let n = usize::from(n);
         let limit = usize::from(u16::from_le_bytes([limit_low, limit_high]));
@@ -123,7 +123,7 @@ impl<'a> Sheet<'a> {
         let mut free = HEADER + self.pairs.len();
         for (offset, length) in self.spans() {
             if offset < free || offset + length > self.bytes.len() {
-                return Err(Refusal::Pairs);
+                return Err(Refusal::BadPairs);
             }
             free = offset + length;
         }
@@ -135,7 +135,7 @@ impl<'a> Sheet<'a> {
         if self.spans().all(|(_, length)| length % ENTRY == 0) {
             Ok(())
         } else {
-            Err(Refusal::RunLength)
+            Err(Refusal::BadRun)
         }
     }
 

@@ -19,12 +19,12 @@ pub fn write(
 ) -> Result<usize, Refusal> {
     check_opening(caller.limits(), window, n, limit)?;
     if entries.len() % ENTRY != 0 {
-        return Err(Refusal::RunLength);
+        return Err(Refusal::BadRun);
     }
     let size = size_of_sheet(entries.len(), runs)?;
     check_entries(entries)?;
     if output.len() < size {
-        return Err(Refusal::Buffer);
+        return Err(Refusal::BadBuffer);
     }
     let (header, body) = output[..size].split_at_mut(HEADER + PAIR * runs.len());
     write_header(n, limit, runs, header);
@@ -36,14 +36,14 @@ pub fn write(
 /// lengths that do not add up to the entries, which a sum past 2^64 never does.
 fn size_of_sheet(entry_bytes: usize, runs: &[usize]) -> Result<usize, Refusal> {
     if runs.len() > usize::from(MAX_PAIRS) {
-        return Err(Refusal::Cuts);
+        return Err(Refusal::BadCuts);
     }
     let size = HEADER + PAIR * runs.len() + entry_bytes;
     let total = runs
         .iter()
         .try_fold(0, |sum: usize, run| sum.checked_add(*run));
     if size > MAX_BYTES || total != Some(entry_bytes / ENTRY) {
-        return Err(Refusal::Cuts);
+        return Err(Refusal::BadCuts);
     }
     Ok(size)
 }
@@ -63,7 +63,7 @@ fn check_entries(entries: &[u8]) -> Result<(), Refusal> {
     if entries.chunks_exact(ENTRY).all(well_formed) {
         Ok(())
     } else {
-        Err(Refusal::Entry)
+        Err(Refusal::BadEntry)
     }
 }
 

@@ -97,7 +97,7 @@ fn takes_everything(mut case: Case) {
     assert_eq!(case.step(last, true), Ok(()));
     assert_eq!(case.learn(last), Ok(()));
     assert_eq!(case.session.read_round(rounds), Ok((0, false)));
-    assert_eq!(case.session.read_round(rounds + 1), Err(Refusal::NoRound));
+    assert_eq!(case.session.read_round(rounds + 1), Err(Refusal::NoSuchRound));
     assert_eq!(case.process(last).to_string(), "put round 1 value 7");
     assert_eq!(case.session.read_decision(), Ok(0));
     assert_eq!(case.session.standing_values(&mut []), Ok(0));
@@ -171,7 +171,7 @@ fn a_seat_of_the_cart_is_spent_in_round_64() {
     }
     assert_eq!(case.process(15).to_string(), "spent round 64 value 7");
     assert_eq!(case.session.read_decision(), Ok(7));
-    assert_eq!(case.step(15, true), Err(Refusal::Exhausted));
+    assert_eq!(case.step(15, true), Err(Refusal::ProcessSpent));
 }
 
 // ---------------------------------------------------------------- sheets

@@ -43,7 +43,7 @@ fn a_seat_that_is_not_there() {
         refused(&mut case, 4, |s, _| s.propose(process, 7));
         refused(&mut case, 4, |s, _| s.propose(process, 0));
         let answer = case.session.read_process(process);
-        assert_eq!(answer, Err(Refusal::NoProcess));
+        assert_eq!(answer, Err(Refusal::NoSuchProcess));
     }
 }
 
@@ -128,12 +128,12 @@ fn a_tally_filled_by_its_last_turn() {
 fn a_round_that_is_not_there() {
     let case = Case::contested();
     for round in [0, 4, 256, 257, usize::MAX] {
-        assert_eq!(case.session.read_round(round), Err(Refusal::NoRound));
+        assert_eq!(case.session.read_round(round), Err(Refusal::NoSuchRound));
     }
     assert_eq!(case.session.read_round(3), Ok((0, false)));
     let widest = Case::open(64, 256);
     assert_eq!(widest.session.read_round(256), Ok((0, false)));
-    assert_eq!(widest.session.read_round(257), Err(Refusal::NoRound));
+    assert_eq!(widest.session.read_round(257), Err(Refusal::NoSuchRound));
 }
 
 #[test]
@@ -152,7 +152,7 @@ fn standing_values_in_a_short_buffer() {
     case.session.registers.values[..3].copy_from_slice(&[4, 5, 6]);
     let mut buffer = [77; 2];
     let answer = case.session.standing_values(&mut buffer);
-    assert_eq!((answer, buffer), (Err(Refusal::Buffer), [77, 77]));
+    assert_eq!((answer, buffer), (Err(Refusal::BadBuffer), [77, 77]));
     let mut buffer = [77; 3];
     assert_eq!(case.session.standing_values(&mut buffer), Ok(3));
     let blank = Case::open(2, 10);
@@ -168,7 +168,7 @@ fn standing_values_of_all_rounds() {
     let mut buffer = [0; 256];
     assert_eq!(
         case.session.standing_values(&mut buffer[..255]),
-        Err(Refusal::Buffer)
+        Err(Refusal::BadBuffer)
     );
     assert_eq!(buffer, [0; 256]);
     assert_eq!(case.session.standing_values(&mut buffer), Ok(256));

@@ -56,7 +56,7 @@ fn every_window_is_the_smallest() {
         let w = window(n) as usize;
         assert!(w * w >= 4 * n && (w - 1) * (w - 1) < 4 * n, "n = {n}");
         assert!(Session::open(Caller::Server, n, w).is_ok());
-        assert_eq!(Session::open(Caller::Server, n, w - 1), Err(Refusal::Limit));
+        assert_eq!(Session::open(Caller::Server, n, w - 1), Err(Refusal::BadRoundLimit));
     }
 }
 
@@ -158,8 +158,8 @@ fn the_gate_in_the_last_round() {
         assert_eq!(case.step(0, leader), Ok(()));
         assert_eq!(case.process(0).to_string(), "spent round 2 value 7");
         assert_eq!(case.tally(), (9, 3, 0));
-        assert_eq!(case.step(0, leader), Err(Refusal::Exhausted));
-        assert_eq!(case.step(0, !leader), Err(Refusal::Exhausted));
+        assert_eq!(case.step(0, leader), Err(Refusal::ProcessSpent));
+        assert_eq!(case.step(0, !leader), Err(Refusal::ProcessSpent));
         assert_eq!(case.learn(0), Ok(()));
         assert_eq!(case.process(0).to_string(), "decided round 2 value 7");
         assert_eq!(case.tally(), (10, 3, 0));
@@ -185,7 +185,7 @@ fn a_second_proposal() {
     let mut case = Case::open(1, 2);
     case.propose(0, 5);
     let before = case.session.clone();
-    assert_eq!(case.session.propose(0, 5), Err(Refusal::Proposed));
+    assert_eq!(case.session.propose(0, 5), Err(Refusal::SecondProposal));
     assert_eq!(case.session.propose(0, 0), Err(Refusal::BlankProposal));
     assert_eq!(case.session, before);
 }

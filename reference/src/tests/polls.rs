@@ -85,7 +85,7 @@ fn openings() {
     for n in [0, 65, 66, 257, 65_537, usize::MAX] {
         assert_eq!(
             Poll::open(Caller::Server, n).err(),
-            Some(Refusal::Processes)
+            Some(Refusal::BadProcessCount)
         );
     }
     for n in 1..=64 {
@@ -175,7 +175,7 @@ fn a_seat_that_is_not_there() {
         round.not_proposed(4, process, 0);
         round.refused(4, Call::ReadAsSession { process });
         let answer = round.poll.read_process(process);
-        assert_eq!(answer, Err(Refusal::NoProcess));
+        assert_eq!(answer, Err(Refusal::NoSuchProcess));
     }
 }
 
