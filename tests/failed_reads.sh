@@ -3,7 +3,10 @@
 # program that reads gets its stored input by a pipe and in pieces, and each read in turn fails: by a signal (EINTR), by a device (EIO).
 # Then standard output is empty and standard error has one line. With no failed read it prints what is stored.
 set -euo pipefail
-cd "$(dirname "$0")/.."
+. "$(dirname "$0")/../common.sh"
+takes_nothing "$@"
+needs rt gcc
+cd "$root"
 programs=(use_report test_run test_poll test_bench)
 ./build.sh "${programs[@]}"
 out=target/tests/failed_reads
