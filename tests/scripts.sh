@@ -252,7 +252,8 @@ for script in "${scripts[@]}" examples/*.py tests/{paper_cases,paper_lists,run,s
     same "$out/stderr" /dev/null
     grep -q '^[A-Z]' "$out/stdout" || { echo "scripts: $script --help does not say what it is for"; exit 1; }
 done
-python3 docs/print.py --help | grep -q '^usage: docs/print.py FOLDER'
+python3 docs/print.py --help >"$out/stdout"
+grep -q '^usage: docs/print.py FOLDER' "$out/stdout"
 for program in bash env dirname sed cat; do
     ln -s "$(type -P "$program")" "$out/bare"
 done
