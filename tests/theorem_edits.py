@@ -97,9 +97,9 @@ def listed(terms):
     return " ∷ ".join([*map(str, terms), "[]"])
 
 
-def moves(edit, step):
-    """The calls as a proof has them, oldest first; `step` is its word for a step."""
-    return [f"{step} {p}" if v is None else f"proposes {p} {v}" for p, v in calls(edit)]
+def operations(edit, proposal, step):
+    """The calls as a proof has them, oldest first; `proposal` and `step` are its words for those."""
+    return [f"{step} {p}" if v is None else f"{proposal} {p} {v}" for p, v in calls(edit)]
 
 
 def sheet(edit):
@@ -131,7 +131,7 @@ def poll_refutation(edit):
     answers = [answer.split() for answer in edit["answers"].split(", ")] if "answers" in edit else []
     given = [f"{ANSWERS[word]} {value}" for word, value in answers]
     values = {
-        "list": listed(moves(edit, "turns")[::-1]),
+        "list": listed(operations(edit, "proposes", "turns")[::-1]),
         "n": edit["processes"],
         "answers": listed(given[::-1]),
         "code": edit.get("returns", "0"),
@@ -142,7 +142,7 @@ def poll_refutation(edit):
     }
     if given:
         values |= {"first": given[0], "v": answers[0][1], "last": given[-1], "u": answers[-1][1]}
-    return ["polls.template", f"polls_{edit['refutes']}.template"], "base model model_rule model_poll model_rule", values
+    return ["polls.template", f"polls_{edit['refutes']}.template"], "base model model_rule model_poll model_rule_cases", values
 
 
 def refutation(edit):
@@ -157,7 +157,7 @@ def refutation(edit):
         return ["machine.template"], crates, values | {"v": edit["proposals"], "code": edit["returns"]}
     v, R = re.fullmatch(r"(\d+) in round (\d+)", edit["commits"]).groups()
     u, r, p = re.fullmatch(r"(\d+) in round (\d+) by process (\d+)", edit["writes"]).groups()
-    values |= {"moves": listed(moves(edit, "works")), "R": R, "v": v, "p": p, "r": r, "u": u}
+    values |= {"operations": listed(operations(edit, "Propose", "works")), "R": R, "v": v, "p": p, "r": r, "u": u}
     return ["refuted.template"], crates + " model_rule_cases", values
 
 
@@ -171,6 +171,10 @@ def write_refutation(copy, edit):
     (crate / "specs").mkdir()
     (crate / "src" / "lib.rt").write_text("// No code.\n", encoding="utf-8")
     (crate / "specs" / "Lib.antt").write_text(text, encoding="utf-8")
+    # The proof plays its list as model_rule_cases does; the short lists there may break nothing on the changed machine.
+    cases = copy / "crates" / "model_rule_cases" / "specs" / "Lib.antt"
+    cases.write_text(cases.read_text(encoding="utf-8").replace("pub mod Table\n", ""), encoding="utf-8")
+    (cases.parent / "Table.antt").unlink()
     with open(copy / "crates.txt", "a", encoding="utf-8") as crates:
         crates.write(f"refuted: {uses}\n")
 

@@ -13,7 +13,7 @@ use Rattle.model.specs.Board.{UpToServer, noCounts}
 use Rattle.model.specs.Step.{bit}
 use Rattle.model.specs.Machine.{openingAt}
 use Rattle.model.specs.Runner.{runWithin}
-use Rattle.model_rule.specs.Calls.{Call, Run}
+use Rattle.model_rule.specs.Calls.{SessionCall, RunWith}
 
 -- How many of the rounds 1 to r are marked.
 abbrev pub markedTo : (marks : List Bool) → (r : ℕ) → ℕ
@@ -25,9 +25,9 @@ abbrev pub markedRounds : Session → ℕ
 markedRounds s = markedTo (s .marks) (s .limit)
 
 -- The calls, newest first, are on one tally that began empty and stands at c now: each is given the counts that the one before left.
-abbrev pub OneTally : List Call → Counts → Type 0
+abbrev pub OneTally : List SessionCall → Counts → Type 0
 OneTally [] c = c ≡ noCounts
-OneTally (k ∷ ks) c = (c ≡ k .after) × OneTally ks (k .input .counts)
+OneTally (k ∷ ks) c = (c ≡ k .answer .counts) × OneTally ks (k .input .counts)
 
 -- The claim, of every list of calls from every accepted opening, within any limits up to the server's (02, wish 9).
 abbrev pub ContestedRule : Type 0
@@ -35,8 +35,8 @@ ContestedRule =
     (most : Limits) → UpToServer most → (n L : ℕ) →
     let start = openingAt most (window n) n L in
     start .code ≡ 0
-    → (cs : List Call) (s : Session) (c : Counts)
-    → Run (start .session) cs s
+    → (cs : List SessionCall) (s : Session) (c : Counts)
+    → RunWith window (start .session) cs s
     → OneTally cs c
     → c .contested ≡ markedRounds s
 

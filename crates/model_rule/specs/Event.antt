@@ -51,10 +51,10 @@ eventsOf q D (Crash p) = []
 
 -- ---- what stands in a past
 
--- h′ is an older part of h, or h itself.
-pub data Past (h′ : List Event) : List Event → Type 0 where
+-- h′ is an older part of h, or h itself. (Of events, and of calls: the call c stands in cs, with the calls before it, where Past (c ∷ before) cs.)
+pub data Past {A : Type 0} (h′ : List A) : List A → Type 0 where
   here : Past h′ h′
-  there : {e : Event} {h : List Event} → Past h′ h → Past h′ (e ∷ h)
+  there : {e : A} {h : List A} → Past h′ h → Past h′ (e ∷ h)
 
 -- The event x stands in h.
 pub record Happened (x : Event) (h : List Event) : Type 0 where

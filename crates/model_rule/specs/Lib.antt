@@ -1,5 +1,6 @@
--- The rules as statements: what happened, the calls and the machine, the agreement rule, safe windows, contested; the same of polls.
+-- The rules as statements: what happened, machines and calls, the agreement rule, safe windows, contested; the same of polls.
 pub mod Event
+pub mod System
 pub mod Calls
 pub mod Rule
 pub mod Safe

@@ -1,26 +1,18 @@
 -- The agreement rule (document 01, "The agreement rule"; demand 3 of the order).
 use Prim.Native.Nat.{ℕ, _*_, _≤_}
 use mathlib.Core.Path.{_≡_}
-use mathlib.Core.List.{List, [], _∷_}
+use mathlib.Core.List.{List, _∷_}
 use Rattle.model.specs.declared.Phase.the-variants.{Decided}
 use Rattle.model.specs.declared.Session.{Session}
 use Rattle.model.specs.declared.Caller.{Caller}
 use Rattle.model.specs.declared.Limits.{Limits}
 use Rattle.model.specs.Window.{window}
 use Rattle.model.specs.Board.{limitsOf, UpToServer, processAt}
-use Rattle.model.specs.Machine.{perform, openingAt}
-use Rattle.model.specs.Public.{withCounts}
+use Rattle.model.specs.Machine.{openingAt}
 use Rattle.model_rule.specs.Event.{Event, Past, Proposed, Written, Committed, DecidedOn}
 use Rattle.model_rule.specs.Event.Event.{commit}
-use Rattle.model_rule.specs.Calls.{machine, past, Call, RunWith, inputs}
-
--- "After each call, refused or not, its answer, the tally and the session equal the machine's", and 3 is never returned.
-abbrev pub EachAsTheMachine : (W : ℕ) → Session → List Call → Type 0
-EachAsTheMachine W start [] = Unit {0}
-EachAsTheMachine W start (c ∷ cs) =
-    (withCounts (c .answer) (c .after) ≡ perform W (machine W start (inputs cs)) (c .input .counts) (c .input .operation))
-    × (c .answer .code ≡ 3 → ⊥)
-    × EachAsTheMachine W start cs
+use Rattle.model_rule.specs.System.{machine, past, inputs, EachAsTheMachine}
+use Rattle.model_rule.specs.Calls.{sessions, SessionCall, RunWith}
 
 -- v was proposed before it first stood in D: before the first commit of v.
 pub record ProposedFirst (v : ℕ) (h : List Event) : Type 0 where
@@ -46,17 +38,19 @@ pub record Rule (s : Session) (h : List Event) : Type 0 where
   -- a value committed in round R is the only one written to the register of round R or a later one, before or after
   pub commitment : (R r u v : ℕ) → Committed R v h → Written r u h → R ≤ r → u ≡ v
 
--- The claim, within a caller's limits, of n processes and round limit L, where w n is the window of n processes: of every list of calls from an
--- accepted opening.
+-- The claim, within a caller's limits, of n processes and round limit L, where w n is the window of n processes.
+-- "The list starts from the session of any accepted opening. Each call is given the session that the last one returned or, refused, left." (`RunWith`)
+-- "Its words are meant by the machine above, begun at that opening." (`machine`, `past`) "After each call, refused or not, its answer, the tally and the
+-- session (n, L, registers, marks, D and seat records) equal the machine's" (`EachAsTheMachine`), "and the rule holds of that session."
 abbrev pub AgreementWithin : Limits → (w : ℕ → ℕ) → (n L : ℕ) → Type 0
 AgreementWithin most w n L =
     let start = openingAt most (w n) n L in
     start .code ≡ 0
-    → (cs : List Call) (s : Session)
+    → (cs : List SessionCall) (s : Session)
     → RunWith w (start .session) cs s
-    → EachAsTheMachine (w n) (start .session) cs
-    × (s ≡ machine (w n) (start .session) (inputs cs))
-    × Rule s (past (w n) (start .session) (inputs cs))
+    → EachAsTheMachine (sessions (w n)) (start .session) cs
+    × (s ≡ machine (sessions (w n)) (start .session) (inputs cs))
+    × Rule s (past (sessions (w n)) (start .session) (inputs cs))
 
 -- 02, wish 9: "Agreement and step rules are shown once for any limits up to the server's."
 abbrev pub AgreementWith : (w : ℕ → ℕ) → (n L : ℕ) → Type 0

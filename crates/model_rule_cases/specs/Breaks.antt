@@ -1,12 +1,14 @@
 -- A list of calls that breaks the agreement rule at a window: what it shows, and that the rule is then false.
-use Rattle.base.specs.Prelude.{ℕ, _≡_, refl, sym, _∙_, ap, subst, Bool, true, false, not, cond, _&&_, true≢false, List, [], _∷_, eqb, ltb, eqb-true, eq-eqb}
+use Rattle.base.specs.Prelude.{ℕ, _≡_, refl, sym, _∙_, subst, Bool, true, false, not, cond, _&&_, true≢false, List, [], _∷_, eqb, ltb, eqb-true, eq-eqb}
 use Rattle.base.specs.Bools.{and-left, and-right, cond-cases}
 use Rattle.model.specs.declared.Caller.the-variants.{Server}
+use Rattle.model.specs.declared.Operation.{Operation}
 use Rattle.model.specs.Board.{limitsOf}
 use Rattle.model.specs.Machine.{openingAt, processOf}
 use Rattle.model.specs.Sound.{every}
 use Rattle.model_rule.specs.Event.{Event, proposal, write, flag, commit, decision, here, there, Happened, DecidedOn}
-use Rattle.model_rule_cases.specs.Play.{Move, operationOf, played}
+use Rattle.model_rule.specs.Calls.{sessions}
+use Rattle.model_rule_cases.specs.Play.{played}
 
 -- Whether the event is a commit of v in round r; a decision of process p for v.
 abbrev pub commits : (r v : ℕ) → Event → Bool
@@ -34,34 +36,34 @@ pub record Commitment : Type 0 where
   pub round : ℕ
   pub value : ℕ
 
--- A list of moves at a window, and the two commits in it.
+-- A list of operations at a window, and the two commits in it.
 pub record Row : Type 0 where
   pub n : ℕ
   pub window : ℕ
   pub limit : ℕ
-  pub moves : List Move
+  pub operations : List Operation
   pub first : Commitment
   pub second : Commitment
 
 unfoldable pub happens : List Event → Commitment → Bool
 happens h c = some (commits (c .round) (c .value)) h && some (decides (c .process) (c .value)) h
 
--- The past of the row's machine: its opening, within the server's limits, and moves at its window.
+-- The past of the row's machine: its opening, within the server's limits, and operations at its window.
 abbrev pub pastOf : Row → List Event
-pastOf r = played (r .window) (openingAt (limitsOf Server) (r .window) (r .n) (r .limit) .session) [] (r .moves)
+pastOf r = played (sessions (r .window)) (openingAt (limitsOf Server) (r .window) (r .n) (r .limit) .session) [] (r .operations) .1
 
 -- Both commits happen, and their values differ.
 unfoldable pub differ : List Event → (first second : Commitment) → Bool
 differ h a b = happens h a && happens h b && not (eqb (a .value) (b .value))
 
--- Whether the move is of one of the first n processes.
-abbrev pub within : (n : ℕ) → Move → Bool
-within n m = ltb (processOf (operationOf m)) n
+-- Whether the operation is of one of the first n processes.
+abbrev pub within : (n : ℕ) → Operation → Bool
+within n o = ltb (processOf o) n
 
--- The opening is accepted, the moves are of its processes, and in its past two commits differ.
+-- The opening is accepted, the operations are of its processes, and in its past two commits differ.
 unfoldable pub breaks : Row → Bool
 breaks r =
-    eqb (openingAt (limitsOf Server) (r .window) (r .n) (r .limit) .code) 0 && every (within (r .n)) (r .moves) && differ (pastOf r) (r .first) (r .second)
+    eqb (openingAt (limitsOf Server) (r .window) (r .n) (r .limit) .code) 0 && every (within (r .n)) (r .operations) && differ (pastOf r) (r .first) (r .second)
 
 -- ---- what the tests say
 
@@ -95,7 +97,7 @@ happens-decided h c t = some-happened _ _ (decides-only (c .process) (c .value))
 -- What a row that breaks shows.
 pub record Broken (r : Row) : Type 0 where
   pub opens : openingAt (limitsOf Server) (r .window) (r .n) (r .limit) .code ≡ 0
-  pub inside : every (within (r .n)) (r .moves) ≡ true
+  pub inside : every (within (r .n)) (r .operations) ≡ true
   pub one : DecidedOn (r .first .process) (r .first .value) (pastOf r)
   pub other : DecidedOn (r .second .process) (r .second .value) (pastOf r)
   pub unlike : r .first .value ≡ r .second .value → ⊥
@@ -104,7 +106,7 @@ pub breaks-shows : (r : Row) → breaks r ≡ true → Broken r
 unfolding breaks differ
 breaks-shows r t =
     let a = eqb (openingAt (limitsOf Server) (r .window) (r .n) (r .limit) .code) 0 in
-    let b = every (within (r .n)) (r .moves) in
+    let b = every (within (r .n)) (r .operations) in
     let c = happens (pastOf r) (r .first) in
     let d = happens (pastOf r) (r .second) in
     let e = not (eqb (r .first .value) (r .second .value)) in

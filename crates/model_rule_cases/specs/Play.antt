@@ -1,95 +1,73 @@
--- Lists of calls that are played on the machine at any window, oldest first: proposals, steps that are told to lead, looks.
+-- Lists of operations that are played on a machine, oldest first, and the calls that they make: on any machine; and on that of sessions, against the rule.
 use Prim.Native.Nat.{ℕ}
 use mathlib.Core.Path.{_≡_, refl, sym, _∙_, ap, subst}
-use mathlib.Core.Bool.{true, false}
+use mathlib.Core.Bool.{true}
 use mathlib.Core.List.{List, [], _∷_, _++_}
 use Rattle.model.specs.declared.Limits.{Limits}
 use Rattle.model.specs.declared.Session.{Session}
 use Rattle.model.specs.declared.Operation.{Operation}
-use Rattle.model.specs.declared.Operation.the-variants.{Propose, Step, Learn}
+use Rattle.model.specs.declared.Operation.the-variants.{Step}
 use Rattle.model.specs.Board.{noCounts}
-use Rattle.model.specs.Machine.{perform, openingAt}
-use Rattle.model.specs.Public.{withoutCounts, proposeAt, stepAt, learnAt}
-use Rattle.model_rule.specs.Event.{Event}
-use Rattle.model_rule.specs.Calls.{Input, machine, events, past, Call, RunWith, none, call, inputs}
+use Rattle.model.specs.Machine.{openingAt}
+use Rattle.model_rule.specs.System.{System, Call, inputs, Run, none, call, machine, events, past}
+use Rattle.model_rule.specs.Calls.{Input, sessions, RunWith}
 use Rattle.model_rule.specs.Rule.{Rule, AgreementWithin}
-
--- One call of such a list. (01: a proposal; a work turn with hint yes; a look.)
-pub data Move : Type 0 where
-  proposes : (p v : ℕ) → Move
-  works : (p : ℕ) → Move
-  looks : (p : ℕ) → Move
-
-abbrev pub operationOf : Move → Operation
-operationOf (proposes p v) = Propose p v
-operationOf (works p) = Step p true
-operationOf (looks p) = Learn p
-
--- What the machine is fed. Each call brings an empty tally: the counts do not bear on what happens.
-abbrev pub inputOf : Move → Input
-inputOf m = record { operation = operationOf m; counts = noCounts }
 
 -- ---- the machine
 
--- The past after the moves, from session s with the past h, in one pass.
-unfoldable pub played : (W : ℕ) → Session → List Event → List Move → List Event
-played W s h [] = h
-played W s h (m ∷ ms) = played W (perform W s noCounts (operationOf m) .session) (events W s (inputOf m) ++ h) ms
+-- What it is fed. Each call brings an empty tally: the counts do not bear on what happens.
+abbrev pub uncounted : {O : Type 0} → O → Input O
+uncounted o = record { operation = o; counts = noCounts }
 
--- What the machine is fed by the moves, newest first, on top of what it was fed before.
-abbrev pub fedBy : List Move → List Input → List Input
+-- What it is fed by the operations, newest first, on top of what it was fed before.
+abbrev pub fedBy : {O : Type 0} → List O → List (Input O) → List (Input O)
 fedBy [] fs = fs
-fedBy (m ∷ ms) fs = fedBy ms (inputOf m ∷ fs)
+fedBy (o ∷ os) fs = fedBy os (uncounted o ∷ fs)
 
--- That is the machine's past.
-pub played-past : (W : ℕ) (start : Session) (ms : List Move) (fs : List Input) →
-    played W (machine W start fs) (past W start fs) ms ≡ past W start (fedBy ms fs)
-unfolding played
-played-past W start [] fs = refl
-played-past W start (m ∷ ms) fs = played-past W start ms (inputOf m ∷ fs)
+module _ {State O Answer Event : Type 0} (M : System State (Input O) Answer Event) where
+  -- The state and the past after the operations, from a state and its past, in one pass.
+  unfoldable pub played : State → List Event → List O → State × List Event
+  played s h [] = (s, h)
+  played s h (o ∷ os) = played (M .state (M .perform s (uncounted o))) (events M s (uncounted o) ++ h) os
+
+  -- Those are the machine's.
+  pub played-machine : (start : State) (os : List O) (fs : List (Input O)) →
+      played (machine M start fs) (past M start fs) os ≡ (machine M start (fedBy os fs), past M start (fedBy os fs))
+  unfolding played
+  played-machine start [] fs = refl
+  played-machine start (o ∷ os) fs = played-machine start os (uncounted o ∷ fs)
 
 -- ---- the calls
 
--- Calls by which a machine is fed fs, and the session that they come to. (Polls' calls too: `theory_window`.)
-pub record Called {C F : Type 0} (Run : List C → Session → Type 0) (inputs : List C → List F) (fs : List F) : Type 0 where
-  pub calls : List C
-  pub session : Session
-  pub run : Run calls session
+-- Calls by which a machine is fed fs, and the state that they come to.
+pub record Called {State Input Answer : Type 0} (Runs : List (Call Input Answer) → State → Type 0) (fs : List Input) : Type 0 where
+  pub calls : List (Call Input Answer)
+  pub left : State
+  pub run : Runs calls left
   pub same : inputs calls ≡ fs
 
--- One call more.
-pub called-more : {C F : Type 0} {Run : List C → Session → Type 0} {inputs : List C → List F} {fs : List F} (r : Called Run inputs fs)
-    (x : C) (s : Session) (f : F) → Run (x ∷ r .calls) s → inputs (x ∷ r .calls) ≡ f ∷ inputs (r .calls) → Called Run inputs (f ∷ fs)
-called-more r x s f run more = record { calls = x ∷ r .calls; session = s; run = run; same = more ∙ ap (λ gs. f ∷ gs) (r .same) }
+-- Each answered as promised.
+abbrev pub called : {State Input Answer : Type 0} {state : Answer → State} {promised : State → Input → Answer} {start : State} (fs : List Input) →
+    Called (Run state promised start) fs
+called {start = start} [] = record { calls = []; left = start; run = none; same = refl }
+called {Input = Input} {Answer = Answer} {state = state} {promised = promised} {start = start} (f ∷ fs) =
+    let c = called {state = state} {promised = promised} {start = start} fs in
+    let x : Call Input Answer = record { input = f; answer = promised (c .left) f } in
+    record { calls = x ∷ c .calls; left = state (x .answer); run = call (c .run) x refl; same = ap (λ gs. f ∷ gs) (c .same) }
 
--- Each answered as promised, where w n is the window of n processes.
-module _ {w : ℕ → ℕ} {start : Session} where
-  then-called : {fs : List Input} → Called (RunWith w start) inputs fs → (m : Move) → Called (RunWith w start) inputs (inputOf m ∷ fs)
-  then-called r (proposes p v) =
-      let s = r .session in
-      let x : Call = record { input = inputOf (proposes p v); answer = proposeAt (w (s .n)) s p v; after = noCounts } in
-      called-more r x (x .answer .session) (x .input) (call (r .run) x (refl, refl)) refl
-  then-called r (works p) =
-      let s = r .session in
-      let a = stepAt (w (s .n)) s p true noCounts in
-      let x : Call = record { input = inputOf (works p); answer = withoutCounts a; after = a .counts } in
-      called-more r x (x .answer .session) (x .input) (call (r .run) x refl) refl
-  then-called r (looks p) =
-      let s = r .session in
-      let a = learnAt (w (s .n)) s p noCounts in
-      let x : Call = record { input = inputOf (looks p); answer = withoutCounts a; after = a .counts } in
-      called-more r x (x .answer .session) (x .input) (call (r .run) x refl) refl
+-- ---- of sessions
 
-  called : {fs : List Input} (ms : List Move) → Called (RunWith w start) inputs fs → Called (RunWith w start) inputs (fedBy ms fs)
-  called [] r = r
-  called (m ∷ ms) r = called ms (then-called r m)
+-- A step that is told to lead. (01: a work turn with hint yes.)
+abbrev pub works : (p : ℕ) → Operation
+works p = Step p true
 
--- A list of moves from an accepted opening, within any limits, whose past no rule allows: the agreement rule is false within them.
-pub breaks-rule : (most : Limits) (w : ℕ → ℕ) (n L : ℕ) (ms : List Move) →
+-- A list of operations from an accepted opening, within any limits, whose past no rule allows: the agreement rule is false within them.
+pub breaks-rule : (most : Limits) (w : ℕ → ℕ) (n L : ℕ) (os : List Operation) →
     let start = openingAt most (w n) n L in
-    start .code ≡ 0 → ((s : Session) → Rule s (played (w n) (start .session) [] ms) → ⊥) → AgreementWithin most w n L → ⊥
-breaks-rule most w n L ms ok never rule =
+    start .code ≡ 0 → ((s : Session) → Rule s (played (sessions (w n)) (start .session) [] os .1) → ⊥) → AgreementWithin most w n L → ⊥
+breaks-rule most w n L os ok never rule =
+    let M = sessions (w n) in
     let start = openingAt most (w n) n L .session in
-    let c = called {w = w} {start = start} ms (record { calls = []; session = start; run = none; same = refl }) in
-    let same = ap (past (w n) start) (c .same) ∙ sym (played-past (w n) start ms []) in
-    never (c .session) (subst (Rule (c .session)) same (rule ok (c .calls) (c .session) (c .run) .2))
+    let c : Called (RunWith w start) (fedBy os []) = called (fedBy os []) in
+    let same = ap (past M start) (c .same) ∙ sym (ap (λ x. x .1) (played-machine M start os [])) in
+    never (c .left) (subst (Rule (c .left)) same (rule ok (c .calls) (c .left) (c .run) .2))

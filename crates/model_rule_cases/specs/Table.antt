@@ -3,54 +3,56 @@ use Prim.Native.Nat.{ℕ}
 use mathlib.Core.Path.{_≡_, refl}
 use mathlib.Core.Bool.{true}
 use mathlib.Core.List.{List, [], _∷_, _++_, map}
+use lib.ListN.{replicate}
+use Rattle.model.specs.declared.Operation.{Operation}
+use Rattle.model.specs.declared.Operation.the-variants.{Propose, Learn}
 use Rattle.model.specs.Board.{opened}
 use Rattle.model.specs.Step.{waitingRule, accessAt, access, found, goOn, nextAt, next, learnt, stored, turn, counted}
 use Rattle.model.specs.Refusal.{full}
 use Rattle.model.specs.Machine.{openingAt, accessOf, becomes, after, countsAfter, answered, perform}
 use Rattle.model.specs.Sound.{every}
-use Rattle.model_cases.specs.Play.{repeat}
-use Rattle.model_rule_cases.specs.Play.{Move, proposes, works, looks, played}
+use Rattle.model_rule_cases.specs.Play.{works, played}
 use Rattle.model_rule_cases.specs.Breaks.{Row, happens, differ, breaks}
 
 -- One step of each process, in that order.
-abbrev turns : List ℕ → List Move
+abbrev turns : List ℕ → List Operation
 turns ps = map works ps
 
-two : List Move
+two : List Operation
 two =
-    proposes 0 1
-    ∷ proposes 1 2
+    Propose 0 1
+    ∷ Propose 1 2
     ∷ turns (0 ∷ 1 ∷ 0 ∷ 0 ∷ 0 ∷ 1 ∷ 1 ∷ 1 ∷ 1 ∷ 1 ∷ 1 ∷ 1 ∷ 1 ∷ 0 ∷ 0 ∷ 0 ∷ 1 ∷ 0 ∷ 0 ∷ 0 ∷ 0 ∷ 0 ∷ 0 ∷ 0 ∷ 0 ∷ 0 ∷ 0 ∷ 0 ∷ 1 ∷ 0 ∷ 1 ∷ [])
-    ++ looks 1
+    ++ Learn 1
     ∷ works 0
-    ∷ looks 0
+    ∷ Learn 0
     ∷ []
 
-three : List Move
+three : List Operation
 three =
-    proposes 0 1
-    ∷ proposes 1 2
-    ∷ proposes 2 1
+    Propose 0 1
+    ∷ Propose 1 2
+    ∷ Propose 2 1
     ∷ turns (0 ∷ 2 ∷ 1 ∷ 0 ∷ 0 ∷ 0 ∷ 1 ∷ 1 ∷ 1 ∷ 1 ∷ 1 ∷ 0 ∷ 0 ∷ 1 ∷ 1 ∷ 2 ∷ 0 ∷ 0 ∷ 0 ∷ 0 ∷ 0 ∷ 0 ∷ 0 ∷ 0 ∷ 1 ∷ 1 ∷ 1 ∷ 0 ∷ 1 ∷ 1 ∷ 0 ∷ 0 ∷ [])
-    ++ repeat 25 (works 1)
+    ++ replicate 25 (works 1)
     ++ turns (0 ∷ 1 ∷ 0 ∷ [])
-    ++ looks 0
+    ++ Learn 0
     ∷ works 1
-    ∷ looks 1
+    ∷ Learn 1
     ∷ []
 
-five : List Move
+five : List Operation
 five =
-    proposes 0 1
-    ∷ proposes 1 2
-    ∷ proposes 2 1
-    ∷ proposes 3 2
-    ∷ proposes 4 1
+    Propose 0 1
+    ∷ Propose 1 2
+    ∷ Propose 2 1
+    ∷ Propose 3 2
+    ∷ Propose 4 1
     ∷ turns (0 ∷ 2 ∷ 4 ∷ 1 ∷ 3 ∷ 0 ∷ 1 ∷ 1 ∷ 1 ∷ 2 ∷ 0 ∷ 0 ∷ 2 ∷ 2 ∷ 0 ∷ 0 ∷ 1 ∷ 1 ∷ 0 ∷ 0 ∷ 3 ∷ 1 ∷ 1 ∷ 1 ∷ 1 ∷ 0 ∷ 0 ∷ 1 ∷ 2 ∷ 0 ∷ 1 ∷ 1 ∷ 4 ∷ [])
-    ++ repeat 16 (works 0)
-    ++ looks 0
-    ∷ repeat 53 (works 1)
-    ++ looks 1
+    ++ replicate 16 (works 0)
+    ++ Learn 0
+    ∷ replicate 53 (works 1)
+    ++ Learn 1
     ∷ []
 
 pub table : List Row
@@ -59,7 +61,7 @@ table =
       n = 2;
       window = 2;
       limit = 3;
-      moves = two;
+      operations = two;
       first = record { process = 1; round = 2; value = 2 };
       second = record { process = 0; round = 3; value = 1 };
     }
@@ -67,7 +69,7 @@ table =
       n = 3;
       window = 3;
       limit = 5;
-      moves = three;
+      operations = three;
       first = record { process = 0; round = 3; value = 1 };
       second = record { process = 1; round = 5; value = 2 };
     }
@@ -75,7 +77,7 @@ table =
       n = 5;
       window = 4;
       limit = 7;
-      moves = five;
+      operations = five;
       first = record { process = 0; round = 4; value = 1 };
       second = record { process = 1; round = 7; value = 2 };
     }

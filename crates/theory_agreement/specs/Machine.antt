@@ -1,5 +1,5 @@
 -- What the machine at window W comes to, and its rule where n is below the threshold of W.
-use Rattle.base.specs.Prelude.{ℕ, suc, zero, _*_, _≤_, _<_, arith, _≡_, refl, _∙_, true, false, List, [], _∷_, _++_}
+use Rattle.base.specs.Prelude.{ℕ, suc, zero, _*_, _≤_, _<_, _≡_, refl, _∙_, true, false, List, [], _++_}
 use Rattle.model_laws.specs.Types.{Session, Counts, Operation}
 use Rattle.model.specs.Board.{processAt, opened, maxProcesses, maxRounds}
 use Rattle.model.specs.Refusal.{refusal, tests, stepped}
@@ -9,13 +9,15 @@ use Rattle.model_laws.specs.Accepted.{accepted}
 use Rattle.model_laws.specs.Sounds.{sound-process}
 use Rattle.model_laws.specs.Operations.{after-sound, after-same, opened-sound}
 use Rattle.model_rule.specs.Event.{Event, eventsOf}
-use Rattle.model_rule.specs.Calls.{Input, machine, ifAccepted, events, past}
+use Rattle.model_rule.specs.System.{machine, ifAccepted, events, past}
+use Rattle.model_rule.specs.Calls.{Input, sessions}
 use Rattle.model_rule.specs.Rule.{Rule}
 use Rattle.model_rule.specs.Safe.{threshold}
 use Rattle.theory_count.specs.Grid.{wide-below}
 use Rattle.theory_board.specs.Invariant.{Invariant}
 use Rattle.theory_board.specs.Operations.{operation-invariant}
 use Rattle.theory_board.specs.Opening.{opened-invariant}
+use Rattle.theory_board.specs.Lists.{machine-kept}
 use Rattle.theory_agreement.specs.Conclusions.{invariant-rule}
 
 -- What is known of a session that the machine came to: it is sound, has its n and limit still, and keeps the invariant.
@@ -27,8 +29,8 @@ pub record Reached (W n L : ℕ) (s : Session) (h : List Event) : Type 0 where
 
 module _ {W n L : ℕ} (wide : 1 ≤ W) where
   -- One operation, accepted or refused.
-  pub operation-reached : {s : Session} {h : List Event} (f : Input) → Reached W n L s h →
-      Reached W n L (perform W s (f .counts) (f .operation) .session) (events W s f ++ h)
+  pub operation-reached : {s : Session} {h : List Event} (f : Input Operation) → Reached W n L s h →
+      Reached W n L (perform W s (f .counts) (f .operation) .session) (events (sessions W) s f ++ h)
   unfolding perform answered
   operation-reached {s} {h} f i = go (refusal (tests s (f .counts) (f .operation))) refl
     where
@@ -53,10 +55,9 @@ module _ {W n L : ℕ} (wide : 1 ≤ W) where
       go (suc k) e = i
 
   -- A list of operations.
-  pub machine-reached : {start : Session} → Reached W n L start [] → (fs : List Input) →
-      Reached W n L (machine W start fs) (past W start fs)
-  machine-reached i [] = i
-  machine-reached i (f ∷ fs) = operation-reached f (machine-reached i fs)
+  pub machine-reached : {start : Session} → Reached W n L start [] → (fs : List (Input Operation)) →
+      Reached W n L (machine (sessions W) start fs) (past (sessions W) start fs)
+  machine-reached = machine-kept (sessions W) (Reached W n L) (λ s h f. operation-reached f)
 
 -- A session just opened.
 pub opened-reached : (W n L : ℕ) → 1 ≤ n → n ≤ maxProcesses → W ≤ L → L ≤ maxRounds → Reached W n L (opened n L) []

@@ -16,3 +16,4 @@ pub mod Invariant
 pub mod Highest
 pub mod Operations
 pub mod Opening
+pub mod Lists

@@ -1,26 +1,27 @@
 -- What is known of a poll that the machine came to, at any window W, and of the answers that its records hold.
-use Rattle.base.specs.Prelude.{ℕ, suc, zero, _*_, _≤_, _<_, arith, _≡_, refl, sym, _∙_, subst, List, [], _∷_, _++_, ⊎-elim, Bool, true, false, eqb-true, not-false}
-use Rattle.base.specs.Bools.{and-right}
+use Rattle.base.specs.Prelude.{ℕ, _≤_, _<_, arith, _≡_, refl, _∙_, List, [], _++_, ⊎-elim, true, false, eqb-true}
 use Rattle.model_laws.specs.Types.{Phase, HasCommitted, HasAdopted, Session, Counts, Process, Propose, Crash}
 use Rattle.model.specs.Board.{processAt, opened, maxProcesses, maxRounds}
-use Rattle.model.specs.Refusal.{status, isOutside, isGone}
+use Rattle.model.specs.Refusal.{status, isOutside}
 use Rattle.model.specs.Sound.{soundPhaseAs, soundAtAs}
 use Rattle.model_laws.specs.Sounds.{sound-process}
-use Rattle.model_rule.specs.Event.{Event, proposal, commit, Happened, Proposed, Written, Committed}
-use Rattle.model_rule.specs.Calls.{ifAccepted}
+use Rattle.model_rule.specs.Event.{Event, Proposed, Written, Committed}
+use Rattle.model_rule.specs.System.{machine, ifAccepted, events, past}
+use Rattle.model_rule.specs.Calls.{Input}
 use Rattle.model_rule.specs.Safe.{threshold}
 use Rattle.model_poll.specs.declared.Answer.the-variants.{Commits, Adopts}
-use Rattle.model_poll.specs.Turn.{answerAt, answerOf, Carries}
+use Rattle.model_poll.specs.Turn.{answerOf, Carries}
 use Rattle.model_poll.specs.Machine.{PollOperation, proposes, turns, crashes, pollPerform}
-use Rattle.model_rule.specs.PollCalls.{PollInput, pollMachine, pollOperationEvents, pollEvents, pollPast}
+use Rattle.model_rule.specs.PollCalls.{pollEventsOf, polls}
 use Rattle.model_poll_laws.specs.Opening.{opened-poll-sound}
 use Rattle.model_poll_laws.specs.Sounds.{phase-rule, poll-process, turn-after-sound, proposed-sound, crashed-sound}
 use Rattle.model_poll_laws.specs.Performs.{PollAccepted, pollAfter, perform-cases, poll-after-size, accepted-here, answer-cases}
 use Rattle.theory_board.specs.Lawful.{commit-lawful}
-use Rattle.theory_board.specs.Place.{Placed, PlacedAt}
+use Rattle.theory_board.specs.Place.{Placed}
 use Rattle.theory_board.specs.Invariant.{Invariant}
 use Rattle.theory_board.specs.Operations.{operation-invariant}
 use Rattle.theory_board.specs.Opening.{opened-invariant}
+use Rattle.theory_board.specs.Lists.{machine-kept}
 use Rattle.theory_count.specs.Agreed.{agreed}
 use Rattle.theory_poll.specs.Turn.{turn-kept}
 
@@ -32,7 +33,7 @@ pub record PollReached (W n : ℕ) (s : Session) (h : List Event) : Type 0 where
 
 -- An accepted operation.
 accepted-reached : {W n : ℕ} {s : Session} {h : List Event} → 1 ≤ W → (c : Counts) (o : PollOperation) → PollReached W n s h → PollAccepted s c o →
-    PollReached W n (pollAfter W s o) (pollOperationEvents s o ++ h)
+    PollReached W n (pollAfter W s o) (pollEventsOf s o ++ h)
 accepted-reached {W} {n} {s} wide c (proposes p v) i a =
     record {
       sound = proposed-sound W s (i .sound) wide c p v a;
@@ -52,17 +53,18 @@ accepted-reached {W} {n} {s} wide c (crashes p) i a =
       invariant = operation-invariant (i .invariant) c (Crash p) (poll-process W s (i .sound) p (accepted-here s c (crashes p) a)) a;
     }
 
--- A list of operations, accepted or refused.
-pub poll-reached : {W n : ℕ} {start : Session} → 1 ≤ W → PollReached W n start [] → (fs : List PollInput) →
-    PollReached W n (pollMachine W start fs) (pollPast W start fs)
-poll-reached wide i [] = i
-poll-reached {W} {n} {start} wide i (f ∷ fs) =
-    let m = pollMachine W start fs in
-    let h = pollPast W start fs in
-    let r = poll-reached wide i fs in
-    perform-cases (λ k t. PollReached W n t (ifAccepted k (pollOperationEvents m (f .operation)) ++ h)) W m (f .counts) (f .operation)
-    (accepted-reached wide (f .counts) (f .operation) r)
-    (λ k. r)
+-- One operation, accepted or refused.
+pub poll-operation-reached : {W n : ℕ} {s : Session} {h : List Event} → 1 ≤ W → (f : Input PollOperation) → PollReached W n s h →
+    PollReached W n (pollPerform W s (f .counts) (f .operation) .session) (events (polls W) s f ++ h)
+poll-operation-reached {W} {n} {s} {h} wide f i =
+    perform-cases (λ k t. PollReached W n t (ifAccepted k (pollEventsOf s (f .operation)) ++ h)) W s (f .counts) (f .operation)
+    (accepted-reached wide (f .counts) (f .operation) i)
+    (λ k. i)
+
+-- A list of operations.
+pub poll-reached : {W n : ℕ} {start : Session} → 1 ≤ W → PollReached W n start [] → (fs : List (Input PollOperation)) →
+    PollReached W n (machine (polls W) start fs) (past (polls W) start fs)
+poll-reached {W} {n} wide = machine-kept (polls W) (PollReached W n) (λ s h f. poll-operation-reached wide f)
 
 -- A poll just opened.
 pub opened-poll-reached : (W n : ℕ) → 1 ≤ n → n ≤ maxProcesses → W ≤ maxRounds → PollReached W n (opened n W) []

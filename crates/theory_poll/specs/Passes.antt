@@ -1,19 +1,19 @@
 -- One pass: the turns that each process took, by where it stands.
-use Rattle.base.specs.Prelude.{ℕ, suc, zero, _≤_, _<_, arith, _≡_, refl, sym, _∙_, ap, subst, ℕ-discrete, Bool, true, false, cond, _&&_, List, [], _∷_, not-false, eqb, eq-eqb, ne-eqb}
-use Rattle.model_laws.specs.Types.{Session, Counts, Process, Phase}
+use Rattle.base.specs.Prelude.{ℕ, suc, _≤_, _<_, arith, _≡_, refl, sym, ap, ℕ-discrete, true, false, cond, _&&_, List, [], _∷_, not-false, eqb, eq-eqb, ne-eqb}
+use Rattle.model_laws.specs.Types.{Session, Counts, Process}
 use Rattle.model.specs.declared.Status.the-variants.{Active}
 use Rattle.model.specs.Board.{processAt}
-use Rattle.model.specs.Refusal.{status, isOutside, isGone}
-use Rattle.model.specs.Sound.{soundAtAs, soundProcessAs}
-use Rattle.model_laws.specs.Phases.{process-facts, outside-start, outside-here}
+use Rattle.model.specs.Refusal.{status, isOutside}
+use Rattle.model.specs.Sound.{soundProcessAs}
+use Rattle.model_laws.specs.Phases.{process-facts}
 use Rattle.model_laws.specs.Sounds.{sound-process}
 use Rattle.model_poll.specs.declared.PollStepped.{PollStepped}
-use Rattle.model_poll.specs.Turn.{pollAccess, pollNext, passTurns}
+use Rattle.model_poll.specs.Turn.{passTurns}
 use Rattle.model_poll.specs.Machine.{PollOperation, proposes, turns, crashes, pollPerform}
-use Rattle.model_rule.specs.PollCalls.{pollMachine, PollCall, pollInputs, isTurnOf, turnsOf}
-use Rattle.model_rule.specs.PollRule.{EachAsThePollMachine}
+use Rattle.model_rule.specs.System.{inputs, machine, EachAsTheMachine}
+use Rattle.model_rule.specs.PollCalls.{polls, PollCall, isTurnOf, turnsOf}
 use Rattle.model_poll_laws.specs.Sounds.{as-session, round-rule, poll-limit}
-use Rattle.model_poll_laws.specs.Performs.{PollAccepted, pollProcessOf, pollAfter, pollBecomes, perform-cases, others-stay, own-becomes, accepted-below, accepted-here}
+use Rattle.model_poll_laws.specs.Performs.{PollAccepted, pollProcessOf, pollBecomes, perform-cases, others-stay, own-becomes, accepted-below}
 use Rattle.model_poll_laws.specs.Pass.{Taken, taken-none, taken-low, taken-turn}
 use Rattle.theory_poll.specs.Machine.{PollReached, poll-reached}
 use Rattle.theory_poll.specs.Calls.{Fresh}
@@ -65,9 +65,9 @@ module _ {W n : ℕ} {m : Session} {h : List Event} (i : PollReached W n m h) wh
       (λ j. rw (ne-eqb (suc j) 0 (λ e. omega arith)) k)
 
 -- A list of calls.
-pub calls-taken : {W n : ℕ} {start : Session} → 1 ≤ W → PollReached W n start [] → Fresh start → (cs : List PollCall) → EachAsThePollMachine W start cs → (p : ℕ) →
-    TakenBy W (processAt (pollMachine W start (pollInputs cs)) p) (turnsOf p cs)
+pub calls-taken : {W n : ℕ} {start : Session} → 1 ≤ W → PollReached W n start [] → Fresh start → (cs : List PollCall) → EachAsTheMachine (polls W) start cs → (p : ℕ) →
+    TakenBy W (processAt (machine (polls W) start (inputs cs)) p) (turnsOf p cs)
 calls-taken wide i fresh [] each p = rw (fresh p) refl
 calls-taken {W} {n} {start} wide i fresh (c ∷ cs) each p =
     rw (ap (λ (x : PollStepped). x .code) (each .0))
-    (operation-taken (poll-reached wide i (pollInputs cs)) (c .input .counts) (c .input .operation) p (turnsOf p cs) (calls-taken wide i fresh cs (each .2) p))
+    (operation-taken (poll-reached wide i (inputs cs)) (c .input .counts) (c .input .operation) p (turnsOf p cs) (calls-taken wide i fresh cs (each .2) p))

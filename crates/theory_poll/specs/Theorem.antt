@@ -1,26 +1,25 @@
 -- The rule of polls holds at every window that is wide enough; the rule in service is an instance.
-use Rattle.base.specs.Prelude.{ℕ, _+_, _*_, _≤_, _<_, arith, _≡_, refl, sym, _∙_, ap, subst, List, [], ⊎-elim}
-use Rattle.model_laws.specs.Types.{Session, HasCommitted, HasAdopted}
+use Rattle.base.specs.Prelude.{ℕ, _*_, _≤_, _<_, arith, _≡_, refl, sym, _∙_, subst, List, [], _∷_}
+use Rattle.model_laws.specs.Types.{Session}
 use Rattle.model.specs.Window.{window}
-use Rattle.model.specs.Board.{limitsOf, processAt, idle, opened, maxProcesses, maxRounds}
+use Rattle.model.specs.Board.{limitsOf, processAt, idle, opened, maxProcesses}
 use Rattle.model_laws.specs.Windows.{window-square}
 use Rattle.model_laws.specs.Callers.{caller-limits}
-use Rattle.model_rule.specs.Event.{Proposed}
+use Rattle.model_rule.specs.Event.{Past}
 use Rattle.model_rule.specs.Safe.{threshold}
 use Rattle.model_rule.specs.PollSafe.{PollBelowThreshold}
 use Rattle.theory_count.specs.Grid.{wide-below, below-wide}
 use Rattle.model_poll.specs.declared.Answer.{Answer}
-use Rattle.model_poll.specs.declared.Answer.the-variants.{Commits}
 use Rattle.model_poll.specs.Turn.{answerOf, Carries}
 use Rattle.model_poll.specs.Machine.{turns}
-use Rattle.model_rule.specs.PollCalls.{pollMachine, pollPast, PollCall, pollInputs}
-use Rattle.model_rule.specs.PollRule.{EachAsThePollMachine, Stood, Gave, PollRule, PollClaimWith, EveryPollWindow, PollClaim, CallerPollClaim}
+use Rattle.model_rule.specs.System.{inputs, machine, past, EachAsTheMachine}
+use Rattle.model_rule.specs.PollCalls.{polls, PollCall}
+use Rattle.model_rule.specs.PollRule.{Gave, PollRule, PollClaimWith, EveryPollWindow, PollClaim, CallerPollClaim}
 use Rattle.model_poll_laws.specs.Opening.{poll-opened}
-use Rattle.model_poll_laws.specs.Performs.{answer-cases}
 use Rattle.theory_board.specs.Opening.{same-everywhere}
-use Rattle.theory_poll.specs.Machine.{PollReached, poll-reached, opened-poll-reached, answer-known, answers-agree}
-use Rattle.theory_poll.specs.Unanimous.{AllCalm, machine-calm, opened-calm, Only, calm-answer}
-use Rattle.theory_poll.specs.Calls.{Fresh, followed, held, answers-proposed, shown-given}
+use Rattle.theory_poll.specs.Machine.{PollReached, poll-reached, opened-poll-reached, answers-agree}
+use Rattle.theory_poll.specs.Unanimous.{AllCalm, machine-calm, opened-calm, calm-answer}
+use Rattle.theory_poll.specs.Calls.{Fresh, polls-followed, held, answers-proposed, shown-given}
 use Rattle.theory_poll.specs.Passes.{taken-pass, calls-taken}
 
 turns-of : {p q : ℕ} → turns p ≡ turns q → p ≡ q
@@ -29,18 +28,18 @@ turns-of e = cc
 -- ---- of the machine, at any window W with 2 ≤ W and a threshold above n
 
 module _ {W n : ℕ} {start : Session} (wide : 2 ≤ W) (few : n < threshold W) (i : PollReached W n start []) (fresh : Fresh start) (calm : AllCalm start []) (cs : List PollCall)
-    (each : EachAsThePollMachine W start cs) where
+    (each : EachAsTheMachine (polls W) start cs) where
   abbrev m : Session
-  m = pollMachine W start (pollInputs cs)
+  m = machine (polls W) start (inputs cs)
 
   some : 1 ≤ W
   some = omega arith
 
-  here : PollReached W n m (pollPast W start (pollInputs cs))
-  here = poll-reached some i (pollInputs cs)
+  here : PollReached W n m (past (polls W) start (inputs cs))
+  here = poll-reached some i (inputs cs)
 
   -- The process of a call that gave an answer, with that answer.
-  still : {c : PollCall} {older : List PollCall} (v : ℕ) → Stood c older cs → Carries (c .answer .answer) v →
+  still : {c : PollCall} {older : List PollCall} (v : ℕ) → Past (c ∷ older) cs → Carries (c .answer .answer) v →
       (p : ℕ) × (c .input .operation ≡ turns p) × (answerOf (processAt m p) ≡ c .answer .answer)
   still v stood has = held W start v each stood has
 
@@ -61,7 +60,7 @@ module _ {W n : ℕ} {start : Session} (wide : 2 ≤ W) (few : n < threshold W) 
         unanimity =
             λ u v only stood has.
             let a = still u stood has in
-            sym (a .2) ∙ calm-answer here v only (machine-calm some i calm v (pollInputs cs) only) (a .0) u (subst (λ (x : Answer). Carries x u) (sym (a .2)) has);
+            sym (a .2) ∙ calm-answer here v only (machine-calm some i calm v (inputs cs) only) (a .0) u (subst (λ (x : Answer). Carries x u) (sym (a .2)) has);
         kept = λ v gave has. kept-answer v gave has;
         shown = λ p v has. shown-given some i fresh cs each p v has;
         onePass = λ p. taken-pass here p _ (calls-taken some i fresh cs each p) .0;
@@ -82,7 +81,7 @@ poll-below-threshold w n few most up ok cs s run =
     let least : 2 ≤ w n = below-wide (w n) n (o .0) few in
     let wide : 1 ≤ w n = omega arith in
     let reached = opened-poll-reached (w n) n (o .0) (o .1) (o .2) in
-    let f = followed wide reached (rw (o .3) at run) in
+    let f = polls-followed w wide reached (rw (o .3) at run) in
     rw (o .3)
     (f .0, f .1, rw (f .1) (calls-rule least few reached (opened-fresh (w n) n) (opened-calm (w n) n) cs (f .0)))
 

@@ -1,10 +1,10 @@
 -- A turn of a poll keeps the board's invariant: by the facts of a session's turn, at the two places that differ.
-use Rattle.base.specs.Prelude.{ℕ, _+_, _≤_, arith, _≡_, refl, Bool, true, false, true≢false, sym, _∙_, List, _∷_, _++_, eqb, ltb}
+use Rattle.base.specs.Prelude.{ℕ, _+_, _≤_, arith, _≡_, refl, true, List, _++_, eqb, ltb}
 use Rattle.base.specs.Bools.{cond-cases}
-use Rattle.model_laws.specs.Types.{Phase, Idle, Waiting, Write, Scan, Adopt, Compare, Flag, CheckMark, CheckValue, Commit, Exhausted, Crashed, Decided, HasCommitted, HasAdopted, Process, Access, Nothing, ReadValue, WriteValue, ReadMark, SetMark, ReadDecision, WriteDecision, Session, Counts, Step}
+use Rattle.model_laws.specs.Types.{Phase, Idle, Waiting, Write, Scan, Adopt, Compare, Flag, CheckMark, CheckValue, Commit, Exhausted, Crashed, Decided, HasCommitted, HasAdopted, Access, Nothing, ReadValue, WriteValue, ReadMark, SetMark, ReadDecision, WriteDecision, Session, Counts, Step}
 use Rattle.model.specs.Board.{processAt}
 use Rattle.model.specs.Step.{access, next, nextAt, found, stored, process}
-use Rattle.model.specs.Refusal.{status, isOutside, isGone}
+use Rattle.model.specs.Refusal.{status, isGone}
 use Rattle.model.specs.Machine.{accessOf}
 use Rattle.model.specs.Sound.{soundAtAs}
 use Rattle.model_laws.specs.Phases.{PhaseSound, process-facts, inside-some}
@@ -12,11 +12,11 @@ use Rattle.model_laws.specs.Ranges.{InRange}
 use Rattle.model_laws.specs.Operations.{operation-range}
 use Rattle.model_rule.specs.Event.{Event, decision, stepEvents}
 use Rattle.model_rule.specs.Event.Past.{here}
-use Rattle.model_poll.specs.Turn.{withoutDecision, pollAccess, isWaiting, ending, pollNext}
+use Rattle.model_poll.specs.Turn.{withoutDecision, pollAccess, ending, pollNext}
 use Rattle.model_poll.specs.Machine.{turnAfter}
 use Rattle.model_poll_laws.specs.Answers.{TurnAccepted}
 use Rattle.model_poll_laws.specs.Sounds.{poll-blank, poll-process}
-use Rattle.theory_board.specs.Place.{Found, Placed, PlacedAt, Stands}
+use Rattle.theory_board.specs.Place.{Found, Placed, PlacedAt}
 use Rattle.theory_board.specs.Step.{step-lawful, step-spares, step-older, step-placed}
 use Rattle.theory_board.specs.Matches.{Matches, Long, found-matches}
 use Rattle.theory_board.specs.Invariant.{Invariant, turn-invariant}

@@ -1,27 +1,27 @@
 -- "If all proposals are v, every answer is committed v": then every register holds v or is blank, no process finds another value, no round is flagged, and
 -- no check fails.
-use Rattle.base.specs.Prelude.{ℕ, zero, _+_, _-_, _≤_, _<_, arith, _≡_, refl, sym, _∙_, min, ℕ-discrete, Bool, true, false, true≢false, List, [], _∷_, _++_, ⊎-elim, eqb, ltb, leb, eqb-false, eq-eqb}
+use Rattle.base.specs.Prelude.{ℕ, _+_, _-_, _≤_, arith, _≡_, refl, sym, _∙_, min, ℕ-discrete, Bool, true, false, List, [], _∷_, _++_, ⊎-elim, eqb, ltb, leb, eq-eqb}
 use Rattle.base.specs.Bools.{cond-cases}
-use Rattle.model_laws.specs.Types.{Phase, Idle, Waiting, Write, Scan, Adopt, Compare, Flag, CheckMark, CheckValue, Commit, Exhausted, Crashed, Decided, HasCommitted, HasAdopted, Process, Session, Counts, ReadValue, ReadMark}
+use Rattle.model_laws.specs.Types.{Phase, Idle, Waiting, Write, Scan, Adopt, Compare, Flag, CheckMark, CheckValue, Commit, Exhausted, Crashed, Decided, HasCommitted, HasAdopted, Process, Session, Counts}
 use Rattle.model.specs.Board.{processAt, markAt, valueAt, idle, opened, maxProcesses}
-use Rattle.model.specs.Step.{waitingRule, access, accessAt, goOn, next, nextAt, found, bit, process}
-use Rattle.model.specs.Refusal.{status, isOutside}
+use Rattle.model.specs.Step.{waitingRule, access, accessAt, goOn, next, nextAt, found, bit}
 use Rattle.model_laws.specs.Phases.{PhaseSound, process-facts}
-use Rattle.model_rule.specs.Event.{Event, proposal, write, flag, commit, decision, stepEvents, Happened, Proposed, Written}
+use Rattle.model_rule.specs.Event.{Event, flag, stepEvents, Happened, Proposed, Written}
 use Rattle.model_rule.specs.Event.Past.{there, here}
-use Rattle.model_poll.specs.Turn.{withoutDecision, pollAccess, isWaiting, ending, pollNext, answerAt, answerOf, Carries}
-use Rattle.theory_board.specs.Epoch.{last, top}
+use Rattle.model_poll.specs.Turn.{withoutDecision, pollAccess, ending, pollNext, answerAt, answerOf, Carries}
+use Rattle.theory_board.specs.Epoch.{last}
 use Rattle.theory_board.specs.Past.{past-before, past-none, happened-past, happened-older}
 use Rattle.theory_board.specs.Registers.{wrote-round, last-written}
 use Rattle.theory_board.specs.Lawful.{lawful-at, blank-above}
-use Rattle.theory_board.specs.Place.{Placed, PlacedAt}
+use Rattle.theory_board.specs.Place.{Placed}
 use Rattle.theory_board.specs.Step.{step-cases}
 use Rattle.theory_board.specs.Invariant.{Invariant}
 use Rattle.theory_board.specs.Opening.{same-everywhere}
-use Rattle.model_rule.specs.Calls.{ifAccepted}
+use Rattle.model_rule.specs.System.{machine, ifAccepted, events, past}
+use Rattle.model_rule.specs.Calls.{Input}
 use Rattle.model_poll.specs.declared.Answer.the-variants.{Commits}
 use Rattle.model_poll.specs.Machine.{PollOperation, proposes, turns, crashes}
-use Rattle.model_rule.specs.PollCalls.{PollInput, pollMachine, pollOperationEvents, pollEvents, pollPast}
+use Rattle.model_rule.specs.PollCalls.{pollEventsOf, polls}
 use Rattle.model_poll_laws.specs.Answers.{TurnAccepted}
 use Rattle.model_poll_laws.specs.Sounds.{poll-process}
 use Rattle.model_poll_laws.specs.Performs.{PollAccepted, pollProcessOf, pollAfter, pollBecomes, perform-cases, others-stay, own-becomes, accepted-below, answer-cases}
@@ -143,7 +143,7 @@ turn-calm {W} {n} {s} {h} i wide v only c p a k =
 
 -- One operation: its own process becomes calm, and the others stay so.
 accepted-calm : {W n : ℕ} {s : Session} {h : List Event} → PollReached W n s h → 1 ≤ W → (v : ℕ) → Only v h → (c : Counts) (o : PollOperation) →
-    PollAccepted s c o → AllCalm s h → AllCalm (pollAfter W s o) (pollOperationEvents s o ++ h)
+    PollAccepted s c o → AllCalm s h → AllCalm (pollAfter W s o) (pollEventsOf s o ++ h)
 accepted-calm {W} {n} {s} {h} i wide v only c o a k =
     record { calm = λ p. elim (ℕ-discrete p (pollProcessOf o)) [ yes e ↦ rw e own | no ne ↦ rw (others-stay W s o p ne) (k .calm p) ]; none = unflagged o }
   where
@@ -155,21 +155,21 @@ accepted-calm {W} {n} {s} {h} i wide v only c o a k =
     own : Calm (processAt (pollAfter W s o) (pollProcessOf o) .phase)
     own = rw (own-becomes W s o (omega (arith, accepted-below s c o a, i .invariant .long .processes))) (becomes o a)
 
-    unflagged : (o : PollOperation) → NoFlag (pollOperationEvents s o ++ h)
+    unflagged : (o : PollOperation) → NoFlag (pollEventsOf s o ++ h)
     unflagged (proposes p v) = λ j f. k .none j (happened-older (λ e. let z : _≡_ {A = ℕ} 0 1 = cc in omega arith) f)
     unflagged (turns p) = let q = processAt s p in calm-events p (q .round) (q .estimate) (q .phase) h (k .calm p) (k .none)
     unflagged (crashes p) = k .none
 
 -- A list of operations.
-pub machine-calm : {W n : ℕ} {start : Session} → 1 ≤ W → PollReached W n start [] → AllCalm start [] → (v : ℕ) (fs : List PollInput) →
-    Only v (pollPast W start fs) → AllCalm (pollMachine W start fs) (pollPast W start fs)
+pub machine-calm : {W n : ℕ} {start : Session} → 1 ≤ W → PollReached W n start [] → AllCalm start [] → (v : ℕ) (fs : List (Input PollOperation)) →
+    Only v (past (polls W) start fs) → AllCalm (machine (polls W) start fs) (past (polls W) start fs)
 machine-calm wide i k v [] only = k
 machine-calm {W} {n} {start} wide i k v (f ∷ fs) only =
-    let m = pollMachine W start fs in
-    let h = pollPast W start fs in
-    let older : Only v h = λ w p. only w (happened-append (pollEvents W m f) p) in
+    let m = machine (polls W) start fs in
+    let h = past (polls W) start fs in
+    let older : Only v h = λ w p. only w (happened-append (events (polls W) m f) p) in
     let r = machine-calm wide i k v fs older in
-    perform-cases (λ j t. AllCalm t (ifAccepted j (pollOperationEvents m (f .operation)) ++ h)) W m (f .counts) (f .operation)
+    perform-cases (λ j t. AllCalm t (ifAccepted j (pollEventsOf m (f .operation)) ++ h)) W m (f .counts) (f .operation)
     (λ a. accepted-calm (poll-reached wide i fs) wide v older (f .counts) (f .operation) a r)
     (λ j. r)
 

@@ -3,19 +3,19 @@ use Rattle.base.specs.Prelude.{ℕ, suc, zero, _≤_, arith, _≡_, refl, _∙_
 use Rattle.base.specs.Bools.{cond-cases}
 use Rattle.model_laws.specs.Types.{Limits, Session, Counts, Operation, Entry, WellFormed, Malformed, Ran, Stepped}
 use Rattle.model.specs.Window.{window}
-use Rattle.model.specs.Board.{UpToServer, noCounts, opened, maxRounds}
+use Rattle.model.specs.Board.{noCounts, opened, maxRounds}
 use Rattle.model.specs.Refusal.{refusal, openTestsAt, changed}
 use Rattle.model.specs.Machine.{perform, openingAt}
 use Rattle.model.specs.Sheet.{processCount, roundLimit, entries, sheetRefusal}
 use Rattle.model.specs.Runner.{runBy, runFrom, ranOr, runWithin}
 use Rattle.model_laws.specs.Windows.{window-least}
 use Rattle.model_rule.specs.Event.{Event}
-use Rattle.model_rule.specs.Calls.{machine, Call, inputs}
-use Rattle.model_rule.specs.Rule.{EachAsTheMachine}
+use Rattle.model_rule.specs.System.{inputs, machine, EachAsTheMachine}
+use Rattle.model_rule.specs.Calls.{sessions, SessionCall}
 use Rattle.model_rule.specs.Contested.{markedTo, markedRounds, OneTally, ContestedRule, ContestedRun}
 use Rattle.theory_board.specs.Opening.{same-everywhere}
 use Rattle.theory_agreement.specs.Machine.{Reached, operation-reached, machine-reached}
-use Rattle.theory_agreement.specs.Theorem.{followed, opening-reached}
+use Rattle.theory_agreement.specs.Theorem.{sessions-followed, opening-reached}
 use Rattle.theory_sheet.specs.Runs.{sheet-reached}
 use Rattle.theory_sheet.specs.Marks.{perform-contested}
 
@@ -43,8 +43,8 @@ module _ {n L : ℕ} (wide : 1 ≤ window n) where
   reached-contested {s} c o i same = perform-contested s c same (i .invariant .long .marks) (window n) o (i .sound)
 
   -- Calls that are answered as the machine answers.
-  calls-contested : {start : Session} → Reached (window n) n L start [] → 0 ≡ markedRounds start → (cs : List Call) →
-      EachAsTheMachine (window n) start cs → (c : Counts) → OneTally cs c → c .contested ≡ markedRounds (machine (window n) start (inputs cs))
+  calls-contested : {start : Session} → Reached (window n) n L start [] → 0 ≡ markedRounds start → (cs : List SessionCall) →
+      EachAsTheMachine (sessions (window n)) start cs → (c : Counts) → OneTally cs c → c .contested ≡ markedRounds (machine (sessions (window n)) start (inputs cs))
   calls-contested i first [] each c tally = rw tally first
   calls-contested i first (k ∷ ks) each c tally =
       let f = k .input in
@@ -72,7 +72,7 @@ pub contested : ContestedRule
 contested most up n L ok cs s c run tally =
     let o = opening-reached most up (window n) n L ok in
     let wide : 1 ≤ window n = omega (arith, window-least n (o .0)) in
-    let f = followed wide (o .1) run in
+    let f = sessions-followed window wide (o .1) run in
     rw (f .1) (calls-contested wide (o .1) (opening-contested most (window n) n L) cs (f .0) c tally)
 
 pub run-contested : ContestedRun

@@ -10,7 +10,8 @@ use Rattle.model.specs.Sound.{every}
 use Rattle.model_laws.specs.Every.{every-get}
 use Rattle.model_laws.specs.ByteLaws.{AreBytes, word32-low}
 use Rattle.model_rule.specs.Event.{Event, proposal, lookEvents, eventsOf, Proposed}
-use Rattle.model_rule.specs.Calls.{Input, machine, ifAccepted, past}
+use Rattle.model_rule.specs.System.{machine, ifAccepted, past}
+use Rattle.model_rule.specs.Calls.{Input, sessions}
 use Rattle.theory_board.specs.Past.{happened-cases, happened-older}
 use Rattle.theory_board.specs.Step.{step-older}
 use Rattle.theory_sheet.specs.Runs.{fed}
@@ -39,14 +40,14 @@ accepted-proposed zero q D o a = operation-proposed q D o a
 accepted-proposed (suc k) q D o a = inr a
 
 -- What was proposed while the operations of entries were fed was proposed by one of them, or before.
-pub fed-proposed : {v : ℕ} (W : ℕ) (start : Session) (c : Counts) (k : ℕ) (es : List Entry) (fs : List Input) →
-    Proposed v (past W start (fed W start c (take k es) fs)) → ProposedBy v k es ⊎ Proposed v (past W start fs)
+pub fed-proposed : {v : ℕ} (W : ℕ) (start : Session) (c : Counts) (k : ℕ) (es : List Entry) (fs : List (Input Operation)) →
+    Proposed v (past (sessions W) start (fed W start c (take k es) fs)) → ProposedBy v k es ⊎ Proposed v (past (sessions W) start fs)
 fed-proposed W start c zero es fs a = inr a
 fed-proposed W start c (suc k) [] fs a = inr a
 fed-proposed W start c (suc k) (Malformed ∷ es) fs a =
     ⊎-elim (λ x. inl (suc (x .0), omega (arith, x .1), x .2, x .3)) inr (fed-proposed W start c k es fs a)
 fed-proposed {v} W start c (suc k) (WellFormed o ∷ es) fs a =
-    let m = machine W start fs in
+    let m = machine (sessions W) start fs in
     let b = perform W m c o in
     ⊎-elim
     (λ x. inl (suc (x .0), omega (arith, x .1), x .2, x .3))

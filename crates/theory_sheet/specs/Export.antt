@@ -9,7 +9,8 @@ use Rattle.model.specs.Export.{decidedValue, exportBuffer}
 use Rattle.model_laws.specs.Callers.{caller-limits}
 use Rattle.model_laws.specs.ByteLaws.{AreBytes, decidedAt, decided-word}
 use Rattle.model_rule.specs.Event.{DecidedOn}
-use Rattle.model_rule.specs.Calls.{past}
+use Rattle.model_rule.specs.System.{past}
+use Rattle.model_rule.specs.Calls.{sessions}
 use Rattle.theory_board.specs.Past.{past-none, past-before, happened-past}
 use Rattle.theory_sheet.specs.Runs.{windowOf, openedBy, runInputs, run-rule, run-bytes}
 use Rattle.theory_sheet.specs.Entries.{ProposedBy, fed-proposed, entry-low}
@@ -63,7 +64,7 @@ module _ (t : List ℕ) (budget : ℕ) (ok : sheetRefusal (limitsOf Server) t �
   valueOf p = decidedAt (runWithin (limitsOf Server) t budget .session .processes) p
 
   -- It was decided.
-  value-decided : (p : ℕ) → (valueOf p ≡ 0 → ⊥) → DecidedOn p (valueOf p) (past (windowOf t) (openedBy t) (runInputs (limitsOf Server) t budget))
+  value-decided : (p : ℕ) → (valueOf p ≡ 0 → ⊥) → DecidedOn p (valueOf p) (past (sessions (windowOf t)) (openedBy t) (runInputs (limitsOf Server) t budget))
   value-decided p some =
       let q = processAt (runWithin (limitsOf Server) t budget .session) p in
       run-rule (limitsOf Server) (caller-limits Server) t budget ok .looked p (valueOf p) (decided-phase (q .phase) (q .estimate) some)

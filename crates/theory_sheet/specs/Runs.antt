@@ -1,7 +1,7 @@
 -- A run of a sheet is the public operations, one after another, and the machine after the entries that were carried out.
 use Rattle.base.specs.Prelude.{ℕ, suc, zero, _+_, _≤_, arith, _≡_, refl, sym, _∙_, ap, cond, List, [], _∷_, length, take, eqb, eq-eqb}
 use Rattle.base.specs.Bools.{cond-cases}
-use Rattle.model_laws.specs.Types.{Limits, Server, Session, Counts, Entry, WellFormed, Malformed, Ending, Finished, Refused, BudgetEnded, Process, Ran}
+use Rattle.model_laws.specs.Types.{Limits, Server, Session, Counts, Operation, Entry, WellFormed, Malformed, Ending, Finished, Refused, BudgetEnded, Process, Ran}
 use Rattle.model.specs.Window.{window}
 use Rattle.model.specs.Board.{limitsOf, UpToServer, opened, noCounts}
 use Rattle.model.specs.Numbers.{unsound, badEntry}
@@ -16,7 +16,8 @@ use Rattle.model_laws.specs.Windows.{window-least, window-square}
 use Rattle.model_laws.specs.SheetFacts.{sheet-facts}
 use Rattle.model_laws.specs.Callers.{caller-limits, open-held}
 use Rattle.model_rule.specs.Event.{Event}
-use Rattle.model_rule.specs.Calls.{Input, machine, past}
+use Rattle.model_rule.specs.System.{machine, past}
+use Rattle.model_rule.specs.Calls.{Input, sessions}
 use Rattle.model_rule.specs.Rule.{Rule}
 use Rattle.theory_agreement.specs.Machine.{Reached, operation-reached, machine-reached, opened-reached, reached-rule}
 use Rattle.theory_agreement.specs.Theorem.{operate-reached, never-unsound}
@@ -33,7 +34,7 @@ module _ {n L : ℕ} (wide : 1 ≤ window n) where
   operate-runs zero k c (e ∷ es) i = (refl, λ j t. let z : _≡_ {A = ℕ} 0 1 = cc in omega arith)
   operate-runs (suc b) k c (Malformed ∷ es) i = (refl, λ j t. let z : _≡_ {A = ℕ} badEntry unsound = cc in omega arith)
   operate-runs {s} (suc b) k c (WellFormed o ∷ es) i =
-      let f : Input = record { operation = o; counts = c } in
+      let f : Input Operation = record { operation = o; counts = c } in
       let a = perform (window n) s c o in
       let rest = operate-runs b (suc k) (a .counts) es (operation-reached wide f i) in (
         rw (operate-reached i f) (ap (λ (r : Ran). cond (eqb (a .code) 0) r (ran k s c (Refused (a .code) k))) (rest .0)),
@@ -44,42 +45,42 @@ module _ {n L : ℕ} (wide : 1 ≤ window n) where
 -- ---- the machine
 
 -- The operations of some entries, oldest first, each with the counts that the one before left, on top of what the machine was fed before.
-abbrev pub fed : (W : ℕ) → Session → Counts → List Entry → List Input → List Input
+abbrev pub fed : (W : ℕ) → Session → Counts → List Entry → List (Input Operation) → List (Input Operation)
 fed W start c [] fs = fs
 fed W start c (Malformed ∷ es) fs = fed W start c es fs
 fed W start c (WellFormed o ∷ es) fs =
-    fed W start (perform W (machine W start fs) c o .counts) es (record { operation = o; counts = c } ∷ fs)
+    fed W start (perform W (machine (sessions W) start fs) c o .counts) es (record { operation = o; counts = c } ∷ fs)
 
 -- And the counts that the last one left.
-abbrev pub countsLeft : (W : ℕ) → Session → Counts → List Entry → List Input → Counts
+abbrev pub countsLeft : (W : ℕ) → Session → Counts → List Entry → List (Input Operation) → Counts
 countsLeft W start c [] fs = c
 countsLeft W start c (Malformed ∷ es) fs = countsLeft W start c es fs
 countsLeft W start c (WellFormed o ∷ es) fs =
-    countsLeft W start (perform W (machine W start fs) c o .counts) es (record { operation = o; counts = c } ∷ fs)
+    countsLeft W start (perform W (machine (sessions W) start fs) c o .counts) es (record { operation = o; counts = c } ∷ fs)
 
 -- Of a run after k entries: how many more were carried out, that its session and counts are the machine's after them, and that a session
 -- was made.
-record Follows (W : ℕ) (start : Session) (fs : List Input) (c : Counts) (es : List Entry) (k : ℕ) (r : Ran) : Type 0 where
+record Follows (W : ℕ) (start : Session) (fs : List (Input Operation)) (c : Counts) (es : List Entry) (k : ℕ) (r : Ran) : Type 0 where
   pub count : ℕ
   pub carried : r .carried ≡ k + count
-  pub session : r .session ≡ machine W start (fed W start c (take count es) fs)
+  pub session : r .session ≡ machine (sessions W) start (fed W start c (take count es) fs)
   pub counts : r .counts ≡ countsLeft W start c (take count es) fs
   pub made : (qs : List Process) (b : List ℕ) → endingBuffer (r .ending) qs b ≡ decidedBytes qs
 
 -- No entry more.
-follows-none : {W : ℕ} {start : Session} {fs : List Input} (c : Counts) (es : List Entry) (k : ℕ) (e : Ending) →
+follows-none : {W : ℕ} {start : Session} {fs : List (Input Operation)} (c : Counts) (es : List Entry) (k : ℕ) (e : Ending) →
     ((qs : List Process) (b : List ℕ) → endingBuffer e qs b ≡ decidedBytes qs) →
-    Follows W start fs c es k (ran k (machine W start fs) c e)
+    Follows W start fs c es k (ran k (machine (sessions W) start fs) c e)
 follows-none c es k e made = record { count = 0; carried = omega arith; session = refl; counts = refl; made = made }
 
-run-follows-from : (W : ℕ) (start : Session) (fs : List Input) (b k : ℕ) (c : Counts) (es : List Entry) →
-    Follows W start fs c es k (runFrom W b k (machine W start fs) c es)
+run-follows-from : (W : ℕ) (start : Session) (fs : List (Input Operation)) (b k : ℕ) (c : Counts) (es : List Entry) →
+    Follows W start fs c es k (runFrom W b k (machine (sessions W) start fs) c es)
 unfolding runBy
 run-follows-from W start fs b k c [] = follows-none c [] k Finished (λ qs b. refl)
 run-follows-from W start fs zero k c (e ∷ es) = follows-none c (e ∷ es) k BudgetEnded (λ qs b. refl)
 run-follows-from W start fs (suc b) k c (Malformed ∷ es) = follows-none c (Malformed ∷ es) k (Refused badEntry k) (λ qs b. refl)
 run-follows-from W start fs (suc b) k c (WellFormed o ∷ es) =
-    let a = perform W (machine W start fs) c o in
+    let a = perform W (machine (sessions W) start fs) c o in
     cond-cases (Follows W start fs c (WellFormed o ∷ es) k) (eqb (a .code) 0)
     (λ z.
     let r = run-follows-from W start (record { operation = o; counts = c } ∷ fs) b (suc k) (a .counts) es in
@@ -96,7 +97,7 @@ abbrev pub openedBy : (sheet : List ℕ) → Session
 openedBy t = opened (processCount t) (roundLimit t)
 
 -- What it was fed: the entries that were carried out, newest first, each with the counts that the one before left.
-abbrev pub runInputs : Limits → (sheet : List ℕ) (budget : ℕ) → List Input
+abbrev pub runInputs : Limits → (sheet : List ℕ) (budget : ℕ) → List (Input Operation)
 runInputs most t budget = fed (windowOf t) (openedBy t) noCounts (take (runWithin most t budget .carried) (entries t)) []
 
 module _ (most : Limits) (up : UpToServer most) (t : List ℕ) (budget : ℕ) (ok : sheetRefusal most t ≡ 0) where
@@ -132,14 +133,14 @@ module _ (most : Limits) (up : UpToServer most) (t : List ℕ) (budget : ℕ) (o
   carried-count : runWithin most t budget .carried ≡ run-follows .count
   carried-count = omega (arith, run-follows .carried)
 
-  pub run-machine : runWithin most t budget .session ≡ machine (windowOf t) (openedBy t) (runInputs most t budget)
+  pub run-machine : runWithin most t budget .session ≡ machine (sessions (windowOf t)) (openedBy t) (runInputs most t budget)
   run-machine = rw carried-count (run-follows .session)
 
   pub run-counts : runWithin most t budget .counts ≡ countsLeft (windowOf t) (openedBy t) noCounts (take (runWithin most t budget .carried) (entries t)) []
   run-counts = rw carried-count (run-follows .counts)
 
   -- So the rule holds of it.
-  pub run-rule : Rule (runWithin most t budget .session) (past (windowOf t) (openedBy t) (runInputs most t budget))
+  pub run-rule : Rule (runWithin most t budget .session) (past (sessions (windowOf t)) (openedBy t) (runInputs most t budget))
   run-rule =
       rw run-machine
       (reached-rule (window-least (processCount t) (sheet-reached .0)) (window-square (processCount t))

@@ -6,8 +6,10 @@ use Prim.Native.Nat.{ℕ, suc, zero, _+_, _-_, _*_}
 use mathlib.Core.Bool.{Bool, true, cond, not, _||_}
 use mathlib.Core.List.{List, [], _∷_, _++_, map}
 use lib.Dec.{ltb, eqb}
-use Rattle.model_cases.specs.Play.{repeat}
-use Rattle.model_rule_cases.specs.Play.{Move, proposes, works, looks}
+use lib.ListN.{replicate}
+use Rattle.model.specs.declared.Operation.{Operation}
+use Rattle.model.specs.declared.Operation.the-variants.{Propose, Learn}
+use Rattle.model_rule_cases.specs.Play.{works}
 use Rattle.model_rule_cases.specs.Breaks.{Row}
 
 -- ---- numbers
@@ -26,7 +28,7 @@ abbrev isEven : ℕ → Bool
 isEven zero = true
 isEven (suc k) = not (isEven k)
 
-abbrev concat : List (List Move) → List Move
+abbrev concat : List (List Operation) → List Operation
 concat [] = []
 concat (ms ∷ rest) = ms ++ concat rest
 
@@ -48,9 +50,9 @@ pub record Free : Type 0 where
   pub round : ℕ
   pub pass : ℕ
 
--- How the list stands: its moves so far, the processes, and how many have proposed.
+-- How the list stands: its operations so far, the processes, and how many have proposed.
 pub record Standing : Type 0 where
-  pub moves : List Move
+  pub operations : List Operation
   pub ready : List Ready
   pub free : List Free
   pub proposed : ℕ
@@ -77,11 +79,11 @@ notDue t [] = []
 notDue t (r ∷ rs) = cond (eqb (r .pass) t) (notDue t rs) (r ∷ notDue t rs)
 
 -- The processes whose pass it is write, and when all have written, each compares the rounds down to 1, finds no difference and waits.
-abbrev writes : List Ready → List Move
+abbrev writes : List Ready → List Operation
 writes rs = map (λ (r : Ready). works (r .process)) rs
 
-abbrev compares : List Ready → List Move
-compares rs = concat (map (λ (r : Ready). repeat (r .register) (works (r .process))) rs)
+abbrev compares : List Ready → List Operation
+compares rs = concat (map (λ (r : Ready). replicate (r .register) (works (r .process))) rs)
 
 abbrev freed : List Ready → List Free → List Free
 freed [] fs = fs
@@ -91,7 +93,7 @@ unfoldable pub written : (t : ℕ) → Standing → Standing
 written t s =
     let rs = due t (s .ready) in
     record {
-      moves = s .moves ++ writes rs ++ compares rs;
+      operations = s .operations ++ writes rs ++ compares rs;
       ready = notDue t (s .ready);
       free = freed rs (s .free);
       proposed = s .proposed;
@@ -109,11 +111,11 @@ passesFor W j t =
 abbrev fits : (i t : ℕ) → Free → Bool
 fits i t f = ltb (f .round) i || eqb (f .pass) t
 
--- The first free process that fits, or a new one; its moves to the place before the write to register i + 1.
+-- The first free process that fits, or a new one; its operations up to the place before the write to register i + 1.
 unfoldable pub goesOn : (i t : ℕ) → (later : ℕ) → (before fs : List Free) → Standing → Standing
 goesOn i t later before [] s =
     record {
-      moves = s .moves ++ proposes (s .proposed) 1 ∷ repeat (2 * i + 3) (works (s .proposed));
+      operations = s .operations ++ Propose (s .proposed) 1 ∷ replicate (2 * i + 3) (works (s .proposed));
       ready = s .ready ++ record { process = s .proposed; register = i + 1; pass = later } ∷ [];
       free = before;
       proposed = suc (s .proposed);
@@ -121,7 +123,7 @@ goesOn i t later before [] s =
 goesOn i t later before (f ∷ fs) s =
     cond (fits i t f)
     (record {
-      moves = s .moves ++ repeat (cond (eqb (f .round) i) 1 (2 * i + 3 - f .round)) (works (f .process));
+      operations = s .operations ++ replicate (cond (eqb (f .round) i) 1 (2 * i + 3 - f .round)) (works (f .process));
       ready = s .ready ++ record { process = f .process; register = i + 1; pass = later } ∷ [];
       free = before ++ fs;
       proposed = s .proposed;
@@ -145,8 +147,8 @@ epochs W (i ∷ is) s = epochs W is (onePass W i (2 * i + 1) (onePass W i (2 * i
 unfoldable pub atFirst : (W : ℕ) → Standing
 atFirst W =
     record {
-      moves =
-          (proposes 0 (firstValue W 1) ∷ map (λ (e : ℕ). proposes e (secondValue W e)) (from 1 (W - 1))) ++ map works (from 0 W);
+      operations =
+          (Propose 0 (firstValue W 1) ∷ map (λ (e : ℕ). Propose e (secondValue W e)) (from 1 (W - 1))) ++ map works (from 0 W);
       ready =
           record { process = 0; register = 1; pass = 2 }
           ∷ map (λ (e : ℕ). record { process = e; register = 1; pass = 2 * e + 1 }) (from 1 (W - 1));
@@ -190,12 +192,12 @@ construction W =
       n = s .proposed;
       window = W;
       limit = 2 * W - 1;
-      moves =
-          s .moves
-          ++ repeat (commitSteps W) (works one)
-          ++ looks one
-          ∷ repeat (count (map (lastSteps W) (from 0 W))) (works other)
-          ++ looks other
+      operations =
+          s .operations
+          ++ replicate (commitSteps W) (works one)
+          ++ Learn one
+          ∷ replicate (count (map (lastSteps W) (from 0 W))) (works other)
+          ++ Learn other
           ∷ [];
       first = record { process = one; round = W; value = 1 };
       second = record { process = other; round = 2 * W - 1; value = 2 };

@@ -1,5 +1,5 @@
 -- More processes, which take no part, change nothing of what happens.
-use Rattle.base.specs.Prelude.{ℕ, suc, zero, _≤_, _<_, arith, _≡_, refl, sym, _∙_, ap, ap₂, Bool, true, false, _&&_, List, [], _∷_, _++_, ltb, lt-leb, le-leb, leb, ltb-true}
+use Rattle.base.specs.Prelude.{ℕ, suc, zero, _≤_, _<_, arith, _≡_, refl, _∙_, true, List, [], _∷_, ltb, lt-leb, ltb-true}
 use Rattle.base.specs.Bools.{and-left, and-right}
 use Rattle.model.specs.declared.Access.{Access}
 use Rattle.model.specs.declared.Access.the-variants.{Nothing, ReadValue, WriteValue, ReadMark, SetMark, ReadDecision, WriteDecision}
@@ -9,13 +9,14 @@ use Rattle.model.specs.declared.Process.{Process}
 use Rattle.model.specs.Board.{processAt, noCounts}
 use Rattle.model.specs.Step.{found, stored, turn}
 use Rattle.model.specs.Refusal.{refusal, tests, stepped}
-use Rattle.model.specs.Machine.{accessOf, becomes, after, countsAfter, answered, perform, processOf}
+use Rattle.model.specs.Machine.{becomes, after, countsAfter, answered, perform, processOf}
 use Rattle.model.specs.Sound.{every}
 use Rattle.model_rule.specs.Event.{Event}
-use Rattle.model_rule.specs.Calls.{ifAccepted, events}
+use Rattle.model_rule.specs.System.{System, events}
+use Rattle.model_rule.specs.Calls.{Input, sessions}
 use Rattle.model_laws.specs.Accepted.{tests-are}
 use Rattle.model_laws.specs.Operations.{after-same}
-use Rattle.model_rule_cases.specs.Play.{Move, operationOf, inputOf, played}
+use Rattle.model_rule_cases.specs.Play.{uncounted, played}
 use Rattle.model_rule_cases.specs.Breaks.{within}
 
 -- The session with m processes in place of its n.
@@ -84,13 +85,24 @@ perform-size W s o = go (refusal (tests s noCounts o))
     go zero = after-same W s o .0
     go (suc k) = refl
 
--- A list of moves of the first n processes.
-pub played-more : (W m n : ℕ) (s : Session) (h : List Event) (ms : List Move) → s .n ≡ n → n ≤ m → every (within n) ms ≡ true →
-    played W (sized m s) h ms ≡ played W s h ms
-unfolding played
-played-more W m n s h [] size more all = refl
-played-more W m n s h (x ∷ xs) size more all =
-    let o = operationOf x in
-    let below : processOf o < s .n = omega (arith, ltb-true (processOf o) n (and-left (within n x) _ all)) in
-    let same = perform-sized W m s o below (omega arith) in
-    rw (same .0, same .1) (played-more W m n (perform W s noCounts o .session) (events W s (inputOf x) ++ h) xs (perform-size W s o ∙ size) more (and-right (within n x) _ all))
+-- A list of operations of the first n processes, on a machine of which that holds of each operation, and on which n stays.
+module _ {O A : Type 0} (M : System Session (Input O) A Event) (process : O → ℕ)
+    (one : (m : ℕ) (s : Session) (o : O) → process o < s .n → s .n ≤ m →
+    let a = M .perform s (uncounted o) in
+    (M .state (M .perform (sized m s) (uncounted o)) ≡ sized m (M .state a))
+    × (events M (sized m s) (uncounted o) ≡ events M s (uncounted o))
+    × (M .state a .n ≡ s .n)) where
+  pub played-more : (m n : ℕ) (s : Session) (h : List Event) (os : List O) → s .n ≡ n → n ≤ m → every (λ o. ltb (process o) n) os ≡ true →
+      played M (sized m s) h os ≡ (sized m (played M s h os .0), played M s h os .1)
+  unfolding played
+  played-more m n s h [] size more all = refl
+  played-more m n s h (o ∷ os) size more all =
+      let below : process o < s .n = omega (arith, ltb-true (process o) n (and-left (ltb (process o) n) _ all)) in
+      let k = one m s o below (omega arith) in
+      rw (k .0, k .1) (played-more m n _ _ os (k .2 ∙ size) more (and-right (ltb (process o) n) _ all))
+
+pub sessions-more : (W m n : ℕ) (s : Session) (h : List Event) (os : List Operation) → s .n ≡ n → n ≤ m → every (within n) os ≡ true →
+    played (sessions W) (sized m s) h os ≡ (sized m (played (sessions W) s h os .0), played (sessions W) s h os .1)
+sessions-more W =
+    played-more (sessions W) processOf
+    (λ m s o below more. let k = perform-sized W m s o below more in (k .0, rw (k .1) refl, perform-size W s o))

@@ -1,40 +1,42 @@
 -- By computation: the list of calls of each window from 2 to 15 (`theory_window`, `Construction`) breaks the rule of polls at that window.
-use Prim.Native.Nat.{ℕ, _+_, _*_, _-_}
+use Prim.Native.Nat.{ℕ}
 use mathlib.Core.Path.{_≡_, refl}
 use mathlib.Core.Bool.{Bool, true, false, _&&_}
-use mathlib.Core.List.{List, [], _∷_, _++_, map}
+use mathlib.Core.List.{List, [], _++_, map}
 use lib.Dec.{eqb}
+use lib.ListN.{replicate}
 use Rattle.model.specs.declared.Caller.the-variants.{Server}
 use Rattle.model.specs.declared.Session.{Session}
+use Rattle.model.specs.declared.Operation.{Operation}
+use Rattle.model.specs.declared.Operation.the-variants.{Propose, Step, Learn, Crash}
 use Rattle.model.specs.Board.{limitsOf, opened, processAt}
 use Rattle.model.specs.Step.{waitingRule, accessAt, access, found, goOn, nextAt, next, learnt, stored, turn, counted}
 use Rattle.model.specs.Refusal.{full}
 use Rattle.model.specs.Machine.{openingAt, accessOf, becomes, after, countsAfter, answered, perform}
 use Rattle.model.specs.Sound.{every}
-use Rattle.model_cases.specs.Play.{repeat}
 use Rattle.model_rule.specs.Safe.{threshold}
-use Rattle.model_rule_cases.specs.Play.{Move, proposes, works, looks}
+use Rattle.model_rule.specs.PollCalls.{polls}
+use Rattle.model_rule_cases.specs.Play.{played}
 use Rattle.model_poll.specs.declared.Answer.{Answer}
 use Rattle.model_poll.specs.declared.Answer.the-variants.{Pending, Commits, Adopts}
 use Rattle.model_poll.specs.Turn.{withoutDecision, pollAccess, ending, pollNext, answerOf}
-use Rattle.model_poll.specs.Machine as poll
-use Rattle.model_poll.specs.Machine.{PollOperation, turns, pollOpeningAt, turnAfter, turnCounts, turned, pollPerform}
+use Rattle.model_poll.specs.Machine.{PollOperation, proposes, turns, crashes, pollOpeningAt, turnAfter, turnCounts, turned, pollPerform}
 use Rattle.theory_window.specs.Construction.{from, written, goesOn, allGoOn, onePass, epochs, atFirst, atLast, withOne, withTwo, commitSteps, lastSteps}
-use Rattle.theory_window.specs.PollPlay.{played}
 use Rattle.theory_window.specs.PollMore.{within}
 
--- The moves as a poll has them. (There is no look among them before the end.)
-abbrev turnOf : Move → PollOperation
-turnOf (proposes p v) = poll.proposes p v
-turnOf (works p) = turns p
-turnOf (looks p) = turns p
+-- The operations as a poll has them: a step is a turn. (There is no look among them before the end.)
+abbrev turnOf : Operation → PollOperation
+turnOf (Propose p v) = proposes p v
+turnOf (Step p leader) = turns p
+turnOf (Learn p) = turns p
+turnOf (Crash p) = crashes p
 
 -- Two processes stand before the write to register W: one writes, compares, checks and commits 1; the other writes 2 over it, marks the rounds below, finds
 -- its own mark and adopts 2.
 unfoldable pub operations : (W : ℕ) → List PollOperation
 operations W =
     let s = atLast W in
-    map turnOf (s .moves) ++ repeat (commitSteps W) (turns (withOne W s)) ++ repeat (lastSteps W 0) (turns (withTwo W s))
+    map turnOf (s .operations) ++ replicate (commitSteps W) (turns (withOne W s)) ++ replicate (lastSteps W 0) (turns (withTwo W s))
 
 abbrev pub isCommitted : (v : ℕ) → Answer → Bool
 isCommitted v Pending = false
@@ -48,7 +50,7 @@ isAdopted v (Adopts u) = eqb u v
 
 -- The poll after them, opened by the server.
 abbrev pub left : (W : ℕ) → Session
-left W = played W (pollOpeningAt (limitsOf Server) W (threshold W) .session) (operations W)
+left W = played (polls W) (pollOpeningAt (limitsOf Server) W (threshold W) .session) [] (operations W) .0
 
 unfoldable pub answersDiffer : Session → (one other : ℕ) → Bool
 answersDiffer s one other = isCommitted 1 (answerOf (processAt s one)) && isAdopted 2 (answerOf (processAt s other))

@@ -1,5 +1,5 @@
 -- Windows that are too short for polls (document 02, wish 7), and which windows are safe for how many processes.
-use Rattle.base.specs.Prelude.{ℕ, _+_, _*_, _≤_, arith, decLe, _≡_, refl, sym, _∙_, subst, Bool, true, true≢false, _&&_, eqb, eqb-true}
+use Rattle.base.specs.Prelude.{ℕ, _≤_, arith, decLe, _≡_, refl, sym, _∙_, ap, subst, [], true, true≢false, _&&_, eqb, eqb-true}
 use Rattle.base.specs.Bools.{and-left, and-right}
 use Rattle.model.specs.declared.Caller.the-variants.{Server}
 use Rattle.model.specs.declared.Session.{Session}
@@ -12,15 +12,17 @@ use Rattle.model_poll.specs.declared.Answer.{Answer}
 use Rattle.model_poll.specs.declared.Answer.the-variants.{Pending, Commits, Adopts}
 use Rattle.model_poll.specs.Turn.{answerOf, Carries}
 use Rattle.model_poll.specs.Machine.{pollOpeningAt}
+use Rattle.model_rule.specs.PollCalls.{polls}
 use Rattle.model_rule.specs.PollSafe.{PollSafeWithin, ExactPollWindows}
 use Rattle.model_poll_laws.specs.Opening.{poll-opened}
-use Rattle.theory_window.specs.Construction.{from, atLast, withOne, withTwo}
+use Rattle.model_rule_cases.specs.Play.{played}
+use Rattle.theory_window.specs.Construction.{atLast, withOne, withTwo}
 use Rattle.theory_window.specs.More.{sized}
 use Rattle.theory_window.specs.Theorem.{every-from, high-threshold}
 use Rattle.theory_poll.specs.Theorem.{poll-below-threshold}
-use Rattle.theory_window.specs.PollPlay.{played, breaks-poll-rule}
+use Rattle.theory_window.specs.PollPlay.{breaks-poll-rule}
 use Rattle.theory_window.specs.PollBroken.{operations, isCommitted, isAdopted, left, answersDiffer, broken, all-broken}
-use Rattle.theory_window.specs.PollMore.{within, played-more}
+use Rattle.theory_window.specs.PollMore.{within, polls-more}
 
 committed-is : (v : ℕ) (a : Answer) → isCommitted v a ≡ true → a ≡ Commits v
 committed-is v Pending t = absurd (true≢false (sym t))
@@ -52,8 +54,11 @@ broken-unsafe W n t enough few =
     let differ = and-right (accepted && every (within e) os) (answersDiffer (left W) one other) t in
     let small = poll-opened (limitsOf Server) (caller-limits Server) W e (eqb-true (pollOpeningAt (limitsOf Server) W e .code) 0 (and-left accepted (every (within e) os) start)) in
     let large = opens W n (omega (arith, small .0)) few (small .2) in
-    let same : sized n (left W) ≡ played W (pollOpeningAt (limitsOf Server) W n .session) os =
-    rw (small .3, large .1) (sym (played-more W n e (opened e W) os refl enough (and-right accepted (every (within e) os) start))) in
+    let leftFrom : Session → Session = λ s. played (polls W) s [] os .0 in
+    let same : sized n (left W) ≡ leftFrom (pollOpeningAt (limitsOf Server) W n .session) =
+    ap (λ s. sized n (leftFrom s)) (small .3)
+    ∙ sym (ap (λ x. x .0) (polls-more W n e (opened e W) [] os refl enough (and-right accepted (every (within e) os) start)))
+    ∙ ap leftFrom (sym (large .1)) in
     breaks-poll-rule (limitsOf Server) (λ m. W) n os one other 2 1 (large .0)
     (subst (λ (s : Session). answerOf (processAt s one) ≡ Commits 1) same (committed-is 1 a (and-left (isCommitted 1 a) (isAdopted 2 b) differ)))
     (subst (λ (s : Session). Carries (answerOf (processAt s other)) 2) same (adopted-carries 2 b (and-right (isCommitted 1 a) (isAdopted 2 b) differ)))

@@ -1,22 +1,23 @@
 -- Windows that are too short (document 02, wish 7), and which windows are safe for how many processes.
-use Rattle.base.specs.Prelude.{ℕ, suc, zero, max, _+_, _*_, _-_, _/_, _≤_, _<_, arith, mul-le-mul, _≡_, refl, sym, _∙_, subst, ℕ-discrete, decLe, Bool, true, cond, _&&_, List, [], _∷_, eqb, leb, ltb, eqb-true}
+use Rattle.base.specs.Prelude.{ℕ, suc, zero, _+_, _*_, _-_, _/_, _≤_, _<_, arith, mul-le-mul, _≡_, refl, sym, _∙_, ap, subst, ℕ-discrete, decLe, Bool, true, cond, _&&_, List, [], _∷_, eqb, leb, ltb, eqb-true}
 use Rattle.base.specs.Bools.{and-left, and-right}
 use Rattle.model.specs.declared.Caller.the-variants.{Server}
 use Rattle.model.specs.declared.Session.{Session}
 use Rattle.model.specs.Window.{window, rootUp, rootFrom}
-use Rattle.model.specs.Board.{limitsOf, opened, maxProcesses, maxRounds}
+use Rattle.model.specs.Board.{limitsOf, opened, maxProcesses}
 use Rattle.model.specs.Machine.{openingAt}
 use Rattle.model.specs.Sound.{every}
 use Rattle.model.specs.ReadOut.{holds}
 use Rattle.model_laws.specs.Operations.{opening-accepts, opening-accepted}
 use Rattle.model_rule.specs.Event.{Event, DecidedOn}
+use Rattle.model_rule.specs.Calls.{sessions}
 use Rattle.model_rule.specs.Safe.{SafeWithin, threshold, ExactWindows}
 use Rattle.model_rule_cases.specs.Play.{played, breaks-rule}
 use Rattle.model_rule_cases.specs.Breaks.{Row, pastOf, breaks, breaks-shows}
 use Rattle.theory_agreement.specs.Theorem.{below-threshold}
 use Rattle.theory_window.specs.Construction.{from, construction}
 use Rattle.theory_window.specs.Broken.{broken, all-broken}
-use Rattle.theory_window.specs.More.{sized, played-more}
+use Rattle.theory_window.specs.More.{sessions-more}
 
 -- ---- a row, with more processes
 
@@ -29,9 +30,12 @@ row-unsafe r t n more few safe =
     let b = breaks-shows r t in
     let o = opening-accepted (limitsOf Server) W (r .n) L (b .opens) in
     let large = opening-accepts (limitsOf Server) W n L (omega (arith, o .0)) few (o .2) (o .3) in
-    let same : pastOf r ≡ played W (openingAt (limitsOf Server) W n L .session) [] (r .moves) =
-    rw (o .4, large .1) (sym (played-more W n (r .n) (opened (r .n) L) [] (r .moves) refl more (b .inside))) in
-    breaks-rule (limitsOf Server) (λ m. W) n L (r .moves) (large .0)
+    let pastFrom : Session → List Event = λ s. played (sessions W) s [] (r .operations) .1 in
+    let same : pastOf r ≡ pastFrom (openingAt (limitsOf Server) W n L .session) =
+    ap pastFrom (o .4)
+    ∙ sym (ap (λ x. x .1) (sessions-more W n (r .n) (opened (r .n) L) [] (r .operations) refl more (b .inside)))
+    ∙ ap pastFrom (sym (large .1)) in
+    breaks-rule (limitsOf Server) (λ m. W) n L (r .operations) (large .0)
     (λ s rule.
     b .unlike
     (rule .agreement (r .first .process) (r .second .process) (r .first .value) (r .second .value)
