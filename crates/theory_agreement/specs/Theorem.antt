@@ -16,8 +16,9 @@ use Rattle.model_rule.specs.Calls.{Input, sessions, SessionCall, promisedAt, Ru
 use Rattle.model_rule.specs.Rule.{EveryWindow, AgreementRule, CallerAgreement}
 use Rattle.model_rule.specs.Safe.{Safe, BelowThreshold}
 use Rattle.theory_count.specs.Grid.{wide-below, below-wide}
+use Rattle.theory_board.specs.Reached.{Reached}
 use Rattle.theory_board.specs.Lists.{followed}
-use Rattle.theory_agreement.specs.Machine.{Reached, operation-reached, machine-reached, opened-reached, reached-below}
+use Rattle.theory_agreement.specs.Machine.{operation-reached, machine-reached, opened-session, reached-below}
 
 -- What a call answers is what the operation answers: a proposal and a crash leave any counts.
 promised-operate : (W : ℕ) (s : Session) (c : Counts) (o : Operation) → promisedAt W s c o ≡ operateAtAs false W s c o
@@ -28,33 +29,33 @@ promised-operate W s c (Learn p) = refl
 promised-operate W s c (Crash p) = crash-counts false W s c p
 
 -- A session that the machine reached: every operation at its window answers as the machine does, and not 3.
-module _ (w : ℕ → ℕ) {n L : ℕ} {m : Session} {h : List Event} (i : Reached (w n) n L m h) (f : Input Operation) where
+module _ (w : ℕ → ℕ) {n L : ℕ} {m : Session} {h : List Event} (i : Reached false (w n) n L m h) (f : Input Operation) where
   pub operates-as : operateAtAs false (w (m .n)) m (f .counts) (f .operation) ≡ perform (w n) m (f .counts) (f .operation)
   operates-as =
       let same : w (m .n) ≡ w n = ap w (i .size) in
       operate-sound false (w (m .n)) m (f .counts) (f .operation) (rw same (i .sound)) ∙ rw same
 
-module _ {n L : ℕ} {m : Session} {h : List Event} (i : Reached (window n) n L m h) (f : Input Operation) where
+module _ {n L : ℕ} {m : Session} {h : List Event} (i : Reached false (window n) n L m h) (f : Input Operation) where
   pub operate-reached : operate m (f .counts) (f .operation) ≡ perform (window n) m (f .counts) (f .operation)
   operate-reached = operates-as window i f
 
-pub never-unsound : {W n L : ℕ} {m : Session} {h : List Event} → Reached W n L m h → (f : Input Operation) →
+pub never-unsound : {W n L : ℕ} {m : Session} {h : List Event} → Reached false W n L m h → (f : Input Operation) →
     perform W m (f .counts) (f .operation) .code ≡ 3 → ⊥
 unfolding perform answered
 never-unsound {m = m} i f e = never-three m (f .counts) (f .operation) (sym (stepped-code _ m _ _ _) ∙ e)
 
 -- A list of calls follows the machine: each is answered as the machine answers, and the session at the end is the machine's.
-pub sessions-followed : (w : ℕ → ℕ) {n L : ℕ} {start : Session} {cs : List SessionCall} {s : Session} → 1 ≤ w n → Reached (w n) n L start [] →
+pub sessions-followed : (w : ℕ → ℕ) {n L : ℕ} {start : Session} {cs : List SessionCall} {s : Session} → 1 ≤ w n → Reached false (w n) n L start [] →
     RunWith w start cs s → EachAsTheMachine (sessions (w n)) start cs × (s ≡ machine (sessions (w n)) start (inputs cs))
 sessions-followed w {n} {L} wide =
-    followed (sessions (w n)) (Reached (w n) n L) (λ s h f. operation-reached wide f)
+    followed (sessions (w n)) (Reached false (w n) n L) (λ s h f. operation-reached wide f)
     (λ s h f i. (promised-operate (w (s .n)) s (f .counts) (f .operation) ∙ operates-as w i f, never-unsound i f))
 
 -- An accepted opening, within limits up to the server's.
 pub opening-reached : (most : Limits) → UpToServer most → (W n L : ℕ) → openingAt most W n L .code ≡ 0 →
-    (1 ≤ n) × Reached W n L (openingAt most W n L .session) []
+    (1 ≤ n) × Reached false W n L (openingAt most W n L .session) []
 opening-reached most up W n L ok =
-    let a = opening-held most up W n L ok in (a .0, rw (a .4) (opened-reached W n L (a .0) (a .1) (a .2) (a .3)))
+    let a = opening-held most up W n L ok in (a .0, rw (a .4) (opened-session W n L (a .0) (a .1) (a .2) (a .3)))
 
 -- The agreement rule, below the threshold of every window.
 pub below-threshold : BelowThreshold

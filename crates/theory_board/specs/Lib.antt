@@ -16,4 +16,5 @@ pub mod Invariant
 pub mod Highest
 pub mod Operations
 pub mod Opening
+pub mod Reached
 pub mod Lists

@@ -19,7 +19,8 @@ use Rattle.model_rule.specs.PollRule.{Gave}
 use Rattle.model_poll_laws.specs.Performs.{pollProcessOf, pollBecomes, perform-cases, others-stay, own-becomes, accepted-below, answered-stays, gives, turn-gives}
 use Rattle.theory_board.specs.Step.{step-older}
 use Rattle.theory_board.specs.Lists.{followed}
-use Rattle.theory_poll.specs.Machine.{PollReached, poll-operation-reached, poll-reached, answer-known}
+use Rattle.theory_board.specs.Reached.{Reached}
+use Rattle.theory_poll.specs.Machine.{poll-operation-reached, poll-reached, answer-known}
 
 -- ---- the calls follow the machine
 
@@ -31,24 +32,24 @@ promised-performs W s c (turns p) ok = rw ok refl
 promised-performs W s c (crashes p) ok = ap unanswered (crash-counts true W s c p ∙ operate-sound true W s c (Crash p) ok)
 
 -- At the window of a poll that the machine reached.
-answered-as : (w : ℕ → ℕ) {n : ℕ} {s : Session} {h : List Event} → PollReached (w n) n s h → (c : Counts) (o : PollOperation) →
+pub answered-as : (w : ℕ → ℕ) {n : ℕ} {s : Session} {h : List Event} → Reached true (w n) n (w n) s h → (c : Counts) (o : PollOperation) →
     pollPromisedAt (w (s .n)) s c o ≡ pollPerform (w n) s c o
 answered-as w {n} {s} m c o =
     let same : w (s .n) ≡ w n = ap w (m .size) in
     promised-performs (w (s .n)) s c o (rw same (m .sound)) ∙ rw same
 
 -- The machine never returns 3.
-never-unsound : (W : ℕ) (s : Session) (c : Counts) (o : PollOperation) → pollPerform W s c o .code ≡ 3 → ⊥
+pub never-unsound : (W : ℕ) (s : Session) (c : Counts) (o : PollOperation) → pollPerform W s c o .code ≡ 3 → ⊥
 unfolding pollPerform perform answered turned
 never-unsound W s c (proposes p v) e = never-three s c (Propose p v) (sym (stepped-code _ s _ _ _) ∙ e)
 never-unsound W s c (turns p) e =
     omega (arith, returned 3 (turnTests s c p) (omega arith) (sym (stepped-code _ s _ _ _) ∙ e) .0)
 never-unsound W s c (crashes p) e = never-three s c (Crash p) (sym (stepped-code _ s _ _ _) ∙ e)
 
-pub polls-followed : (w : ℕ → ℕ) {n : ℕ} {start : Session} {cs : List PollCall} {s : Session} → 1 ≤ w n → PollReached (w n) n start [] →
+pub polls-followed : (w : ℕ → ℕ) {n : ℕ} {start : Session} {cs : List PollCall} {s : Session} → 1 ≤ w n → Reached true (w n) n (w n) start [] →
     PollRunWith w start cs s → EachAsTheMachine (polls (w n)) start cs × (s ≡ machine (polls (w n)) start (inputs cs))
 polls-followed w {n} wide =
-    followed (polls (w n)) (PollReached (w n) n) (λ s h f. poll-operation-reached wide f)
+    followed (polls (w n)) (Reached true (w n) n (w n)) (λ s h f. poll-operation-reached wide f)
     (λ s h f i. (answered-as w i (f .counts) (f .operation), never-unsound (w n) s (f .counts) (f .operation)))
 
 -- ---- the answers
@@ -73,7 +74,7 @@ turn-events : (W : ℕ) (m : Session) (f : Input PollOperation) (p : ℕ) → f 
 turn-events W m f p own accepted = rw (accepted, own) refl
 
 -- The answer of the newest call is of a value that was proposed before it.
-newest-proposed : {W n : ℕ} {start : Session} → 1 ≤ W → PollReached W n start [] → (f : Input PollOperation) (fs : List (Input PollOperation)) (v : ℕ) →
+newest-proposed : {W n : ℕ} {start : Session} → 1 ≤ W → Reached true W n W start [] → (f : Input PollOperation) (fs : List (Input PollOperation)) (v : ℕ) →
     Carries (pollPerform W (machine (polls W) start fs) (f .counts) (f .operation) .answer) v → Proposed v (past (polls W) start fs)
 newest-proposed {W} {n} {start} wide i f fs v has =
     let m = machine (polls W) start fs in
@@ -84,7 +85,7 @@ newest-proposed {W} {n} {start} wide i f fs v has =
     (subst (λ (es : List Event). Proposed v (es ++ past (polls W) start fs)) (turn-events W m f (g .0) (g .1) (g .2)) known)
 
 -- "Each answer was proposed", by an accepted call before it.
-pub answers-proposed : {W n : ℕ} {start : Session} {c : PollCall} {older cs : List PollCall} → 1 ≤ W → PollReached W n start [] → (v : ℕ) →
+pub answers-proposed : {W n : ℕ} {start : Session} {c : PollCall} {older cs : List PollCall} → 1 ≤ W → Reached true W n W start [] → (v : ℕ) →
     EachAsTheMachine (polls W) start cs → Past (c ∷ older) cs → Carries (c .answer .answer) v → Proposed v (past (polls W) start (inputs older))
 answers-proposed {c = c} {older = older} wide i v each here has =
     newest-proposed wide i (c .input) (inputs older) v
@@ -94,7 +95,7 @@ answers-proposed wide i v each (there stood) has = answers-proposed wide i v (ea
 -- ---- the records
 
 -- After one operation, a process with an answer had it before, or the operation is its own accepted turn.
-new-answer : {W n : ℕ} {m : Session} {h : List Event} → PollReached W n m h → (c : Counts) (o : PollOperation) (p v : ℕ) →
+new-answer : {W n : ℕ} {m : Session} {h : List Event} → Reached true W n W m h → (c : Counts) (o : PollOperation) (p v : ℕ) →
     Carries (answerOf (processAt (pollPerform W m c o .session) p)) v →
     (answerOf (processAt m p) ≡ answerOf (processAt (pollPerform W m c o .session) p)) ⊎ ((o ≡ turns p) × (pollPerform W m c o .code ≡ 0))
 unfolding answerOf
@@ -125,7 +126,7 @@ abbrev pub Fresh : Session → Type 0
 Fresh start = (p : ℕ) → processAt start p ≡ idle
 
 -- A record shows an answer only if a turn of its process gave it.
-pub shown-given : {W n : ℕ} {start : Session} → 1 ≤ W → PollReached W n start [] → Fresh start → (cs : List PollCall) → EachAsTheMachine (polls W) start cs →
+pub shown-given : {W n : ℕ} {start : Session} → 1 ≤ W → Reached true W n W start [] → Fresh start → (cs : List PollCall) → EachAsTheMachine (polls W) start cs →
     (p v : ℕ) → let a = answerOf (processAt (machine (polls W) start (inputs cs)) p) in Carries a v → Gave p a cs
 unfolding answerOf
 shown-given {W} {n} {start} wide i fresh [] each p v has = absurd (rw (fresh p) at has)

@@ -3,7 +3,7 @@ use Rattle.base.specs.Prelude.{ℕ, _≤_, _<_, arith, _≡_, refl, _∙_, List
 use Rattle.model_laws.specs.Types.{Phase, HasCommitted, HasAdopted, Session, Counts, Process, Propose, Crash}
 use Rattle.model.specs.Board.{processAt, opened, maxProcesses, maxRounds}
 use Rattle.model.specs.Refusal.{status, isOutside}
-use Rattle.model.specs.Sound.{soundPhaseAs, soundAtAs}
+use Rattle.model.specs.Sound.{soundPhaseAs}
 use Rattle.model_laws.specs.Sounds.{sound-process}
 use Rattle.model_rule.specs.Event.{Event, Proposed, Written, Committed}
 use Rattle.model_rule.specs.System.{machine, ifAccepted, events, past}
@@ -11,70 +11,54 @@ use Rattle.model_rule.specs.Calls.{Input}
 use Rattle.model_rule.specs.Safe.{threshold}
 use Rattle.model_poll.specs.declared.Answer.the-variants.{Commits, Adopts}
 use Rattle.model_poll.specs.Turn.{answerOf, Carries}
-use Rattle.model_poll.specs.Machine.{PollOperation, proposes, turns, crashes, pollPerform}
+use Rattle.model_poll.specs.Machine.{PollOperation, proposes, turns, crashes, turnAfter, pollPerform}
 use Rattle.model_rule.specs.PollCalls.{pollEventsOf, polls}
 use Rattle.model_poll_laws.specs.Opening.{opened-poll-sound}
-use Rattle.model_poll_laws.specs.Sounds.{phase-rule, poll-process, turn-after-sound, proposed-sound, crashed-sound}
+use Rattle.model_poll_laws.specs.Sounds.{phase-rule, poll-limit, poll-process, turn-after-sound, proposed-sound, crashed-sound}
 use Rattle.model_poll_laws.specs.Performs.{PollAccepted, pollAfter, perform-cases, poll-after-size, accepted-here, answer-cases}
 use Rattle.theory_board.specs.Lawful.{commit-lawful}
 use Rattle.theory_board.specs.Place.{Placed}
-use Rattle.theory_board.specs.Invariant.{Invariant}
-use Rattle.theory_board.specs.Operations.{operation-invariant}
-use Rattle.theory_board.specs.Opening.{opened-invariant}
+use Rattle.theory_board.specs.Reached.{Reached, accepted-reached, opened-reached}
 use Rattle.theory_board.specs.Lists.{machine-kept}
 use Rattle.theory_count.specs.Agreed.{agreed}
 use Rattle.theory_poll.specs.Turn.{turn-kept}
 
--- It is sound, has its n still, and keeps the board's invariant.
-pub record PollReached (W n : ℕ) (s : Session) (h : List Event) : Type 0 where
-  pub sound : soundAtAs true W s ≡ true
-  pub size : s .n ≡ n
-  pub invariant : Invariant W s h
-
 -- An accepted operation.
-accepted-reached : {W n : ℕ} {s : Session} {h : List Event} → 1 ≤ W → (c : Counts) (o : PollOperation) → PollReached W n s h → PollAccepted s c o →
-    PollReached W n (pollAfter W s o) (pollEventsOf s o ++ h)
-accepted-reached {W} {n} {s} wide c (proposes p v) i a =
+accepted-poll : {W n : ℕ} {s : Session} {h : List Event} → 1 ≤ W → (c : Counts) (o : PollOperation) → Reached true W n W s h → PollAccepted s c o →
+    Reached true W n W (pollAfter W s o) (pollEventsOf s o ++ h)
+accepted-poll {W} {n} {s} wide c (proposes p v) i a =
+    accepted-reached i c (Propose p v) a (poll-process W s (i .sound) p (accepted-here s c (proposes p v) a)) (proposed-sound W s (i .sound) wide c p v a)
+accepted-poll {W} {n} {s} wide c (turns p) i a =
+    let sound = turn-after-sound W s (i .sound) wide p (a .below) (a .inside) (a .here) in
     record {
-      sound = proposed-sound W s (i .sound) wide c p v a;
-      size = poll-after-size W s (proposes p v) ∙ i .size;
-      invariant = operation-invariant (i .invariant) c (Propose p v) (poll-process W s (i .sound) p (accepted-here s c (proposes p v) a)) a;
-    }
-accepted-reached {W} {n} {s} wide c (turns p) i a =
-    record {
-      sound = turn-after-sound W s (i .sound) wide p (a .below) (a .inside) (a .here);
+      sound = sound;
       size = poll-after-size W s (turns p) ∙ i .size;
+      rounds = poll-limit W (turnAfter W s p) sound;
       invariant = turn-kept (i .invariant) wide (i .sound) c p a;
     }
-accepted-reached {W} {n} {s} wide c (crashes p) i a =
-    record {
-      sound = crashed-sound W s (i .sound) c p a;
-      size = poll-after-size W s (crashes p) ∙ i .size;
-      invariant = operation-invariant (i .invariant) c (Crash p) (poll-process W s (i .sound) p (accepted-here s c (crashes p) a)) a;
-    }
+accepted-poll {W} {n} {s} wide c (crashes p) i a =
+    accepted-reached i c (Crash p) a (poll-process W s (i .sound) p (accepted-here s c (crashes p) a)) (crashed-sound W s (i .sound) c p a)
 
 -- One operation, accepted or refused.
-pub poll-operation-reached : {W n : ℕ} {s : Session} {h : List Event} → 1 ≤ W → (f : Input PollOperation) → PollReached W n s h →
-    PollReached W n (pollPerform W s (f .counts) (f .operation) .session) (events (polls W) s f ++ h)
+pub poll-operation-reached : {W n : ℕ} {s : Session} {h : List Event} → 1 ≤ W → (f : Input PollOperation) → Reached true W n W s h →
+    Reached true W n W (pollPerform W s (f .counts) (f .operation) .session) (events (polls W) s f ++ h)
 poll-operation-reached {W} {n} {s} {h} wide f i =
-    perform-cases (λ k t. PollReached W n t (ifAccepted k (pollEventsOf s (f .operation)) ++ h)) W s (f .counts) (f .operation)
-    (accepted-reached wide (f .counts) (f .operation) i)
+    perform-cases (λ k t. Reached true W n W t (ifAccepted k (pollEventsOf s (f .operation)) ++ h)) W s (f .counts) (f .operation)
+    (accepted-poll wide (f .counts) (f .operation) i)
     (λ k. i)
 
 -- A list of operations.
-pub poll-reached : {W n : ℕ} {start : Session} → 1 ≤ W → PollReached W n start [] → (fs : List (Input PollOperation)) →
-    PollReached W n (machine (polls W) start fs) (past (polls W) start fs)
-poll-reached {W} {n} wide = machine-kept (polls W) (PollReached W n) (λ s h f. poll-operation-reached wide f)
+pub poll-reached : {W n : ℕ} {start : Session} → 1 ≤ W → Reached true W n W start [] → (fs : List (Input PollOperation)) →
+    Reached true W n W (machine (polls W) start fs) (past (polls W) start fs)
+poll-reached {W} {n} wide = machine-kept (polls W) (Reached true W n W) (λ s h f. poll-operation-reached wide f)
 
 -- A poll just opened.
-pub opened-poll-reached : (W n : ℕ) → 1 ≤ n → n ≤ maxProcesses → W ≤ maxRounds → PollReached W n (opened n W) []
-unfolding opened
-opened-poll-reached W n some few low =
-    record { sound = opened-poll-sound W n some few low; size = refl; invariant = opened-invariant W n W few low }
+pub opened-poll : (W n : ℕ) → 1 ≤ n → n ≤ maxProcesses → W ≤ maxRounds → Reached true W n W (opened n W) []
+opened-poll W n some few low = opened-reached W n W (opened-poll-sound W n some few low) few low
 
 -- ---- the answers that the records hold
 
-module _ {W n : ℕ} {s : Session} {h : List Event} (i : PollReached W n s h) (p v : ℕ) (has : Carries (answerOf (processAt s p)) v) where
+module _ {W n : ℕ} {s : Session} {h : List Event} (i : Reached true W n W s h) (p v : ℕ) (has : Carries (answerOf (processAt s p)) v) where
   abbrev q : Process
   q = processAt s p
 
@@ -108,7 +92,7 @@ module _ {W n : ℕ} {s : Session} {h : List Event} (i : PollReached W n s h) (p
       (a .0)
 
 -- "If one answer is committed v, every answer carries v", where the window is wide enough.
-pub answers-agree : {W n : ℕ} {s : Session} {h : List Event} → PollReached W n s h → 2 ≤ W → n < threshold W → (p q u v : ℕ) →
+pub answers-agree : {W n : ℕ} {s : Session} {h : List Event} → Reached true W n W s h → 2 ≤ W → n < threshold W → (p q u v : ℕ) →
     answerOf (processAt s p) ≡ Commits v → Carries (answerOf (processAt s q)) u → u ≡ v
 answers-agree {W} {n} {s} {h} i wide few p q u v e has =
     agreed W (s .n) h wide (rw (i .size) few) (i .invariant .lawful) (answer-committed i p v (rw e refl) e) (answer-known i q u has .1) (omega arith)

@@ -15,7 +15,8 @@ use Rattle.model_rule.specs.PollCalls.{polls, PollCall, isTurnOf, turnsOf}
 use Rattle.model_poll_laws.specs.Sounds.{as-session, round-rule, poll-limit}
 use Rattle.model_poll_laws.specs.Performs.{PollAccepted, pollProcessOf, pollBecomes, perform-cases, others-stay, own-becomes, accepted-below}
 use Rattle.model_poll_laws.specs.Pass.{Taken, taken-none, taken-low, taken-turn}
-use Rattle.theory_poll.specs.Machine.{PollReached, poll-reached}
+use Rattle.theory_board.specs.Reached.{Reached}
+use Rattle.theory_poll.specs.Machine.{poll-reached}
 use Rattle.theory_poll.specs.Calls.{Fresh}
 use Rattle.model_rule.specs.Event.{Event}
 
@@ -29,7 +30,7 @@ not-its-turn (proposes m v) p other = refl
 not-its-turn (turns m) p other = ne-eqb m p (λ e. other (sym e))
 not-its-turn (crashes m) p other = refl
 
-module _ {W n : ℕ} {m : Session} {h : List Event} (i : PollReached W n m h) where
+module _ {W n : ℕ} {m : Session} {h : List Event} (i : Reached true W n W m h) where
   sound-at : (p : ℕ) → soundProcessAs true W W (processAt m p) ≡ true
   sound-at p = rw (poll-limit W m (i .sound)) at (sound-process true W m p (i .sound))
 
@@ -65,7 +66,7 @@ module _ {W n : ℕ} {m : Session} {h : List Event} (i : PollReached W n m h) wh
       (λ j. rw (ne-eqb (suc j) 0 (λ e. omega arith)) k)
 
 -- A list of calls.
-pub calls-taken : {W n : ℕ} {start : Session} → 1 ≤ W → PollReached W n start [] → Fresh start → (cs : List PollCall) → EachAsTheMachine (polls W) start cs → (p : ℕ) →
+pub calls-taken : {W n : ℕ} {start : Session} → 1 ≤ W → Reached true W n W start [] → Fresh start → (cs : List PollCall) → EachAsTheMachine (polls W) start cs → (p : ℕ) →
     TakenBy W (processAt (machine (polls W) start (inputs cs)) p) (turnsOf p cs)
 calls-taken wide i fresh [] each p = rw (fresh p) refl
 calls-taken {W} {n} {start} wide i fresh (c ∷ cs) each p =

@@ -1,5 +1,5 @@
 -- The rule of polls holds at every window that is wide enough; the rule in service is an instance.
-use Rattle.base.specs.Prelude.{ℕ, _*_, _≤_, _<_, arith, _≡_, refl, sym, _∙_, subst, List, [], _∷_}
+use Rattle.base.specs.Prelude.{true, ℕ, _*_, _≤_, _<_, arith, _≡_, refl, sym, _∙_, subst, List, [], _∷_}
 use Rattle.model_laws.specs.Types.{Session}
 use Rattle.model.specs.Window.{window}
 use Rattle.model.specs.Board.{limitsOf, processAt, idle, opened, maxProcesses}
@@ -17,7 +17,8 @@ use Rattle.model_rule.specs.PollCalls.{polls, PollCall}
 use Rattle.model_rule.specs.PollRule.{Gave, PollRule, PollClaimWith, EveryPollWindow, PollClaim, CallerPollClaim}
 use Rattle.model_poll_laws.specs.Opening.{poll-opened}
 use Rattle.theory_board.specs.Opening.{same-everywhere}
-use Rattle.theory_poll.specs.Machine.{PollReached, poll-reached, opened-poll-reached, answers-agree}
+use Rattle.theory_board.specs.Reached.{Reached}
+use Rattle.theory_poll.specs.Machine.{poll-reached, opened-poll, answers-agree}
 use Rattle.theory_poll.specs.Unanimous.{AllCalm, machine-calm, opened-calm, calm-answer}
 use Rattle.theory_poll.specs.Calls.{Fresh, polls-followed, held, answers-proposed, shown-given}
 use Rattle.theory_poll.specs.Passes.{taken-pass, calls-taken}
@@ -27,7 +28,7 @@ turns-of e = cc
 
 -- ---- of the machine, at any window W with 2 ≤ W and a threshold above n
 
-module _ {W n : ℕ} {start : Session} (wide : 2 ≤ W) (few : n < threshold W) (i : PollReached W n start []) (fresh : Fresh start) (calm : AllCalm start []) (cs : List PollCall)
+module _ {W n : ℕ} {start : Session} (wide : 2 ≤ W) (few : n < threshold W) (i : Reached true W n W start []) (fresh : Fresh start) (calm : AllCalm start []) (cs : List PollCall)
     (each : EachAsTheMachine (polls W) start cs) where
   abbrev m : Session
   m = machine (polls W) start (inputs cs)
@@ -35,7 +36,7 @@ module _ {W n : ℕ} {start : Session} (wide : 2 ≤ W) (few : n < threshold W) 
   some : 1 ≤ W
   some = omega arith
 
-  here : PollReached W n m (past (polls W) start (inputs cs))
+  here : Reached true W n W m (past (polls W) start (inputs cs))
   here = poll-reached some i (inputs cs)
 
   -- The process of a call that gave an answer, with that answer.
@@ -80,7 +81,7 @@ poll-below-threshold w n few most up ok cs s run =
     let o = poll-opened most up (w n) n ok in
     let least : 2 ≤ w n = below-wide (w n) n (o .0) few in
     let wide : 1 ≤ w n = omega arith in
-    let reached = opened-poll-reached (w n) n (o .0) (o .1) (o .2) in
+    let reached = opened-poll (w n) n (o .0) (o .1) (o .2) in
     let f = polls-followed w wide reached (rw (o .3) at run) in
     rw (o .3)
     (f .0, f .1, rw (f .1) (calls-rule least few reached (opened-fresh (w n) n) (opened-calm (w n) n) cs (f .0)))

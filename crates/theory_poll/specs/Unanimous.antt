@@ -25,7 +25,8 @@ use Rattle.model_rule.specs.PollCalls.{pollEventsOf, polls}
 use Rattle.model_poll_laws.specs.Answers.{TurnAccepted}
 use Rattle.model_poll_laws.specs.Sounds.{poll-process}
 use Rattle.model_poll_laws.specs.Performs.{PollAccepted, pollProcessOf, pollAfter, pollBecomes, perform-cases, others-stay, own-becomes, accepted-below, answer-cases}
-use Rattle.theory_poll.specs.Machine.{PollReached, poll-reached, answer-known}
+use Rattle.theory_board.specs.Reached.{Reached}
+use Rattle.theory_poll.specs.Machine.{poll-reached, answer-known}
 
 -- All that was proposed is v.
 abbrev pub Only : (v : ℕ) → List Event → Type 0
@@ -131,7 +132,7 @@ pub record AllCalm (s : Session) (h : List Event) : Type 0 where
   pub none : NoFlag h
 
 -- A turn of a calm poll.
-turn-calm : {W n : ℕ} {s : Session} {h : List Event} → PollReached W n s h → 1 ≤ W → (v : ℕ) → Only v h → (c : Counts) (p : ℕ) → TurnAccepted s c p → AllCalm s h →
+turn-calm : {W n : ℕ} {s : Session} {h : List Event} → Reached true W n W s h → 1 ≤ W → (v : ℕ) → Only v h → (c : Counts) (p : ℕ) → TurnAccepted s c p → AllCalm s h →
     Calm (pollBecomes W s (turns p) .phase)
 unfolding pollNext pollAccess access next
 turn-calm {W} {n} {s} {h} i wide v only c p a k =
@@ -142,7 +143,7 @@ turn-calm {W} {n} {s} {h} i wide v only c p a k =
     (k .calm p)
 
 -- One operation: its own process becomes calm, and the others stay so.
-accepted-calm : {W n : ℕ} {s : Session} {h : List Event} → PollReached W n s h → 1 ≤ W → (v : ℕ) → Only v h → (c : Counts) (o : PollOperation) →
+accepted-calm : {W n : ℕ} {s : Session} {h : List Event} → Reached true W n W s h → 1 ≤ W → (v : ℕ) → Only v h → (c : Counts) (o : PollOperation) →
     PollAccepted s c o → AllCalm s h → AllCalm (pollAfter W s o) (pollEventsOf s o ++ h)
 accepted-calm {W} {n} {s} {h} i wide v only c o a k =
     record { calm = λ p. elim (ℕ-discrete p (pollProcessOf o)) [ yes e ↦ rw e own | no ne ↦ rw (others-stay W s o p ne) (k .calm p) ]; none = unflagged o }
@@ -161,7 +162,7 @@ accepted-calm {W} {n} {s} {h} i wide v only c o a k =
     unflagged (crashes p) = k .none
 
 -- A list of operations.
-pub machine-calm : {W n : ℕ} {start : Session} → 1 ≤ W → PollReached W n start [] → AllCalm start [] → (v : ℕ) (fs : List (Input PollOperation)) →
+pub machine-calm : {W n : ℕ} {start : Session} → 1 ≤ W → Reached true W n W start [] → AllCalm start [] → (v : ℕ) (fs : List (Input PollOperation)) →
     Only v (past (polls W) start fs) → AllCalm (machine (polls W) start fs) (past (polls W) start fs)
 machine-calm wide i k v [] only = k
 machine-calm {W} {n} {start} wide i k v (f ∷ fs) only =
@@ -183,7 +184,7 @@ committed-is : (φ : Phase) (e v : ℕ) → φ ≡ HasCommitted → e ≡ v → 
 committed-is φ e v a b = rw (a, b) refl
 
 -- An answer of a calm process is committed, and carries v.
-pub calm-answer : {W n : ℕ} {s : Session} {h : List Event} → PollReached W n s h → (v : ℕ) → Only v h → AllCalm s h → (p u : ℕ) →
+pub calm-answer : {W n : ℕ} {s : Session} {h : List Event} → Reached true W n W s h → (v : ℕ) → Only v h → AllCalm s h → (p u : ℕ) →
     Carries (answerOf (processAt s p)) u → answerOf (processAt s p) ≡ Commits v
 unfolding answerOf
 calm-answer {s = s} i v only k p u has =

@@ -1,5 +1,5 @@
 -- Contested is the number of marked rounds, after every list of calls on one tally and after every sheet.
-use Rattle.base.specs.Prelude.{ℕ, suc, zero, _≤_, arith, _≡_, refl, _∙_, ap, List, [], _∷_, eqb}
+use Rattle.base.specs.Prelude.{false, ℕ, suc, zero, _≤_, arith, _≡_, refl, _∙_, ap, List, [], _∷_, eqb}
 use Rattle.base.specs.Bools.{cond-cases}
 use Rattle.model_laws.specs.Types.{Limits, Session, Counts, Operation, Entry, WellFormed, Malformed, Ran, Stepped}
 use Rattle.model.specs.Window.{window}
@@ -14,7 +14,8 @@ use Rattle.model_rule.specs.System.{inputs, machine, EachAsTheMachine}
 use Rattle.model_rule.specs.Calls.{sessions, SessionCall}
 use Rattle.model_rule.specs.Contested.{markedTo, markedRounds, OneTally, ContestedRule, ContestedRun}
 use Rattle.theory_board.specs.Opening.{same-everywhere}
-use Rattle.theory_agreement.specs.Machine.{Reached, operation-reached, machine-reached}
+use Rattle.theory_board.specs.Reached.{Reached}
+use Rattle.theory_agreement.specs.Machine.{operation-reached, machine-reached}
 use Rattle.theory_agreement.specs.Theorem.{sessions-followed, opening-reached}
 use Rattle.theory_sheet.specs.Runs.{sheet-reached}
 use Rattle.theory_sheet.specs.Marks.{perform-contested}
@@ -38,12 +39,12 @@ opening-contested most W n L = go (refusal (openTestsAt most W n L))
 
 module _ {n L : ℕ} (wide : 1 ≤ window n) where
   -- One operation on a session that the machine reached.
-  reached-contested : {s : Session} {h : List Event} (c : Counts) (o : Operation) → Reached (window n) n L s h → c .contested ≡ markedRounds s →
+  reached-contested : {s : Session} {h : List Event} (c : Counts) (o : Operation) → Reached false (window n) n L s h → c .contested ≡ markedRounds s →
       perform (window n) s c o .counts .contested ≡ markedRounds (perform (window n) s c o .session)
   reached-contested {s} c o i same = perform-contested s c same (i .invariant .long .marks) (window n) o (i .sound)
 
   -- Calls that are answered as the machine answers.
-  calls-contested : {start : Session} → Reached (window n) n L start [] → 0 ≡ markedRounds start → (cs : List SessionCall) →
+  calls-contested : {start : Session} → Reached false (window n) n L start [] → 0 ≡ markedRounds start → (cs : List SessionCall) →
       EachAsTheMachine (sessions (window n)) start cs → (c : Counts) → OneTally cs c → c .contested ≡ markedRounds (machine (sessions (window n)) start (inputs cs))
   calls-contested i first [] each c tally = rw tally first
   calls-contested i first (k ∷ ks) each c tally =
@@ -54,7 +55,7 @@ module _ {n L : ℕ} (wide : 1 ≤ window n) where
       ∙ reached-contested (f .counts) (f .operation) (machine-reached wide i (inputs ks)) before)
 
   -- Entry after entry.
-  runs-contested : {s : Session} {h : List Event} (b k : ℕ) (c : Counts) (es : List Entry) → Reached (window n) n L s h →
+  runs-contested : {s : Session} {h : List Event} (b k : ℕ) (c : Counts) (es : List Entry) → Reached false (window n) n L s h →
       c .contested ≡ markedRounds s →
       let r = runFrom (window n) b k s c es in r .counts .contested ≡ markedRounds (r .session)
   unfolding runBy

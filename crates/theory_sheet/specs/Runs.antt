@@ -1,5 +1,5 @@
 -- A run of a sheet is the public operations, one after another, and the machine after the entries that were carried out.
-use Rattle.base.specs.Prelude.{ℕ, suc, zero, _+_, _≤_, arith, _≡_, refl, sym, _∙_, ap, cond, List, [], _∷_, length, take, eqb, eq-eqb}
+use Rattle.base.specs.Prelude.{false, ℕ, suc, zero, _+_, _≤_, arith, _≡_, refl, sym, _∙_, ap, cond, List, [], _∷_, length, take, eqb, eq-eqb}
 use Rattle.base.specs.Bools.{cond-cases}
 use Rattle.model_laws.specs.Types.{Limits, Server, Session, Counts, Operation, Entry, WellFormed, Malformed, Ending, Finished, Refused, BudgetEnded, Process, Ran}
 use Rattle.model.specs.Window.{window}
@@ -19,14 +19,15 @@ use Rattle.model_rule.specs.Event.{Event}
 use Rattle.model_rule.specs.System.{machine, past}
 use Rattle.model_rule.specs.Calls.{Input, sessions}
 use Rattle.model_rule.specs.Rule.{Rule}
-use Rattle.theory_agreement.specs.Machine.{Reached, operation-reached, machine-reached, opened-reached, reached-rule}
+use Rattle.theory_board.specs.Reached.{Reached}
+use Rattle.theory_agreement.specs.Machine.{operation-reached, machine-reached, opened-session, reached-rule}
 use Rattle.theory_agreement.specs.Theorem.{operate-reached, never-unsound}
 
 -- ---- the public operations
 
 module _ {n L : ℕ} (wide : 1 ≤ window n) where
   -- Entry after entry, from a session that the machine reached: they answer as the machine does, and none is refused with 3.
-  operate-runs : {s : Session} {h : List Event} (b k : ℕ) (c : Counts) (es : List Entry) → Reached (window n) n L s h →
+  operate-runs : {s : Session} {h : List Event} (b k : ℕ) (c : Counts) (es : List Entry) → Reached false (window n) n L s h →
       let r = runFrom (window n) b k s c es in
       (runBy operate b k s c es ≡ r) × ((j : ℕ) → r .ending ≡ Refused unsound j → ⊥)
   unfolding runBy soundAs
@@ -110,10 +111,10 @@ module _ (most : Limits) (up : UpToServer most) (t : List ℕ) (budget : ℕ) (o
   pub sheet-opens : refusal (openTests most (processCount t) (roundLimit t)) ≡ 0
   sheet-opens = let a = sheet-facts most t ok .opens in rw (a .0, a .1 .0)
 
-  pub sheet-reached : (1 ≤ processCount t) × Reached (windowOf t) (processCount t) (roundLimit t) (openedBy t) []
+  pub sheet-reached : (1 ≤ processCount t) × Reached false (windowOf t) (processCount t) (roundLimit t) (openedBy t) []
   sheet-reached =
       let a = open-held most up (windowOf t) (processCount t) (roundLimit t) sheet-opens in
-      (a .0, opened-reached (windowOf t) (processCount t) (roundLimit t) (a .0) (a .1) (a .2) (a .3))
+      (a .0, opened-session (windowOf t) (processCount t) (roundLimit t) (a .0) (a .1) (a .2) (a .3))
 
   wide : 1 ≤ windowOf t
   wide = omega (arith, window-least (processCount t) (sheet-reached .0))
