@@ -11,7 +11,7 @@ use Rattle.model.specs.Window.{window}
 use Rattle.model.specs.Board.{limitsOf, UpToServer, processAt}
 use Rattle.model.specs.Refusal.{status}
 use Rattle.model_rule.specs.Event.{Past, Proposed}
-use Rattle.model_rule.specs.System.{machine, past, inputs, EachAsTheMachine}
+use Rattle.model_rule.specs.System.{machine, past, inputs, EachAsTheMachine, AfterEach}
 use Rattle.model_poll.specs.declared.Answer.{Answer}
 use Rattle.model_poll.specs.declared.Answer.the-variants.{Commits}
 use Rattle.model_poll.specs.Turn.{answerOf, Carries, passTurns}
@@ -53,7 +53,7 @@ PollClaimWithin most w n =
     → PollRunWith w (start .session) cs s
     → EachAsTheMachine (polls (w n)) (start .session) cs
     × (s ≡ machine (polls (w n)) (start .session) (inputs cs))
-    × PollRule (w n) (start .session) cs s
+    × AfterEach (polls (w n)) (λ s cs. PollRule (w n) (start .session) cs s) (start .session) cs
 
 -- 02, wish 9: within any limits up to the server's, as `AgreementWith` of `model_rule`.
 abbrev pub PollClaimWith : (w : ℕ → ℕ) → (n : ℕ) → Type 0

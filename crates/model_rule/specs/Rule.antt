@@ -11,7 +11,7 @@ use Rattle.model.specs.Board.{limitsOf, UpToServer, processAt}
 use Rattle.model.specs.Machine.{openingAt}
 use Rattle.model_rule.specs.Event.{Event, Past, Proposed, Written, Committed, DecidedOn}
 use Rattle.model_rule.specs.Event.Event.{commit}
-use Rattle.model_rule.specs.System.{machine, past, inputs, EachAsTheMachine}
+use Rattle.model_rule.specs.System.{machine, past, inputs, EachAsTheMachine, AfterEach}
 use Rattle.model_rule.specs.Calls.{sessions, SessionCall, RunWith}
 
 -- v was proposed before it first stood in D: before the first commit of v.
@@ -41,7 +41,7 @@ pub record Rule (s : Session) (h : List Event) : Type 0 where
 -- The claim, within a caller's limits, of n processes and round limit L, where w n is the window of n processes.
 -- "The list starts from the session of any accepted opening. Each call is given the session that the last one returned or, refused, left." (`RunWith`)
 -- "Its words are meant by the machine above, begun at that opening." (`machine`, `past`) "After each call, refused or not, its answer, the tally and the
--- session (n, L, registers, marks, D and seat records) equal the machine's" (`EachAsTheMachine`), "and the rule holds of that session."
+-- session (n, L, registers, marks, D and seat records) equal the machine's" (`EachAsTheMachine`), "and the rule holds of that session" (`AfterEach`).
 abbrev pub AgreementWithin : Limits → (w : ℕ → ℕ) → (n L : ℕ) → Type 0
 AgreementWithin most w n L =
     let start = openingAt most (w n) n L in
@@ -50,7 +50,7 @@ AgreementWithin most w n L =
     → RunWith w (start .session) cs s
     → EachAsTheMachine (sessions (w n)) (start .session) cs
     × (s ≡ machine (sessions (w n)) (start .session) (inputs cs))
-    × Rule s (past (sessions (w n)) (start .session) (inputs cs))
+    × AfterEach (sessions (w n)) (λ s cs. Rule s (past (sessions (w n)) (start .session) (inputs cs))) (start .session) cs
 
 -- 02, wish 9: "Agreement and step rules are shown once for any limits up to the server's."
 abbrev pub AgreementWith : (w : ℕ → ℕ) → (n L : ℕ) → Type 0

@@ -55,3 +55,14 @@ module _ {State Input Answer Event : Type 0} (M : System State Input Answer Even
   EachAsTheMachine start [] = Unit {0}
   EachAsTheMachine start (c ∷ cs) =
       (c .answer ≡ M .perform (machine start (inputs cs)) (c .input)) × (M .code (c .answer) ≡ 3 → ⊥) × EachAsTheMachine start cs
+
+  -- P holds of the start and no calls, and after each call of the state that it left and the calls up to it.
+  abbrev pub AfterEach : (P : State → List (Call Input Answer) → Type 0) → State → List (Call Input Answer) → Type 0
+  AfterEach P start [] = P start []
+  AfterEach P start (c ∷ cs) = P (M .state (c .answer)) (c ∷ cs) × AfterEach P start cs
+
+  -- So it holds at the end.
+  pub at-the-end : (P : State → List (Call Input Answer) → Type 0) {promised : State → Input → Answer} {start s : State} {cs : List (Call Input Answer)} →
+      Run (M .state) promised start cs s → AfterEach P start cs → P s cs
+  at-the-end P none holds = holds
+  at-the-end P (call run c e) holds = holds .0

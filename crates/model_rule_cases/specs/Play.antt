@@ -9,7 +9,7 @@ use Rattle.model.specs.declared.Operation.{Operation}
 use Rattle.model.specs.declared.Operation.the-variants.{Step}
 use Rattle.model.specs.Board.{noCounts}
 use Rattle.model.specs.Machine.{openingAt}
-use Rattle.model_rule.specs.System.{System, Call, inputs, Run, none, call, machine, events, past}
+use Rattle.model_rule.specs.System.{System, Call, inputs, Run, none, call, machine, events, past, at-the-end}
 use Rattle.model_rule.specs.Calls.{Input, sessions, RunWith}
 use Rattle.model_rule.specs.Rule.{Rule, AgreementWithin}
 
@@ -70,4 +70,5 @@ breaks-rule most w n L os ok never rule =
     let start = openingAt most (w n) n L .session in
     let c : Called (RunWith w start) (fedBy os []) = called (fedBy os []) in
     let same = ap (past M start) (c .same) ∙ sym (ap (λ x. x .1) (played-machine M start os [])) in
-    never (c .left) (subst (Rule (c .left)) same (rule ok (c .calls) (c .left) (c .run) .2))
+    let holds = at-the-end M (λ s cs. Rule s (past M start (inputs cs))) (c .run) (rule ok (c .calls) (c .left) (c .run) .2) in
+    never (c .left) (subst (Rule (c .left)) same holds)

@@ -11,13 +11,13 @@ use Rattle.model_laws.specs.Accepted.{never-three}
 use Rattle.model_laws.specs.Callers.{caller-limits, opening-held}
 use Rattle.model_laws.specs.Answers.{stepped-code, operate-sound, propose-counts, crash-counts}
 use Rattle.model_rule.specs.Event.{Event}
-use Rattle.model_rule.specs.System.{inputs, machine, EachAsTheMachine}
+use Rattle.model_rule.specs.System.{inputs, machine, past, EachAsTheMachine}
 use Rattle.model_rule.specs.Calls.{Input, sessions, SessionCall, promisedAt, RunWith}
-use Rattle.model_rule.specs.Rule.{EveryWindow, AgreementRule, CallerAgreement}
+use Rattle.model_rule.specs.Rule.{Rule, EveryWindow, AgreementRule, CallerAgreement}
 use Rattle.model_rule.specs.Safe.{Safe, BelowThreshold}
 use Rattle.theory_count.specs.Grid.{wide-below, below-wide}
 use Rattle.theory_board.specs.Reached.{Reached}
-use Rattle.theory_board.specs.Lists.{followed}
+use Rattle.theory_board.specs.Lists.{followed, after-each}
 use Rattle.theory_agreement.specs.Machine.{operation-reached, machine-reached, opened-session, reached-below}
 
 -- What a call answers is what the operation answers: a proposal and a crash leave any counts.
@@ -60,11 +60,15 @@ opening-reached most up W n L ok =
 -- The agreement rule, below the threshold of every window.
 pub below-threshold : BelowThreshold
 below-threshold w n L few most up ok cs s run =
+    let M = sessions (w n) in
+    let start = openingAt most (w n) n L .session in
     let o = opening-reached most up (w n) n L ok in
     let least : 2 ≤ w n = below-wide (w n) n (o .0) few in
     let wide : 1 ≤ w n = omega arith in
     let f = sessions-followed w wide (o .1) run in
-    (f .0, f .1, rw (f .1) (reached-below least few (machine-reached wide (o .1) (inputs cs))))
+    let holds : (cs : List SessionCall) (s : Session) → RunWith w start cs s → Rule s (past M start (inputs cs)) =
+    λ cs s run. rw (sessions-followed w wide (o .1) run .1) (reached-below least few (machine-reached wide (o .1) (inputs cs))) in
+    (f .0, f .1, after-each M (λ s cs. Rule s (past M start (inputs cs))) holds run)
 
 -- Where the square of the window is at least 4n.
 pub every-window : EveryWindow

@@ -1,6 +1,6 @@
 -- Lists of calls on any machine: what each operation keeps, a list of them keeps; and calls that answer as the machine does, one by one, follow it.
 use Rattle.base.specs.Prelude.{_≡_, refl, sym, _∙_, ap, List, [], _∷_, _++_}
-use Rattle.model_rule.specs.System.{System, Call, inputs, Run, none, call, machine, events, past, EachAsTheMachine}
+use Rattle.model_rule.specs.System.{System, Call, inputs, Run, none, call, machine, events, past, EachAsTheMachine, AfterEach}
 
 module _ {State Input Answer Event : Type 0} (M : System State Input Answer Event) (Kept : State → List Event → Type 0)
     (keeps : (s : State) (h : List Event) (f : Input) → Kept s h → Kept (M .state (M .perform s f)) (events M s f ++ h)) where
@@ -18,3 +18,10 @@ module _ {State Input Answer Event : Type 0} (M : System State Input Answer Even
         let a = answers _ _ (c .input) (machine-kept i (inputs cs)) in
         let e = (rw (f .1) at promise) ∙ a .0 in
         ((e, λ three. a .1 (sym (ap (M .code) e) ∙ three), f .0), ap (M .state) e)
+
+-- What holds at the end of every list holds after each call of a list: the calls up to it are a list too.
+pub after-each : {State Input Answer Event : Type 0} (M : System State Input Answer Event) (P : State → List (Call Input Answer) → Type 0)
+    {promised : State → Input → Answer} {start s : State} {cs : List (Call Input Answer)} →
+    ((cs : List (Call Input Answer)) (s : State) → Run (M .state) promised start cs s → P s cs) → Run (M .state) promised start cs s → AfterEach M P start cs
+after-each M P all none = all _ _ none
+after-each M P all (call run c e) = (all _ _ (call run c e), after-each M P all run)

@@ -13,10 +13,11 @@ use Rattle.model_poll.specs.declared.Answer.{Answer}
 use Rattle.model_poll.specs.Turn.{answerOf, Carries}
 use Rattle.model_poll.specs.Machine.{turns}
 use Rattle.model_rule.specs.System.{inputs, machine, past, EachAsTheMachine}
-use Rattle.model_rule.specs.PollCalls.{polls, PollCall}
+use Rattle.model_rule.specs.PollCalls.{polls, PollCall, PollRunWith}
 use Rattle.model_rule.specs.PollRule.{Gave, PollRule, PollClaimWith, EveryPollWindow, PollClaim, CallerPollClaim}
 use Rattle.model_poll_laws.specs.Opening.{poll-opened}
 use Rattle.theory_board.specs.Opening.{same-everywhere}
+use Rattle.theory_board.specs.Lists.{after-each}
 use Rattle.theory_board.specs.Reached.{Reached}
 use Rattle.theory_poll.specs.Machine.{poll-reached, opened-poll, answers-agree}
 use Rattle.theory_poll.specs.Unanimous.{AllCalm, machine-calm, opened-calm, calm-answer}
@@ -78,13 +79,18 @@ opened-fresh W n p = same-everywhere maxProcesses p idle
 -- The rule of polls, below the threshold of every window.
 pub poll-below-threshold : PollBelowThreshold
 poll-below-threshold w n few most up ok cs s run =
+    let start = opened n (w n) in
     let o = poll-opened most up (w n) n ok in
     let least : 2 ≤ w n = below-wide (w n) n (o .0) few in
     let wide : 1 ≤ w n = omega arith in
     let reached = opened-poll (w n) n (o .0) (o .1) (o .2) in
-    let f = polls-followed w wide reached (rw (o .3) at run) in
-    rw (o .3)
-    (f .0, f .1, rw (f .1) (calls-rule least few reached (opened-fresh (w n) n) (opened-calm (w n) n) cs (f .0)))
+    let here : PollRunWith w start cs s = rw (o .3) at run in
+    let f = polls-followed w wide reached here in
+    let holds : (cs : List PollCall) (s : Session) → PollRunWith w start cs s → PollRule (w n) start cs s =
+    λ cs s run.
+    let f = polls-followed w wide reached run in
+    rw (f .1) (calls-rule least few reached (opened-fresh (w n) n) (opened-calm (w n) n) cs (f .0)) in
+    rw (o .3) (f .0, f .1, after-each (polls (w n)) (λ s cs. PollRule (w n) start cs s) holds here)
 
 -- Where the square of the window is at least 4n.
 pub every-poll-window : EveryPollWindow
