@@ -8,12 +8,17 @@ use lib.ListN.{getD}
 use Rattle.model.specs.declared.Session.{Session}
 use Rattle.model.specs.declared.Counts.{Counts}
 use Rattle.model.specs.declared.Limits.{Limits}
+use Rattle.model.specs.declared.Stepped.{Stepped}
 use Rattle.model.specs.Window.{window}
 use Rattle.model.specs.Board.{UpToServer, noCounts}
 use Rattle.model.specs.Step.{bit}
 use Rattle.model.specs.Machine.{openingAt}
 use Rattle.model.specs.Runner.{runWithin}
-use Rattle.model_rule.specs.Calls.{SessionCall, RunWith}
+use Rattle.model_poll.specs.declared.PollStepped.{PollStepped}
+use Rattle.model_poll.specs.Machine.{pollOpeningAt}
+use Rattle.model_rule.specs.System.{Call}
+use Rattle.model_rule.specs.Calls.{Input, RunWith}
+use Rattle.model_rule.specs.PollCalls.{PollRunWith}
 
 -- How many of the rounds 1 to r are marked.
 abbrev pub markedTo : (marks : List Bool) → (r : ℕ) → ℕ
@@ -24,21 +29,29 @@ markedTo marks (suc r) = markedTo marks r + bit (getD marks r false)
 abbrev pub markedRounds : Session → ℕ
 markedRounds s = markedTo (s .marks) (s .limit)
 
--- The calls, newest first, are on one tally that began empty and stands at c now: each is given the counts that the one before left.
-abbrev pub OneTally : List SessionCall → Counts → Type 0
-OneTally [] c = c ≡ noCounts
-OneTally (k ∷ ks) c = (c ≡ k .answer .counts) × OneTally ks (k .input .counts)
+-- The calls, newest first, are on one tally that began empty and stands at c now: each is given the counts that the one before left. (The counts in an
+-- answer are its `tally`.)
+abbrev pub OneTally : {O A : Type 0} → (tally : A → Counts) → List (Call (Input O) A) → Counts → Type 0
+OneTally tally [] c = c ≡ noCounts
+OneTally tally (k ∷ ks) c = (c ≡ tally (k .answer)) × OneTally tally ks (k .input .counts)
 
--- The claim, of every list of calls from every accepted opening, within any limits up to the server's (02, wish 9).
+-- "All of it and nothing else on one tally": of every list of calls.
+abbrev pub CountsMarked : {O A : Type 0} → (tally : A → Counts) → (Runs : List (Call (Input O) A) → Session → Type 0) → Type 0
+CountsMarked {O} {A} tally Runs = (cs : List (Call (Input O) A)) (s : Session) (c : Counts) → Runs cs s → OneTally tally cs c → c .contested ≡ markedRounds s
+
+-- The claim, of every list of calls from every accepted opening, within any limits up to the server's (02, wish 9), of sessions,
 abbrev pub ContestedRule : Type 0
 ContestedRule =
     (most : Limits) → UpToServer most → (n L : ℕ) →
     let start = openingAt most (window n) n L in
-    start .code ≡ 0
-    → (cs : List SessionCall) (s : Session) (c : Counts)
-    → RunWith window (start .session) cs s
-    → OneTally cs c
-    → c .contested ≡ markedRounds s
+    start .code ≡ 0 → CountsMarked (λ (a : Stepped). a .counts) (RunWith window (start .session))
+
+-- and of polls: "Here and below, each call of a run or order gets the session (later: poll, house) that the one before left."
+abbrev pub PollContestedRule : Type 0
+PollContestedRule =
+    (most : Limits) → UpToServer most → (n : ℕ) →
+    let start = pollOpeningAt most (window n) n in
+    start .code ≡ 0 → CountsMarked (λ (a : PollStepped). a .counts) (PollRunWith window (start .session))
 
 -- And of every sheet, refused or not, and every budget.
 abbrev pub ContestedRun : Type 0

@@ -18,3 +18,4 @@ pub mod Operations
 pub mod Opening
 pub mod Reached
 pub mod Lists
+pub mod Marks

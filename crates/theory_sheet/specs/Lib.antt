@@ -3,5 +3,4 @@
 pub mod Runs
 pub mod Entries
 pub mod Export
-pub mod Marks
 pub mod Contested
