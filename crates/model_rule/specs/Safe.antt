@@ -4,6 +4,7 @@ use Rattle.model.specs.declared.Caller.the-variants.{Server}
 use Rattle.model.specs.declared.Limits.{Limits}
 use Rattle.model.specs.Board.{limitsOf, maxProcesses}
 use Rattle.model_rule.specs.Rule.{AgreementWithin, AgreementWith}
+use Rattle.model_rule.specs.PollRule.{PollClaimWithin, PollClaimWith}
 
 -- Window W is safe for n processes: the agreement rule holds of every list of calls, whatever the round limit.
 abbrev pub Safe : (W n : ℕ) → Type 0
@@ -28,3 +29,20 @@ BelowThreshold = (w : ℕ → ℕ) (n L : ℕ) → n < threshold (w n) → Agree
 -- within the server's limits it is not.
 abbrev pub ExactWindows : Type 0
 ExactWindows = (W n : ℕ) → 2 ≤ W → n ≤ maxProcesses → (n < threshold W → Safe W n) × (threshold W ≤ n → SafeWithin (limitsOf Server) W n → ⊥)
+
+-- ---- "Polls are covered too."
+
+-- Window W is safe for polls of n processes: the rule of polls holds of every list of calls.
+abbrev pub PollSafe : (W n : ℕ) → Type 0
+PollSafe W n = PollClaimWith (λ m. W) n
+
+-- The same within given limits.
+abbrev pub PollSafeWithin : Limits → (W n : ℕ) → Type 0
+PollSafeWithin most W n = PollClaimWithin most (λ m. W) n
+
+-- The rule below the threshold, and the answer from both sides, as those of sessions.
+abbrev pub PollBelowThreshold : Type 0
+PollBelowThreshold = (w : ℕ → ℕ) (n : ℕ) → n < threshold (w n) → PollClaimWith w n
+
+abbrev pub ExactPollWindows : Type 0
+ExactPollWindows = (W n : ℕ) → 2 ≤ W → n ≤ maxProcesses → (n < threshold W → PollSafe W n) × (threshold W ≤ n → PollSafeWithin (limitsOf Server) W n → ⊥)

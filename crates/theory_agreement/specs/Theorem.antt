@@ -5,7 +5,7 @@ use Rattle.model_laws.specs.Types.{Limits, Session, Counts, Operation, Propose,
 use Rattle.model.specs.Window.{window}
 use Rattle.model.specs.Board.{limitsOf, UpToServer}
 use Rattle.model.specs.Machine.{answered, perform, openingAt}
-use Rattle.model.specs.Public.{operateAtAs, operate, stepAt, learnAt}
+use Rattle.model.specs.Public.{operateAtAs, stepAt, learnAt}
 use Rattle.model_laws.specs.Windows.{window-square}
 use Rattle.model_laws.specs.Accepted.{never-three}
 use Rattle.model_laws.specs.Callers.{caller-limits, opening-held}
@@ -34,10 +34,6 @@ module _ (w : ℕ → ℕ) {n L : ℕ} {m : Session} {h : List Event} (i : Reach
   operates-as =
       let same : w (m .n) ≡ w n = ap w (i .size) in
       operate-sound false (w (m .n)) m (f .counts) (f .operation) (rw same (i .sound)) ∙ rw same
-
-module _ {n L : ℕ} {m : Session} {h : List Event} (i : Reached false (window n) n L m h) (f : Input Operation) where
-  pub operate-reached : operate m (f .counts) (f .operation) ≡ perform (window n) m (f .counts) (f .operation)
-  operate-reached = operates-as window i f
 
 pub never-unsound : {W n L : ℕ} {m : Session} {h : List Event} → Reached false W n L m h → (f : Input Operation) →
     perform W m (f .counts) (f .operation) .code ≡ 3 → ⊥

@@ -1,3 +1,2 @@
 -- The contracts of the functions that the agreement rule and the rule of polls speak of.
 pub mod Contracts
-pub mod PollContracts

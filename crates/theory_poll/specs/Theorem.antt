@@ -6,8 +6,7 @@ use Rattle.model.specs.Board.{limitsOf, processAt, idle, opened, maxProcesses}
 use Rattle.model_laws.specs.Windows.{window-square}
 use Rattle.model_laws.specs.Callers.{caller-limits}
 use Rattle.model_rule.specs.Event.{Past}
-use Rattle.model_rule.specs.Safe.{threshold}
-use Rattle.model_rule.specs.PollSafe.{PollBelowThreshold}
+use Rattle.model_rule.specs.Safe.{threshold, PollBelowThreshold}
 use Rattle.theory_count.specs.Grid.{wide-below, below-wide}
 use Rattle.model_poll.specs.declared.Answer.{Answer}
 use Rattle.model_poll.specs.Turn.{answerOf, Carries}

@@ -21,7 +21,7 @@ use Rattle.model_rule.specs.Calls.{Input, sessions}
 use Rattle.model_rule.specs.Rule.{Rule}
 use Rattle.theory_board.specs.Reached.{Reached}
 use Rattle.theory_agreement.specs.Machine.{operation-reached, machine-reached, opened-session, reached-rule}
-use Rattle.theory_agreement.specs.Theorem.{operate-reached, never-unsound}
+use Rattle.theory_agreement.specs.Theorem.{operates-as, never-unsound}
 
 -- ---- the public operations
 
@@ -38,7 +38,7 @@ module _ {n L : ℕ} (wide : 1 ≤ window n) where
       let f : Input Operation = record { operation = o; counts = c } in
       let a = perform (window n) s c o in
       let rest = operate-runs b (suc k) (a .counts) es (operation-reached wide f i) in (
-        rw (operate-reached i f) (ap (λ (r : Ran). cond (eqb (a .code) 0) r (ran k s c (Refused (a .code) k))) (rest .0)),
+        rw (operates-as window i f) (ap (λ (r : Ran). cond (eqb (a .code) 0) r (ran k s c (Refused (a .code) k))) (rest .0)),
         λ j.
             cond-cases (λ (r : Ran). r .ending ≡ Refused unsound j → ⊥) (eqb (a .code) 0) (λ z. rest .1 j) (λ z u. never-unsound i f (cc)),
       )

@@ -4,7 +4,6 @@ pub mod Construction
 pub mod Broken
 pub mod More
 pub mod Theorem
-pub mod PollPlay
 pub mod PollBroken
 pub mod PollMore
 pub mod PollTheorem

@@ -1,21 +1,21 @@
 -- More processes, which take no part, change nothing of what happens.
-use Rattle.base.specs.Prelude.{ℕ, suc, zero, _≤_, _<_, arith, _≡_, refl, _∙_, true, List, [], _∷_, ltb, lt-leb, ltb-true}
+use Rattle.base.specs.Prelude.{ℕ, suc, zero, _≤_, _<_, arith, _≡_, refl, _∙_, ap, true, List, [], _∷_, ltb, lt-leb, ltb-true}
 use Rattle.base.specs.Bools.{and-left, and-right}
 use Rattle.model.specs.declared.Access.{Access}
 use Rattle.model.specs.declared.Access.the-variants.{Nothing, ReadValue, WriteValue, ReadMark, SetMark, ReadDecision, WriteDecision}
 use Rattle.model.specs.declared.Session.{Session}
+use Rattle.model.specs.declared.Counts.{Counts}
 use Rattle.model.specs.declared.Operation.{Operation}
 use Rattle.model.specs.declared.Process.{Process}
 use Rattle.model.specs.Board.{processAt, noCounts}
 use Rattle.model.specs.Step.{found, stored, turn}
 use Rattle.model.specs.Refusal.{refusal, tests, stepped}
-use Rattle.model.specs.Machine.{becomes, after, countsAfter, answered, perform, processOf}
+use Rattle.model.specs.Machine.{becomes, after, answered, perform, processOf}
 use Rattle.model.specs.Sound.{every}
 use Rattle.model_rule.specs.Event.{Event}
 use Rattle.model_rule.specs.System.{System, events}
 use Rattle.model_rule.specs.Calls.{Input, sessions}
 use Rattle.model_laws.specs.Accepted.{tests-are}
-use Rattle.model_laws.specs.Operations.{after-same}
 use Rattle.model_rule_cases.specs.Play.{uncounted, played}
 use Rattle.model_rule_cases.specs.Breaks.{within}
 
@@ -59,39 +59,33 @@ after-sized : (W m : ℕ) (s : Session) (o : Operation) → after W (sized m s) 
 unfolding after
 after-sized W m s o = turn-sized m s (processOf o) _ _
 
--- One operation of a process that is among the n, and so among the m.
-module _ (W m : ℕ) (s : Session) (o : Operation) (below : processOf o < s .n) (more : s .n ≤ m) where
-  code-sized : refusal (tests (sized m s) noCounts o) ≡ refusal (tests s noCounts o)
-  code-sized =
-      rw (tests-are (sized m s) noCounts o, tests-are s noCounts o, lt-leb m (processOf o) (omega arith), lt-leb (s .n) (processOf o) below) refl
-
-  pub perform-sized : (perform W (sized m s) noCounts o .session ≡ sized m (perform W s noCounts o .session)) × (perform W (sized m s) noCounts o .code ≡ perform W s noCounts o .code)
-  unfolding perform answered
-  perform-sized = rw (code-sized, after-sized W m s o) (go (refusal (tests s noCounts o)))
-    where
-      go : (k : ℕ) →
-          (stepped k (sized m s) (sized m (after W s o)) noCounts (countsAfter (sized m s) noCounts o) .session
-          ≡ sized m (stepped k s (after W s o) noCounts (countsAfter s noCounts o) .session))
-          × (stepped k (sized m s) (sized m (after W s o)) noCounts (countsAfter (sized m s) noCounts o) .code
-          ≡ stepped k s (after W s o) noCounts (countsAfter s noCounts o) .code)
-      go zero = (refl, refl)
-      go (suc k) = (refl, refl)
-
-pub perform-size : (W : ℕ) (s : Session) (o : Operation) → perform W s noCounts o .session .n ≡ s .n
-unfolding perform answered
-perform-size W s o = go (refusal (tests s noCounts o))
+-- The number and the session of an answer, where the tests and what they leave are the same.
+pub stepped-sized : (m j k : ℕ) (s t u : Session) (c d e : Counts) → j ≡ k → u ≡ sized m t →
+    let a = stepped k s t c d in
+    let b = stepped j (sized m s) u c e in
+    (b .session ≡ sized m (a .session)) × (b .code ≡ a .code)
+stepped-sized m j k s t u c d e number left = rw (number, left) (go k)
   where
-    go : (k : ℕ) → stepped k s (after W s o) noCounts (countsAfter s noCounts o) .session .n ≡ s .n
-    go zero = after-same W s o .0
-    go (suc k) = refl
+    go : (k : ℕ) → (stepped k (sized m s) (sized m t) c e .session ≡ sized m (stepped k s t c d .session)) × (stepped k (sized m s) (sized m t) c e .code ≡ stepped k s t c d .code)
+    go zero = (refl, refl)
+    go (suc k) = (refl, refl)
 
--- A list of operations of the first n processes, on a machine of which that holds of each operation, and on which n stays.
+-- One operation of a process that is among the n, and so among the m.
+pub perform-sized : (W m : ℕ) (s : Session) (o : Operation) → processOf o < s .n → s .n ≤ m →
+    let a = perform W s noCounts o in
+    let b = perform W (sized m s) noCounts o in
+    (b .session ≡ sized m (a .session)) × (b .code ≡ a .code)
+unfolding perform answered
+perform-sized W m s o below more =
+    stepped-sized m (refusal (tests (sized m s) noCounts o)) (refusal (tests s noCounts o)) s (after W s o) _ noCounts _ _
+    (rw (tests-are (sized m s) noCounts o, tests-are s noCounts o, lt-leb m (processOf o) (omega arith), lt-leb (s .n) (processOf o) below) refl)
+    (after-sized W m s o)
+
+-- A list of operations of the first n processes, on a machine of which that holds of each operation. (So n stays: it is the m of the session itself.)
 module _ {O A : Type 0} (M : System Session (Input O) A Event) (process : O → ℕ)
     (one : (m : ℕ) (s : Session) (o : O) → process o < s .n → s .n ≤ m →
-    let a = M .perform s (uncounted o) in
-    (M .state (M .perform (sized m s) (uncounted o)) ≡ sized m (M .state a))
-    × (events M (sized m s) (uncounted o) ≡ events M s (uncounted o))
-    × (M .state a .n ≡ s .n)) where
+    (M .state (M .perform (sized m s) (uncounted o)) ≡ sized m (M .state (M .perform s (uncounted o))))
+    × (events M (sized m s) (uncounted o) ≡ events M s (uncounted o))) where
   pub played-more : (m n : ℕ) (s : Session) (h : List Event) (os : List O) → s .n ≡ n → n ≤ m → every (λ o. ltb (process o) n) os ≡ true →
       played M (sized m s) h os ≡ (sized m (played M s h os .0), played M s h os .1)
   unfolding played
@@ -99,10 +93,9 @@ module _ {O A : Type 0} (M : System Session (Input O) A Event) (process : O → 
   played-more m n s h (o ∷ os) size more all =
       let below : process o < s .n = omega (arith, ltb-true (process o) n (and-left (ltb (process o) n) _ all)) in
       let k = one m s o below (omega arith) in
-      rw (k .0, k .1) (played-more m n _ _ os (k .2 ∙ size) more (and-right (ltb (process o) n) _ all))
+      let stays = ap (λ (t : Session). t .n) (one (s .n) s o below (omega arith) .0) in
+      rw (k .0, k .1) (played-more m n _ _ os (stays ∙ size) more (and-right (ltb (process o) n) _ all))
 
 pub sessions-more : (W m n : ℕ) (s : Session) (h : List Event) (os : List Operation) → s .n ≡ n → n ≤ m → every (within n) os ≡ true →
     played (sessions W) (sized m s) h os ≡ (sized m (played (sessions W) s h os .0), played (sessions W) s h os .1)
-sessions-more W =
-    played-more (sessions W) processOf
-    (λ m s o below more. let k = perform-sized W m s o below more in (k .0, rw (k .1) refl, perform-size W s o))
+sessions-more W = played-more (sessions W) processOf (λ m s o below more. let k = perform-sized W m s o below more in (k .0, rw (k .1) refl))

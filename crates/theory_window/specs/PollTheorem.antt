@@ -1,28 +1,49 @@
 -- Windows that are too short for polls (document 02, wish 7), and which windows are safe for how many processes.
-use Rattle.base.specs.Prelude.{ℕ, _≤_, arith, decLe, _≡_, refl, sym, _∙_, ap, subst, [], true, true≢false, _&&_, eqb, eqb-true}
+use Rattle.base.specs.Prelude.{ℕ, _≤_, arith, decLe, _≡_, refl, sym, _∙_, ap, subst, List, [], true, true≢false, _&&_, eqb, eqb-true}
 use Rattle.base.specs.Bools.{and-left, and-right}
 use Rattle.model.specs.declared.Caller.the-variants.{Server}
+use Rattle.model.specs.declared.Limits.{Limits}
 use Rattle.model.specs.declared.Session.{Session}
 use Rattle.model.specs.Board.{limitsOf, opened, processAt, maxProcesses, maxRounds}
 use Rattle.model.specs.Sound.{every}
 use Rattle.model_laws.specs.Operations.{opening-accepts}
 use Rattle.model_laws.specs.Callers.{caller-limits}
-use Rattle.model_rule.specs.Safe.{threshold}
+use Rattle.model_rule.specs.Safe.{threshold, PollSafeWithin, ExactPollWindows}
 use Rattle.model_poll.specs.declared.Answer.{Answer}
 use Rattle.model_poll.specs.declared.Answer.the-variants.{Pending, Commits, Adopts}
 use Rattle.model_poll.specs.Turn.{answerOf, Carries}
-use Rattle.model_poll.specs.Machine.{pollOpeningAt}
-use Rattle.model_rule.specs.PollCalls.{polls}
-use Rattle.model_rule.specs.PollSafe.{PollSafeWithin, ExactPollWindows}
+use Rattle.model_poll.specs.Machine.{PollOperation, pollOpeningAt}
+use Rattle.model_rule.specs.System.{machine, at-the-end}
+use Rattle.model_rule.specs.PollCalls.{polls, PollRunWith}
+use Rattle.model_rule.specs.PollRule.{PollRule, PollClaimWithin}
 use Rattle.model_poll_laws.specs.Opening.{poll-opened}
-use Rattle.model_rule_cases.specs.Play.{played}
+use Rattle.model_rule_cases.specs.Play.{fedBy, played, played-machine, Called, called}
 use Rattle.theory_window.specs.Construction.{atLast, withOne, withTwo}
 use Rattle.theory_window.specs.More.{sized}
 use Rattle.theory_window.specs.Theorem.{every-from, high-threshold}
 use Rattle.theory_poll.specs.Theorem.{poll-below-threshold}
-use Rattle.theory_window.specs.PollPlay.{breaks-poll-rule}
 use Rattle.theory_window.specs.PollBroken.{operations, isCommitted, isAdopted, left, answersDiffer, broken, all-broken}
 use Rattle.theory_window.specs.PollMore.{within, polls-more}
+
+-- Two records that show a committed value and another value, after operations from an accepted opening, within any limits.
+breaks-poll-rule : (most : Limits) (w : ℕ → ℕ) (n : ℕ) (os : List PollOperation) (p q u v : ℕ) →
+    let start = pollOpeningAt most (w n) n in
+    let s = played (polls (w n)) (start .session) [] os .0 in
+    start .code ≡ 0 → answerOf (processAt s p) ≡ Commits v → Carries (answerOf (processAt s q)) u → (u ≡ v → ⊥) → PollClaimWithin most w n → ⊥
+breaks-poll-rule most w n os p q u v ok commits carries differ claim =
+    let M = polls (w n) in
+    let start = pollOpeningAt most (w n) n .session in
+    let c : Called (PollRunWith w start) (fedBy os []) = called (fedBy os []) in
+    let holds = claim ok (c .calls) (c .left) (c .run) in
+    let rule = at-the-end M (λ s cs. PollRule (w n) start cs s) (c .run) (holds .2) in
+    let same : played M start [] os .0 ≡ c .left =
+    ap (λ x. x .0) (played-machine M start os []) ∙ ap (machine M start) (sym (c .same)) ∙ sym (holds .1) in
+    let committed : answerOf (processAt (c .left) p) ≡ Commits v = subst (λ (s : Session). answerOf (processAt s p) ≡ Commits v) same commits in
+    let other : Carries (answerOf (processAt (c .left) q)) u = subst (λ (s : Session). Carries (answerOf (processAt s q)) u) same carries in
+    let one = rule .shown p v (rw committed refl) in
+    let two = rule .shown q u other in
+    differ
+    (rule .agreement u v (one .stood) (two .stood) (one .answer ∙ committed) (subst (λ (a : Answer). Carries a u) (sym (two .answer)) other))
 
 committed-is : (v : ℕ) (a : Answer) → isCommitted v a ≡ true → a ≡ Commits v
 committed-is v Pending t = absurd (true≢false (sym t))
