@@ -48,19 +48,19 @@ pub record PollRule (W : ℕ) (start : Session) (cs : List PollCall) (s : Sessio
 abbrev pub PollClaimWithin : Limits → (w : ℕ → ℕ) → (n : ℕ) → Type 0
 PollClaimWithin most w n =
     let start = pollOpeningAt most (w n) n in
+    let M = polls (w n) in
     start .code ≡ 0
     → (cs : List PollCall) (s : Session)
     → PollRunWith w (start .session) cs s
-    → EachAsTheMachine (polls (w n)) (start .session) cs
-    × (s ≡ machine (polls (w n)) (start .session) (inputs cs))
-    × AfterEach (polls (w n)) (λ s cs. PollRule (w n) (start .session) cs s) (start .session) cs
+    → EachAsTheMachine M (start .session) cs
+    × (s ≡ machine M (start .session) (inputs cs))
+    × AfterEach M (λ t ds. PollRule (w n) (start .session) ds t) (start .session) cs
 
--- 02, wish 9: within any limits up to the server's, as `AgreementWith` of `model_rule`.
+-- 02, wish 9: within any limits up to the server's, as `AgreementWith`.
 abbrev pub PollClaimWith : (w : ℕ → ℕ) → (n : ℕ) → Type 0
 PollClaimWith w n = (most : Limits) → UpToServer most → PollClaimWithin most w n
 
--- 02, wish 7: "Show the agreement rule for every window W of at least 2 with W times W at least 4n .. Polls are covered too." (As `EveryWindow` of
--- `model_rule` has it of sessions.)
+-- 02, wish 7: ".. for every window W of at least 2 with W times W at least 4n .. Polls are covered too." (As `EveryWindow`.)
 abbrev pub EveryPollWindow : Type 0
 EveryPollWindow = (w : ℕ → ℕ) (n : ℕ) → 4 * n ≤ w n * w n → PollClaimWith w n
 

@@ -22,21 +22,15 @@ module _ {W n L : ℕ} (wide : 1 ≤ W) where
   pub operation-reached : {s : Session} {h : List Event} (f : Input Operation) → Reached false W n L s h →
       Reached false W n L (perform W s (f .counts) (f .operation) .session) (events (sessions W) s f ++ h)
   unfolding perform answered
-  operation-reached {s} {h} f i = go (refusal (tests s (f .counts) (f .operation))) refl
+  operation-reached {s} {h} f i = go (f .counts) (f .operation) (refusal (tests s (f .counts) (f .operation))) refl
     where
-      o : Operation
-      o = f .operation
-
-      c : Counts
-      c = f .counts
-
-      go : (k : ℕ) → refusal (tests s c o) ≡ k →
+      go : (c : Counts) (o : Operation) (k : ℕ) → refusal (tests s c o) ≡ k →
           let a = stepped k s (after W s o) c (countsAfter s c o) in
           Reached false W n L (a .session) (ifAccepted (a .code) (eventsOf (processAt s (processOf o)) (s .decision) o) ++ h)
-      go zero e =
+      go c o zero e =
           let a = accepted s c o e in
           accepted-reached i c o a (sound-process false W s (processOf o) (i .sound)) (after-sound W wide s c o (i .sound) a)
-      go (suc k) e = i
+      go c o (suc k) e = i
 
   -- A list of operations.
   pub machine-reached : {start : Session} → Reached false W n L start [] → (fs : List (Input Operation)) →

@@ -5,4 +5,3 @@ pub mod Unanimous
 pub mod Calls
 pub mod Passes
 pub mod Theorem
-pub mod Contested

@@ -1,23 +1,30 @@
--- The rule of polls holds at every window that is wide enough; the rule in service is an instance.
-use Rattle.base.specs.Prelude.{true, ℕ, _*_, _≤_, _<_, arith, _≡_, refl, sym, _∙_, subst, List, [], _∷_}
-use Rattle.model_laws.specs.Types.{Session}
+-- The rule of polls holds at every window that is wide enough; the rule in service is an instance. And contested is the number of marked rounds.
+use Rattle.base.specs.Prelude.{ℕ, _*_, _≤_, _<_, arith, _≡_, refl, sym, _∙_, subst, List, [], _∷_, _+_, true}
+use Rattle.model_laws.specs.Types.{Session, Counts, Propose, Crash}
 use Rattle.model.specs.Window.{window}
 use Rattle.model.specs.Board.{limitsOf, processAt, idle, opened, maxProcesses}
-use Rattle.model_laws.specs.Windows.{window-square}
+use Rattle.model.specs.Refusal.{refusal}
+use Rattle.model.specs.Machine.{accessOf}
+use Rattle.model_laws.specs.Windows.{window-square, window-least}
 use Rattle.model_laws.specs.Callers.{caller-limits}
-use Rattle.model_rule.specs.Event.{Past}
-use Rattle.model_rule.specs.Safe.{threshold, PollBelowThreshold}
-use Rattle.theory_count.specs.Grid.{wide-below, below-wide}
 use Rattle.model_poll.specs.declared.Answer.{Answer}
+use Rattle.model_poll.specs.declared.PollStepped.{PollStepped}
 use Rattle.model_poll.specs.Turn.{answerOf, Carries}
-use Rattle.model_poll.specs.Machine.{turns}
+use Rattle.model_poll.specs.Machine.{turns, PollOperation, proposes, crashes, turnTests, turnAfter, turnCounts, turned, pollPerform}
+use Rattle.model_poll_laws.specs.Opening.{poll-opened}
+use Rattle.model_poll_laws.specs.Answers.{turn-accepted}
+use Rattle.model_poll_laws.specs.Sounds.{poll-access-range, poll-process}
+use Rattle.model_rule.specs.Event.{Past, Event}
+use Rattle.model_rule.specs.Safe.{threshold, PollBelowThreshold}
 use Rattle.model_rule.specs.System.{inputs, machine, past, EachAsTheMachine}
 use Rattle.model_rule.specs.PollCalls.{polls, PollCall, PollRunWith}
 use Rattle.model_rule.specs.PollRule.{Gave, PollRule, PollClaimWith, EveryPollWindow, PollClaim, CallerPollClaim}
-use Rattle.model_poll_laws.specs.Opening.{poll-opened}
+use Rattle.model_rule.specs.Contested.{markedRounds, PollContestedRule}
+use Rattle.theory_board.specs.Marks.{turn-adds, perform-adds, opened-unmarked, calls-contested}
 use Rattle.theory_board.specs.Opening.{same-everywhere}
 use Rattle.theory_board.specs.Lists.{after-each}
 use Rattle.theory_board.specs.Reached.{Reached}
+use Rattle.theory_count.specs.Grid.{wide-below, below-wide}
 use Rattle.theory_poll.specs.Machine.{poll-reached, opened-poll, answers-agree}
 use Rattle.theory_poll.specs.Unanimous.{AllCalm, machine-calm, opened-calm, calm-answer}
 use Rattle.theory_poll.specs.Calls.{Fresh, polls-followed, held, answers-proposed, shown-given}
@@ -106,3 +113,27 @@ poll-rule n = every-poll-window window n (window-square n)
 -- of both callers.
 pub caller-poll-rule : CallerPollClaim
 caller-poll-rule caller n = poll-rule n (limitsOf caller) (caller-limits caller)
+
+-- ---- contested is the number of marked rounds, after every list of calls on one tally
+
+-- One operation on a poll that the machine reached.
+pub poll-reached-adds : {W n : ℕ} {s : Session} {h : List Event} (c : Counts) (o : PollOperation) → Reached true W n W s h →
+    let r = pollPerform W s c o in r .counts .contested + markedRounds s ≡ c .contested + markedRounds (r .session)
+unfolding pollPerform turned turnAfter turnCounts accessOf
+poll-reached-adds {W} {s = s} c (proposes p v) i = perform-adds s c (i .invariant .long .marks) W (Propose p v) tt
+poll-reached-adds {W} {s = s} c (turns p) i =
+    turn-adds s c (i .invariant .long .marks) (refusal (turnTests s c p)) p _ _
+    (λ e. poll-access-range W (s .limit) (s .limit) (processAt s p) (omega arith) (poll-process W s (i .sound) p (turn-accepted s c p e .here)))
+poll-reached-adds {W} {s = s} c (crashes p) i = perform-adds s c (i .invariant .long .marks) W (Crash p) tt
+
+pub poll-contested : PollContestedRule
+poll-contested most up n ok cs s c run tally =
+    let o = poll-opened most up (window n) n ok in
+    let wide : 1 ≤ window n = omega (arith, window-least n (o .0)) in
+    let reached = opened-poll (window n) n (o .0) (o .1) (o .2) in
+    let here : PollRunWith window (opened n (window n)) cs s = rw (o .3) at run in
+    let f = polls-followed window wide reached here in
+    rw (f .1)
+    (calls-contested (polls (window n)) (λ (a : PollStepped). a .counts) _ (opened-unmarked n (window n))
+    (λ fs f. poll-reached-adds (f .counts) (f .operation) (poll-reached wide reached fs))
+    cs c (f .0) tally)
