@@ -32,8 +32,8 @@ sessions W =
 abbrev pub SessionCall : Type 0
 SessionCall = Call (Input Operation) Stepped
 
--- What the called operation answers at window W, where the call was given session s. (A proposal and a crash are lent no counts: theirs are any, and
--- stand as they stood.)
+-- What the called operation answers at window W, given session s. (A proposal and a crash are lent no counts: theirs are any, and stand as
+-- they stood.)
 abbrev pub promisedAt : (W : ℕ) → Session → Counts → Operation → Stepped
 promisedAt W s c (Propose p v) = withCounts (proposeAt W s p v) c
 promisedAt W s c (Step p leader) = stepAt W s p leader c
@@ -45,6 +45,6 @@ promisedAt W s c (Crash p) = withCounts (crashAt W s p) c
 abbrev pub promised : Session → Counts → Operation → Stepped
 promised s c o = promisedAt (window (s .n)) s c o
 
--- A list of calls from a session, where w n is the window of n processes: "Each call is given the session that the last one returned or, refused, left."
+-- A list of calls, where w n is the window of n processes: "Each call is given the session that the last one returned or, refused, left."
 abbrev pub RunWith : (w : ℕ → ℕ) → Session → List SessionCall → Session → Type 0
 RunWith w = Run (λ (a : Stepped). a .session) (λ (s : Session) (f : Input Operation). promisedAt (w (s .n)) s (f .counts) (f .operation))

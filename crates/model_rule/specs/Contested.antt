@@ -1,4 +1,4 @@
--- Contested as rounds (document 02, wish 2): "after a run from an opening, all of it and nothing else on one tally that began empty, it equals the
+-- Contested as rounds (02, wish 2): "after a run from an opening, all of it and nothing else on one tally that began empty, it equals the
 -- marked rounds on the board."
 use Prim.Native.Nat.{ℕ, zero, suc, _+_}
 use mathlib.Core.Path.{_≡_}
@@ -29,7 +29,7 @@ markedTo marks (suc r) = markedTo marks r + bit (getD marks r false)
 abbrev pub markedRounds : Session → ℕ
 markedRounds s = markedTo (s .marks) (s .limit)
 
--- The calls, newest first, are on one tally that began empty and stands at c now: each is given the counts that the one before left. (The counts in an
+-- The calls are on one tally that began empty and stands at c now: each is given the counts that the one before left. (The counts in an
 -- answer are its `tally`.)
 abbrev pub OneTally : {O A : Type 0} → (tally : A → Counts) → List (Call (Input O) A) → Counts → Type 0
 OneTally tally [] c = c ≡ noCounts
@@ -37,7 +37,8 @@ OneTally tally (k ∷ ks) c = (c ≡ tally (k .answer)) × OneTally tally ks (k 
 
 -- "All of it and nothing else on one tally": of every list of calls.
 abbrev pub CountsMarked : {O A : Type 0} → (tally : A → Counts) → (Runs : List (Call (Input O) A) → Session → Type 0) → Type 0
-CountsMarked {O} {A} tally Runs = (cs : List (Call (Input O) A)) (s : Session) (c : Counts) → Runs cs s → OneTally tally cs c → c .contested ≡ markedRounds s
+CountsMarked {O} {A} tally Runs =
+    (cs : List (Call (Input O) A)) (s : Session) (c : Counts) → Runs cs s → OneTally tally cs c → c .contested ≡ markedRounds s
 
 -- The claim, of every list of calls from every accepted opening, within any limits up to the server's (02, wish 9), of sessions,
 abbrev pub ContestedRule : Type 0

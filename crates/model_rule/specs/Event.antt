@@ -51,7 +51,7 @@ eventsOf q D (Crash p) = []
 
 -- ---- what stands in a past
 
--- h′ is an older part of h, or h itself. (Of events, and of calls: the call c stands in cs, with the calls before it, where Past (c ∷ before) cs.)
+-- h′ is an older part of h, or h itself. (Of calls too: in Past (c ∷ before) cs the call c stands in cs, after the calls `before`.)
 pub data Past {A : Type 0} (h′ : List A) : List A → Type 0 where
   here : Past h′ h′
   there : {e : A} {h : List A} → Past h′ h → Past h′ (e ∷ h)

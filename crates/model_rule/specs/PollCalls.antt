@@ -1,4 +1,4 @@
--- Polls as a machine, and lists of calls on them (document 02, wish 6: "any order of proposals, turns and crashes from an opening"; `System`).
+-- Polls as a machine, and lists of calls on them (02, wish 6: "any order of proposals, turns and crashes from an opening"; `System`).
 use Prim.Native.Nat.{ℕ, suc}
 use mathlib.Core.Bool.{Bool, false, cond, _&&_}
 use mathlib.Core.List.{List, [], _∷_}
@@ -35,8 +35,8 @@ polls W =
 abbrev pub PollCall : Type 0
 PollCall = Call (Input PollOperation) PollStepped
 
--- What the called operation answers at window W, where the call was given poll s. (A proposal and a crash are lent no counts, theirs are any and stand as
--- they stood; and they give no answer.)
+-- What the called operation answers at window W, given poll s. (A proposal and a crash are lent no counts, theirs are any and stand as they
+-- stood; and they give no answer.)
 abbrev pub pollPromisedAt : (W : ℕ) → Session → Counts → PollOperation → PollStepped
 pollPromisedAt W s c (proposes p v) = unanswered (withCounts (pollProposeAt W s p v) c)
 pollPromisedAt W s c (turns p) = pollTurnAt W s p c
@@ -47,9 +47,10 @@ pollPromisedAt W s c (crashes p) = unanswered (withCounts (pollCrashAt W s p) c)
 abbrev pub pollPromised : Session → Counts → PollOperation → PollStepped
 pollPromised s c o = pollPromisedAt (window (s .n)) s c o
 
--- A list of calls from a poll, where w n is the window of n processes: "each call of a run or order gets the .. poll .. that the one before left".
+-- A list of calls, where w n is the window of n processes: "each call of a run or order gets the .. poll .. that the one before left".
 abbrev pub PollRunWith : (w : ℕ → ℕ) → Session → List PollCall → Session → Type 0
-PollRunWith w = Run (λ (a : PollStepped). a .session) (λ (s : Session) (f : Input PollOperation). pollPromisedAt (w (s .n)) s (f .counts) (f .operation))
+PollRunWith w =
+    Run (λ (a : PollStepped). a .session) (λ (s : Session) (f : Input PollOperation). pollPromisedAt (w (s .n)) s (f .counts) (f .operation))
 
 -- How many of the calls are accepted turns of process p.
 abbrev pub isTurnOf : (p : ℕ) → PollOperation → Bool

@@ -44,7 +44,8 @@ pub record PollRule (W : ℕ) (start : Session) (cs : List PollCall) (s : Sessio
   pub onePass : (p : ℕ) → turnsOf p cs ≤ passTurns W
   pub working : (p : ℕ) → status (processAt s p .phase) ≡ Active → turnsOf p cs < passTurns W
 
--- The claim, within a caller's limits, of n processes, where w n is the window of n processes: of every list of calls from an accepted opening.
+-- The claim, within a caller's limits, of n processes, where w n is the window of n processes: "any order .. from an opening", and after
+-- each call of it.
 abbrev pub PollClaimWithin : Limits → (w : ℕ → ℕ) → (n : ℕ) → Type 0
 PollClaimWithin most w n =
     let start = pollOpeningAt most (w n) n in

@@ -38,12 +38,14 @@ pub record Rule (s : Session) (h : List Event) : Type 0 where
   -- a value committed in round R is the only one written to the register of round R or a later one, before or after
   pub commitment : (R r u v : ℕ) → Committed R v h → Written r u h → R ≤ r → u ≡ v
 
--- The claim, within a caller's limits, of n processes and round limit L, where w n is the window of n processes; `System` has its words of any machine.
--- "The list starts from the session of any accepted opening. Each call is given the session that the last one returned or, refused, left" (`RunWith`).
--- "Its words are meant by the machine above, begun at that opening. For each call the machine is fed the operation with its seat, number, hint and tally,
--- as far as it has them, and never the session" (`machine`, `inputs`). "A call that the table below refuses leaves the machine as it is" (`perform`).
--- "After each call, refused or not, its answer, the tally and the session (n, L, registers, marks, D and seat records) equal the machine's"
--- (`EachAsTheMachine`), "and the rule holds of that session" (`AfterEach`).
+-- The claim, within a caller's limits, of n processes and round limit L, where w n is the window of n processes.
+-- `RunWith`: "The list starts from the session of any accepted opening. Each call is given the session that the last one returned or,
+-- refused, left."
+-- `machine`, `past`: "Its words are meant by the machine above, begun at that opening. For each call the machine is fed the operation with
+-- its seat, number, hint and tally, as far as it has them, and never the session. A call that the table below refuses leaves the machine as
+-- it is."
+-- `EachAsTheMachine`, `AfterEach`: "After each call, refused or not, its answer, the tally and the session (n, L, registers, marks, D and
+-- seat records) equal the machine's, and the rule holds of that session."
 abbrev pub AgreementWithin : Limits → (w : ℕ → ℕ) → (n L : ℕ) → Type 0
 AgreementWithin most w n L =
     let start = openingAt most (w n) n L in

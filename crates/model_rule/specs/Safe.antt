@@ -45,4 +45,5 @@ abbrev pub PollBelowThreshold : Type 0
 PollBelowThreshold = (w : ℕ → ℕ) (n : ℕ) → n < threshold (w n) → PollClaimWith w n
 
 abbrev pub ExactPollWindows : Type 0
-ExactPollWindows = (W n : ℕ) → 2 ≤ W → n ≤ maxProcesses → (n < threshold W → PollSafe W n) × (threshold W ≤ n → PollSafeWithin (limitsOf Server) W n → ⊥)
+ExactPollWindows =
+    (W n : ℕ) → 2 ≤ W → n ≤ maxProcesses → (n < threshold W → PollSafe W n) × (threshold W ≤ n → PollSafeWithin (limitsOf Server) W n → ⊥)

@@ -1,4 +1,4 @@
--- Machines, and lists of calls, newest first. Sessions and polls are two such machines (`Calls`, `PollCalls`); what is said of any machine is said here.
+-- What is said of any machine, and of lists of calls, newest first. Sessions and polls are two such machines (`Calls`, `PollCalls`).
 use Prim.Native.Nat.{ℕ, zero, suc}
 use mathlib.Core.Path.{_≡_}
 use mathlib.Core.List.{List, [], _∷_, _++_}
@@ -29,12 +29,12 @@ abbrev pub inputs : {Input Answer : Type 0} → List (Call Input Answer) → Lis
 inputs [] = []
 inputs (c ∷ cs) = c .input ∷ inputs cs
 
--- A list of calls, and the state that they come to: each call is given the state that the one before left, and its answer is the promised one.
+-- A list of calls, and the state that they come to: each is given the state that the one before left, and answers as promised.
 pub data Run {State Input Answer : Type 0} (state : Answer → State) (promised : State → Input → Answer) (start : State) :
     List (Call Input Answer) → State → Type 0 where
   none : Run state promised start [] start
-  call : {cs : List (Call Input Answer)} {s : State} → Run state promised start cs s → (c : Call Input Answer) → c .answer ≡ promised s (c .input) →
-      Run state promised start (c ∷ cs) (state (c .answer))
+  call : {cs : List (Call Input Answer)} {s : State} → Run state promised start cs s → (c : Call Input Answer) →
+      c .answer ≡ promised s (c .input) → Run state promised start (c ∷ cs) (state (c .answer))
 
 module _ {State Input Answer Event : Type 0} (M : System State Input Answer Event) where
   -- The machine, begun at a state, after a list of inputs.
@@ -60,9 +60,3 @@ module _ {State Input Answer Event : Type 0} (M : System State Input Answer Even
   abbrev pub AfterEach : (P : State → List (Call Input Answer) → Type 0) → State → List (Call Input Answer) → Type 0
   AfterEach P start [] = P start []
   AfterEach P start (c ∷ cs) = P (M .state (c .answer)) (c ∷ cs) × AfterEach P start cs
-
-  -- So it holds at the end.
-  pub at-the-end : (P : State → List (Call Input Answer) → Type 0) {promised : State → Input → Answer} {start s : State} {cs : List (Call Input Answer)} →
-      Run (M .state) promised start cs s → AfterEach P start cs → P s cs
-  at-the-end P none holds = holds
-  at-the-end P (call run c e) holds = holds .0

@@ -1,4 +1,4 @@
--- Lists of operations that are played on a machine, oldest first, and the calls that they make: on any machine; and on that of sessions, against the rule.
+-- Lists of operations that are played on a machine, oldest first, and the calls that they make; and a list of sessions' against the rule.
 use Prim.Native.Nat.{ℕ}
 use mathlib.Core.Path.{_≡_, refl, sym, _∙_, ap, subst}
 use mathlib.Core.Bool.{true}
@@ -9,7 +9,7 @@ use Rattle.model.specs.declared.Operation.{Operation}
 use Rattle.model.specs.declared.Operation.the-variants.{Step}
 use Rattle.model.specs.Board.{noCounts}
 use Rattle.model.specs.Machine.{openingAt}
-use Rattle.model_rule.specs.System.{System, Call, inputs, Run, none, call, machine, events, past, at-the-end}
+use Rattle.model_rule.specs.System.{System, Call, inputs, Run, none, call, machine, events, past, AfterEach}
 use Rattle.model_rule.specs.Calls.{Input, sessions, RunWith}
 use Rattle.model_rule.specs.Rule.{Rule, AgreementWithin}
 
@@ -47,13 +47,20 @@ pub record Called {State Input Answer : Type 0} (Runs : List (Call Input Answer)
   pub same : inputs calls ≡ fs
 
 -- Each answered as promised.
-abbrev pub called : {State Input Answer : Type 0} {state : Answer → State} {promised : State → Input → Answer} {start : State} (fs : List Input) →
-    Called (Run state promised start) fs
+abbrev pub called : {State Input Answer : Type 0} {state : Answer → State} {promised : State → Input → Answer} {start : State} →
+    (fs : List Input) → Called (Run state promised start) fs
 called {start = start} [] = record { calls = []; left = start; run = none; same = refl }
 called {Input = Input} {Answer = Answer} {state = state} {promised = promised} {start = start} (f ∷ fs) =
     let c = called {state = state} {promised = promised} {start = start} fs in
     let x : Call Input Answer = record { input = f; answer = promised (c .left) f } in
     record { calls = x ∷ c .calls; left = state (x .answer); run = call (c .run) x refl; same = ap (λ gs. f ∷ gs) (c .same) }
+
+-- What holds after each call holds at the end.
+pub at-the-end : {State Input Answer Event : Type 0} (M : System State Input Answer Event) (P : State → List (Call Input Answer) → Type 0)
+    {promised : State → Input → Answer} {start s : State} {cs : List (Call Input Answer)} → Run (M .state) promised start cs s →
+    AfterEach M P start cs → P s cs
+at-the-end M P none holds = holds
+at-the-end M P (call run c e) holds = holds .0
 
 -- ---- of sessions
 

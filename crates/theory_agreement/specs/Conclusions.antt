@@ -1,5 +1,5 @@
--- From the invariant to the rule.
-use Rattle.base.specs.Prelude.{ℕ, _≤_, _<_, arith, ℕ-discrete, _≡_, subst, List, _∷_, _⊎_, inl, inr, ⊎-elim}
+-- From the invariant to the rule, where n is below the threshold of the window.
+use Rattle.base.specs.Prelude.{ℕ, _*_, _≤_, _<_, arith, ℕ-discrete, _≡_, subst, false, List, _∷_, _⊎_, inl, inr, ⊎-elim}
 use Rattle.model_laws.specs.Types.{Phase, Session}
 use Rattle.model.specs.Board.{processAt}
 use Rattle.model_rule.specs.Event.{Event, proposal, write, flag, commit, decision, here, there, Committed}
@@ -7,10 +7,12 @@ use Rattle.model_rule.specs.Rule.{ProposedFirst, Rule}
 use Rattle.model_rule.specs.Safe.{threshold}
 use Rattle.theory_board.specs.Past.{past-none, happened-older}
 use Rattle.theory_board.specs.Lawful.{EventLawful, Lawful, none, also}
+use Rattle.theory_count.specs.Grid.{wide-below}
 use Rattle.theory_count.specs.Agreed.{agreed, agreed-commits}
 use Rattle.theory_board.specs.Place.{Placed}
 use Rattle.theory_board.specs.Start.{decided-committed}
 use Rattle.theory_board.specs.Invariant.{Invariant}
+use Rattle.theory_board.specs.Reached.{Reached}
 
 -- v was never committed.
 abbrev Never : (v : ℕ) → List Event → Type 0
@@ -38,7 +40,7 @@ first-commit {W} {n} v (also {x = x} {h = h} l k) =
     (first-commit v l)
 
 -- The rule holds of every session and past with the invariant, where the window is wide enough.
-pub invariant-rule : {W : ℕ} {s : Session} {h : List Event} → Invariant W s h → 2 ≤ W → s .n < threshold W → Rule s h
+invariant-rule : {W : ℕ} {s : Session} {h : List Event} → Invariant W s h → 2 ≤ W → s .n < threshold W → Rule s h
 invariant-rule {W} {s} {h} i wide few =
     let l = i .lawful in
     record {
@@ -54,3 +56,10 @@ invariant-rule {W} {s} {h} i wide few =
           ⊎-elim (λ f. f) (λ never. absurd (never (c .0) (c .1))) (first-commit v l);
       commitment = λ R r u v. agreed W (s .n) h wide few l;
     }
+
+-- The rule of every session that the machine reached.
+pub reached-below : {W n L : ℕ} {s : Session} {h : List Event} → 2 ≤ W → n < threshold W → Reached false W n L s h → Rule s h
+reached-below wide few i = invariant-rule (i .invariant) wide (rw (i .size) few)
+
+pub reached-rule : {W n L : ℕ} {s : Session} {h : List Event} → 2 ≤ W → 4 * n ≤ W * W → Reached false W n L s h → Rule s h
+reached-rule {W} {n} wide square i = reached-below wide (wide-below W n square) i

@@ -1,4 +1,3 @@
 -- The agreement rule: of the machine at any window, and of lists of calls.
 pub mod Conclusions
-pub mod Machine
 pub mod Theorem

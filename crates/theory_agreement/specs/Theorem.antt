@@ -1,5 +1,4 @@
--- The agreement rule holds at every window that is wide enough: the calls follow the machine, and the machine's rule holds. The rule in service is an
--- instance.
+-- The agreement rule holds at every window that is wide enough, and so in service: the calls follow the machine, whose rule holds.
 use Rattle.base.specs.Prelude.{ℕ, _*_, _≤_, arith, _≡_, refl, sym, _∙_, ap, false, List, []}
 use Rattle.model_laws.specs.Types.{Limits, Session, Counts, Operation, Propose, Step, Learn, Crash}
 use Rattle.model.specs.Window.{window}
@@ -16,9 +15,9 @@ use Rattle.model_rule.specs.Calls.{Input, sessions, SessionCall, promisedAt, Ru
 use Rattle.model_rule.specs.Rule.{Rule, EveryWindow, AgreementRule, CallerAgreement}
 use Rattle.model_rule.specs.Safe.{Safe, BelowThreshold}
 use Rattle.theory_count.specs.Grid.{wide-below, below-wide}
-use Rattle.theory_board.specs.Reached.{Reached}
+use Rattle.theory_board.specs.Reached.{Reached, operation-reached, machine-reached, opened-session}
 use Rattle.theory_board.specs.Lists.{followed, after-each}
-use Rattle.theory_agreement.specs.Machine.{operation-reached, machine-reached, opened-session, reached-below}
+use Rattle.theory_agreement.specs.Conclusions.{reached-below}
 
 -- What a call answers is what the operation answers: a proposal and a crash leave any counts.
 promised-operate : (W : ℕ) (s : Session) (c : Counts) (o : Operation) → promisedAt W s c o ≡ operateAtAs false W s c o
@@ -41,8 +40,8 @@ unfolding perform answered
 never-unsound {m = m} i f e = never-three m (f .counts) (f .operation) (sym (stepped-code _ m _ _ _) ∙ e)
 
 -- A list of calls follows the machine: each is answered as the machine answers, and the session at the end is the machine's.
-pub sessions-followed : (w : ℕ → ℕ) {n L : ℕ} {start : Session} {cs : List SessionCall} {s : Session} → 1 ≤ w n → Reached false (w n) n L start [] →
-    RunWith w start cs s → EachAsTheMachine (sessions (w n)) start cs × (s ≡ machine (sessions (w n)) start (inputs cs))
+pub sessions-followed : (w : ℕ → ℕ) {n L : ℕ} {start : Session} {cs : List SessionCall} {s : Session} → 1 ≤ w n →
+    Reached false (w n) n L start [] → RunWith w start cs s → EachAsTheMachine (sessions (w n)) start cs × (s ≡ machine (sessions (w n)) start (inputs cs))
 sessions-followed w {n} {L} wide =
     followed (sessions (w n)) (Reached false (w n) n L) (λ s h f. operation-reached wide f)
     (λ s h f i. (promised-operate (w (s .n)) s (f .counts) (f .operation) ∙ operates-as w i f, never-unsound i f))

@@ -1,4 +1,4 @@
--- Lists of calls on any machine: what each operation keeps, a list of them keeps; and calls that answer as the machine does, one by one, follow it.
+-- Lists of calls on any machine: what each operation keeps, a list keeps; and calls that answer as the machine does follow it.
 use Rattle.base.specs.Prelude.{_≡_, refl, sym, _∙_, ap, List, [], _∷_, _++_}
 use Rattle.model_rule.specs.System.{System, Call, inputs, Run, none, call, machine, events, past, EachAsTheMachine, AfterEach}
 
@@ -9,7 +9,8 @@ module _ {State Input Answer Event : Type 0} (M : System State Input Answer Even
   machine-kept i (f ∷ fs) = keeps _ _ f (machine-kept i fs)
 
   module _ {promised : State → Input → Answer}
-      (answers : (s : State) (h : List Event) (f : Input) → Kept s h → (promised s f ≡ M .perform s f) × (M .code (M .perform s f) ≡ 3 → ⊥)) where
+      (answers : (s : State) (h : List Event) (f : Input) → Kept s h →
+      (promised s f ≡ M .perform s f) × (M .code (M .perform s f) ≡ 3 → ⊥)) where
     pub followed : {start s : State} {cs : List (Call Input Answer)} → Kept start [] → Run (M .state) promised start cs s →
         EachAsTheMachine M start cs × (s ≡ machine M start (inputs cs))
     followed i none = (tt, refl)
@@ -22,6 +23,7 @@ module _ {State Input Answer Event : Type 0} (M : System State Input Answer Even
 -- What holds at the end of every list holds after each call of a list: the calls up to it are a list too.
 pub after-each : {State Input Answer Event : Type 0} (M : System State Input Answer Event) (P : State → List (Call Input Answer) → Type 0)
     {promised : State → Input → Answer} {start s : State} {cs : List (Call Input Answer)} →
-    ((cs : List (Call Input Answer)) (s : State) → Run (M .state) promised start cs s → P s cs) → Run (M .state) promised start cs s → AfterEach M P start cs
+    ((cs : List (Call Input Answer)) (s : State) → Run (M .state) promised start cs s → P s cs) → Run (M .state) promised start cs s →
+    AfterEach M P start cs
 after-each M P all none = all _ _ none
 after-each M P all (call run c e) = (all _ _ (call run c e), after-each M P all run)

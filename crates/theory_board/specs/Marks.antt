@@ -35,11 +35,14 @@ module _ (marks : List Bool) (i : ℕ) where
       once true = omega arith
       once false = omega arith
 
--- ---- one law: contested grows by as much as the marked rounds do
+-- ---- one law
+
+-- From the counts c and the session s to d and t, contested grows by as much as the marked rounds do.
+abbrev pub GrowAlike : (c : Counts) (s : Session) (d : Counts) (t : Session) → Type 0
+GrowAlike c s d t = d .contested + markedRounds s ≡ c .contested + markedRounds t
 
 module _ (s : Session) (c : Counts) (long : s .limit ≤ length (s .marks)) where
-  stored-adds : (a : Access) (e : ℕ) → InRange (s .limit) a →
-      counted a (found s a) c .contested + markedRounds s ≡ c .contested + markedRounds (stored s a e)
+  stored-adds : (a : Access) (e : ℕ) → InRange (s .limit) a → GrowAlike c s (counted a (found s a) c) (stored s a e)
   unfolding counted found stored
   stored-adds Nothing e ok = refl
   stored-adds (ReadValue r) e ok = refl
@@ -51,14 +54,14 @@ module _ (s : Session) (c : Counts) (long : s .limit ≤ length (s .marks)) wher
 
   -- In a turn, accepted or refused, of a session or a poll.
   pub turn-adds : (k p : ℕ) (a : Access) (becomes : ℕ → Process) → (k ≡ 0 → InRange (s .limit) a) →
-      let r = stepped k s (turn s p a becomes) c (counted a (found s a) c) in r .counts .contested + markedRounds s ≡ c .contested + markedRounds (r .session)
+      let r = stepped k s (turn s p a becomes) c (counted a (found s a) c) in GrowAlike c s (r .counts) (r .session)
   unfolding turn
   turn-adds zero p a becomes ok = stored-adds a _ (ok refl)
   turn-adds (suc k) p a becomes ok = refl
 
   -- In an operation of a session's machine, and so in a proposal and a crash of a poll's.
   pub perform-adds : (W : ℕ) (o : Operation) → InRange (s .limit) (accessOf (s .limit) (processAt s (processOf o)) o) →
-      let r = perform W s c o in r .counts .contested + markedRounds s ≡ c .contested + markedRounds (r .session)
+      let r = perform W s c o in GrowAlike c s (r .counts) (r .session)
   unfolding perform answered after countsAfter
   perform-adds W o ok = turn-adds (refusal (tests s c o)) _ _ _ (λ e. ok)
 
@@ -78,7 +81,7 @@ module _ {O A E : Type 0} (M : System Session (Input O) A E) (tally : A → Coun
     (adds : (fs : List (Input O)) (f : Input O) →
     let s = machine M start fs in
     let r = M .perform s f in
-    tally r .contested + markedRounds s ≡ f .counts .contested + markedRounds (M .state r)) where
+    GrowAlike (f .counts) s (tally r) (M .state r)) where
   pub calls-contested : (cs : List (Call (Input O) A)) (c : Counts) → EachAsTheMachine M start cs → OneTally tally cs c →
       c .contested ≡ markedRounds (machine M start (inputs cs))
   calls-contested [] c each one = rw (one, unmarked) refl

@@ -1,15 +1,20 @@
--- What is known of a session, or a poll, that the machine came to, and how one operation of a session's machine keeps it.
-use Rattle.base.specs.Prelude.{ℕ, _≤_, _≡_, refl, _∙_, Bool, true, List, [], _++_}
+-- What is known of a session, or a poll, that the machine came to, and that one operation keeps it. (An operation of a poll: `theory_poll`.)
+use Rattle.base.specs.Prelude.{ℕ, suc, zero, _≤_, _≡_, refl, _∙_, Bool, true, false, List, [], _++_}
 use Rattle.model_laws.specs.Types.{Session, Counts, Operation}
 use Rattle.model.specs.Board.{processAt, opened, maxProcesses, maxRounds}
-use Rattle.model.specs.Machine.{after, processOf}
+use Rattle.model.specs.Refusal.{refusal, tests, stepped}
+use Rattle.model.specs.Machine.{after, countsAfter, answered, perform, processOf}
 use Rattle.model.specs.Sound.{soundProcess, soundAtAs}
-use Rattle.model_laws.specs.Accepted.{Accepted}
-use Rattle.model_laws.specs.Operations.{after-same}
+use Rattle.model_laws.specs.Accepted.{Accepted, accepted}
+use Rattle.model_laws.specs.Sounds.{sound-process}
+use Rattle.model_laws.specs.Operations.{after-same, after-sound, opened-sound}
 use Rattle.model_rule.specs.Event.{Event, eventsOf}
+use Rattle.model_rule.specs.System.{machine, ifAccepted, events, past}
+use Rattle.model_rule.specs.Calls.{Input, sessions}
 use Rattle.theory_board.specs.Invariant.{Invariant}
 use Rattle.theory_board.specs.Operations.{operation-invariant}
 use Rattle.theory_board.specs.Opening.{opened-invariant}
+use Rattle.theory_board.specs.Lists.{machine-kept}
 
 -- It is sound, as a session or (poll true) as a poll, has its n and its limit still, and keeps the invariant.
 pub record Reached (poll : Bool) (W n L : ℕ) (s : Session) (h : List Event) : Type 0 where
@@ -18,16 +23,44 @@ pub record Reached (poll : Bool) (W n L : ℕ) (s : Session) (h : List Event) : 
   pub rounds : s .limit ≡ L
   pub invariant : Invariant W s h
 
--- An accepted operation of a session, and so an accepted proposal or crash of a poll: the process that it names is sound, as one of a session, and what
--- it leaves is sound.
-pub accepted-reached : {poll : Bool} {W n L : ℕ} {s : Session} {h : List Event} → Reached poll W n L s h → (c : Counts) (o : Operation) → Accepted s c o →
-    soundProcess W (s .limit) (processAt s (processOf o)) ≡ true → soundAtAs poll W (after W s o) ≡ true →
+-- An accepted operation of a session, and so an accepted proposal or crash of a poll: the process that it names is sound, as one of a
+-- session, and what it leaves is sound.
+pub accepted-reached : {poll : Bool} {W n L : ℕ} {s : Session} {h : List Event} → Reached poll W n L s h → (c : Counts) (o : Operation) →
+    Accepted s c o → soundProcess W (s .limit) (processAt s (processOf o)) ≡ true → soundAtAs poll W (after W s o) ≡ true →
     Reached poll W n L (after W s o) (eventsOf (processAt s (processOf o)) (s .decision) o ++ h)
 accepted-reached {W = W} {s = s} i c o a one left =
     let same = after-same W s o in
-    record { sound = left; size = same .0 ∙ i .size; rounds = same .1 ∙ i .rounds; invariant = operation-invariant (i .invariant) c o one a }
+    let kept = operation-invariant (i .invariant) c o one a in
+    record { sound = left; size = same .0 ∙ i .size; rounds = same .1 ∙ i .rounds; invariant = kept }
 
 -- What is just opened, and sound.
-pub opened-reached : {poll : Bool} (W n L : ℕ) → soundAtAs poll W (opened n L) ≡ true → n ≤ maxProcesses → L ≤ maxRounds → Reached poll W n L (opened n L) []
+pub opened-reached : {poll : Bool} (W n L : ℕ) → soundAtAs poll W (opened n L) ≡ true → n ≤ maxProcesses → L ≤ maxRounds →
+    Reached poll W n L (opened n L) []
 unfolding opened
 opened-reached W n L sound few low = record { sound = sound; size = refl; rounds = refl; invariant = opened-invariant W n L few low }
+
+-- ---- the machine of sessions
+
+module _ {W n L : ℕ} (wide : 1 ≤ W) where
+  -- One operation, accepted or refused.
+  pub operation-reached : {s : Session} {h : List Event} (f : Input Operation) → Reached false W n L s h →
+      Reached false W n L (perform W s (f .counts) (f .operation) .session) (events (sessions W) s f ++ h)
+  unfolding perform answered
+  operation-reached {s} {h} f i = go (f .counts) (f .operation) (refusal (tests s (f .counts) (f .operation))) refl
+    where
+      go : (c : Counts) (o : Operation) (k : ℕ) → refusal (tests s c o) ≡ k →
+          let a = stepped k s (after W s o) c (countsAfter s c o) in
+          Reached false W n L (a .session) (ifAccepted (a .code) (eventsOf (processAt s (processOf o)) (s .decision) o) ++ h)
+      go c o zero e =
+          let a = accepted s c o e in
+          accepted-reached i c o a (sound-process false W s (processOf o) (i .sound)) (after-sound W wide s c o (i .sound) a)
+      go c o (suc k) e = i
+
+  -- A list of operations.
+  pub machine-reached : {start : Session} → Reached false W n L start [] → (fs : List (Input Operation)) →
+      Reached false W n L (machine (sessions W) start fs) (past (sessions W) start fs)
+  machine-reached = machine-kept (sessions W) (Reached false W n L) (λ s h f. operation-reached f)
+
+-- A session just opened.
+pub opened-session : (W n L : ℕ) → 1 ≤ n → n ≤ maxProcesses → W ≤ L → L ≤ maxRounds → Reached false W n L (opened n L) []
+opened-session W n L some few wide low = opened-reached W n L (opened-sound W n L some few wide low) few low

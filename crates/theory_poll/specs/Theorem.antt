@@ -1,4 +1,4 @@
--- The rule of polls holds at every window that is wide enough; the rule in service is an instance. And contested is the number of marked rounds.
+-- The rule of polls holds at every window that is wide enough, and so in service; and contested is the number of marked rounds.
 use Rattle.base.specs.Prelude.{ℕ, _*_, _≤_, _<_, arith, _≡_, refl, sym, _∙_, subst, List, [], _∷_, _+_, true}
 use Rattle.model_laws.specs.Types.{Session, Counts, Propose, Crash}
 use Rattle.model.specs.Window.{window}
@@ -20,7 +20,7 @@ use Rattle.model_rule.specs.System.{inputs, machine, past, EachAsTheMachine}
 use Rattle.model_rule.specs.PollCalls.{polls, PollCall, PollRunWith}
 use Rattle.model_rule.specs.PollRule.{Gave, PollRule, PollClaimWith, EveryPollWindow, PollClaim, CallerPollClaim}
 use Rattle.model_rule.specs.Contested.{markedRounds, PollContestedRule}
-use Rattle.theory_board.specs.Marks.{turn-adds, perform-adds, opened-unmarked, calls-contested}
+use Rattle.theory_board.specs.Marks.{GrowAlike, turn-adds, perform-adds, opened-unmarked, calls-contested}
 use Rattle.theory_board.specs.Opening.{same-everywhere}
 use Rattle.theory_board.specs.Lists.{after-each}
 use Rattle.theory_board.specs.Reached.{Reached}
@@ -118,7 +118,7 @@ caller-poll-rule caller n = poll-rule n (limitsOf caller) (caller-limits caller)
 
 -- One operation on a poll that the machine reached.
 pub poll-reached-adds : {W n : ℕ} {s : Session} {h : List Event} (c : Counts) (o : PollOperation) → Reached true W n W s h →
-    let r = pollPerform W s c o in r .counts .contested + markedRounds s ≡ c .contested + markedRounds (r .session)
+    let r = pollPerform W s c o in GrowAlike c s (r .counts) (r .session)
 unfolding pollPerform turned turnAfter turnCounts accessOf
 poll-reached-adds {W} {s = s} c (proposes p v) i = perform-adds s c (i .invariant .long .marks) W (Propose p v) tt
 poll-reached-adds {W} {s = s} c (turns p) i =

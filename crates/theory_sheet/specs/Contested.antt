@@ -1,5 +1,5 @@
 -- Contested is the number of marked rounds, after every list of calls on one tally and after every sheet.
-use Rattle.base.specs.Prelude.{ℕ, suc, zero, _+_, _≤_, arith, _≡_, refl, sym, false, List, [], _∷_, eqb}
+use Rattle.base.specs.Prelude.{ℕ, suc, zero, _≤_, arith, _≡_, refl, sym, false, List, [], _∷_, eqb}
 use Rattle.base.specs.Bools.{cond-cases}
 use Rattle.model_laws.specs.Types.{Session, Counts, Operation, Entry, WellFormed, Malformed, Ran, Stepped}
 use Rattle.model.specs.Window.{window}
@@ -13,15 +13,14 @@ use Rattle.model_laws.specs.Callers.{opening-held}
 use Rattle.model_rule.specs.Event.{Event}
 use Rattle.model_rule.specs.Calls.{sessions}
 use Rattle.model_rule.specs.Contested.{markedRounds, ContestedRule, ContestedRun}
-use Rattle.theory_board.specs.Marks.{perform-adds, opened-unmarked, calls-contested}
-use Rattle.theory_board.specs.Reached.{Reached}
-use Rattle.theory_agreement.specs.Machine.{operation-reached, machine-reached}
+use Rattle.theory_board.specs.Marks.{GrowAlike, perform-adds, opened-unmarked, calls-contested}
+use Rattle.theory_board.specs.Reached.{Reached, operation-reached, machine-reached}
 use Rattle.theory_agreement.specs.Theorem.{sessions-followed, opening-reached}
 use Rattle.theory_sheet.specs.Runs.{sheet-reached}
 
 -- One operation on a session that the machine reached.
 pub reached-adds : {W n L : ℕ} {s : Session} {h : List Event} (c : Counts) (o : Operation) → Reached false W n L s h →
-    let r = perform W s c o in r .counts .contested + markedRounds s ≡ c .contested + markedRounds (r .session)
+    let r = perform W s c o in GrowAlike c s (r .counts) (r .session)
 reached-adds {W} {s = s} c o i = perform-adds s c (i .invariant .long .marks) W o (access-in-range W s o (i .sound))
 
 module _ {n L : ℕ} (wide : 1 ≤ window n) where

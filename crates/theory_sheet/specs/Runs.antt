@@ -19,8 +19,8 @@ use Rattle.model_rule.specs.Event.{Event}
 use Rattle.model_rule.specs.System.{machine, past}
 use Rattle.model_rule.specs.Calls.{Input, sessions}
 use Rattle.model_rule.specs.Rule.{Rule}
-use Rattle.theory_board.specs.Reached.{Reached}
-use Rattle.theory_agreement.specs.Machine.{operation-reached, machine-reached, opened-session, reached-rule}
+use Rattle.theory_board.specs.Reached.{Reached, operation-reached, machine-reached, opened-session}
+use Rattle.theory_agreement.specs.Conclusions.{reached-rule}
 use Rattle.theory_agreement.specs.Theorem.{operates-as, never-unsound}
 
 -- ---- the public operations

@@ -66,7 +66,10 @@ pub stepped-sized : (m j k : ℕ) (s t u : Session) (c d e : Counts) → j ≡ k
     (b .session ≡ sized m (a .session)) × (b .code ≡ a .code)
 stepped-sized m j k s t u c d e number left = rw (number, left) (go k)
   where
-    go : (k : ℕ) → (stepped k (sized m s) (sized m t) c e .session ≡ sized m (stepped k s t c d .session)) × (stepped k (sized m s) (sized m t) c e .code ≡ stepped k s t c d .code)
+    go : (k : ℕ) →
+        let a = stepped k s t c d in
+        let b = stepped k (sized m s) (sized m t) c e in
+        (b .session ≡ sized m (a .session)) × (b .code ≡ a .code)
     go zero = (refl, refl)
     go (suc k) = (refl, refl)
 
@@ -81,7 +84,7 @@ perform-sized W m s o below more =
     (rw (tests-are (sized m s) noCounts o, tests-are s noCounts o, lt-leb m (processOf o) (omega arith), lt-leb (s .n) (processOf o) below) refl)
     (after-sized W m s o)
 
--- A list of operations of the first n processes, on a machine of which that holds of each operation. (So n stays: it is the m of the session itself.)
+-- A list of operations of the first n processes, on a machine of which that holds of each. (So n stays: take the session's own n as m.)
 module _ {O A : Type 0} (M : System Session (Input O) A Event) (process : O → ℕ)
     (one : (m : ℕ) (s : Session) (o : O) → process o < s .n → s .n ≤ m →
     (M .state (M .perform (sized m s) (uncounted o)) ≡ sized m (M .state (M .perform s (uncounted o))))
@@ -98,4 +101,5 @@ module _ {O A : Type 0} (M : System Session (Input O) A Event) (process : O → 
 
 pub sessions-more : (W m n : ℕ) (s : Session) (h : List Event) (os : List Operation) → s .n ≡ n → n ≤ m → every (within n) os ≡ true →
     played (sessions W) (sized m s) h os ≡ (sized m (played (sessions W) s h os .0), played (sessions W) s h os .1)
-sessions-more W = played-more (sessions W) processOf (λ m s o below more. let k = perform-sized W m s o below more in (k .0, rw (k .1) refl))
+sessions-more W =
+    played-more (sessions W) processOf (λ m s o below more. let k = perform-sized W m s o below more in (k .0, rw (k .1) refl))

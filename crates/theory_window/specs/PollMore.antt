@@ -20,7 +20,7 @@ after-sized : (W m : ℕ) (s : Session) (p : ℕ) → turnAfter W (sized m s) p 
 unfolding turnAfter
 after-sized W m s p = turn-sized m s p _ _
 
--- One operation of a process that is among the n, and so among the m: the number, the poll, and what it adds to the past where it is accepted.
+-- One operation of a process that is among the n, and so among the m: the number, the poll, and its events where it is accepted.
 performed-sized : (W m : ℕ) (s : Session) → s .n ≤ m → (o : PollOperation) → pollProcessOf o < s .n →
     let a = pollPerform W s noCounts o in
     let b = pollPerform W (sized m s) noCounts o in

@@ -13,11 +13,11 @@ use Rattle.model_poll.specs.declared.Answer.{Answer}
 use Rattle.model_poll.specs.declared.Answer.the-variants.{Pending, Commits, Adopts}
 use Rattle.model_poll.specs.Turn.{answerOf, Carries}
 use Rattle.model_poll.specs.Machine.{PollOperation, pollOpeningAt}
-use Rattle.model_rule.specs.System.{machine, at-the-end}
+use Rattle.model_rule.specs.System.{machine}
 use Rattle.model_rule.specs.PollCalls.{polls, PollRunWith}
 use Rattle.model_rule.specs.PollRule.{PollRule, PollClaimWithin}
 use Rattle.model_poll_laws.specs.Opening.{poll-opened}
-use Rattle.model_rule_cases.specs.Play.{fedBy, played, played-machine, Called, called}
+use Rattle.model_rule_cases.specs.Play.{fedBy, played, played-machine, Called, called, at-the-end}
 use Rattle.theory_window.specs.Construction.{atLast, withOne, withTwo}
 use Rattle.theory_window.specs.More.{sized}
 use Rattle.theory_window.specs.Theorem.{every-from, high-threshold}
