@@ -6,10 +6,13 @@ use Rattle.model.specs.Step.{bit, found, stored, turn, newlyMarked, counted}
 use Rattle.model.specs.Refusal.{refusal, tests, stepped}
 use Rattle.model.specs.Machine.{accessOf, after, countsAfter, answered, perform, processOf}
 use Rattle.model_laws.specs.Ranges.{InRange}
+use Rattle.model_laws.specs.Operations.{access-in-range}
+use Rattle.model_rule.specs.Event.{Event}
 use Rattle.model_rule.specs.System.{System, Call, inputs, machine, EachAsTheMachine}
 use Rattle.model_rule.specs.Calls.{Input}
 use Rattle.model_rule.specs.Contested.{markedTo, markedRounds, OneTally}
 use Rattle.theory_board.specs.Opening.{same-everywhere}
+use Rattle.theory_board.specs.Reached.{Reached}
 
 -- ---- a mark that is set
 
@@ -64,6 +67,11 @@ module _ (s : Session) (c : Counts) (long : s .limit ≤ length (s .marks)) wher
       let r = perform W s c o in GrowAlike c s (r .counts) (r .session)
   unfolding perform answered after countsAfter
   perform-adds W o ok = turn-adds (refusal (tests s c o)) _ _ _ (λ e. ok)
+
+-- One operation on a session that the machine reached.
+pub reached-adds : {W n L : ℕ} {s : Session} {h : List Event} (c : Counts) (o : Operation) → Reached false W n L s h →
+    let r = perform W s c o in GrowAlike c s (r .counts) (r .session)
+reached-adds {W} {s = s} c o i = perform-adds s c (i .invariant .long .marks) W o (access-in-range W s o (i .sound))
 
 -- ---- lists of calls
 

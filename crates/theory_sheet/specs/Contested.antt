@@ -8,20 +8,14 @@ use Rattle.model.specs.Machine.{perform}
 use Rattle.model.specs.Sheet.{processCount, roundLimit, entries, sheetRefusal}
 use Rattle.model.specs.Runner.{runBy, runFrom, ranOr, runWithin}
 use Rattle.model_laws.specs.Windows.{window-least}
-use Rattle.model_laws.specs.Operations.{access-in-range}
 use Rattle.model_laws.specs.Callers.{opening-held}
 use Rattle.model_rule.specs.Event.{Event}
 use Rattle.model_rule.specs.Calls.{sessions}
 use Rattle.model_rule.specs.Contested.{markedRounds, ContestedRule, ContestedRun}
-use Rattle.theory_board.specs.Marks.{GrowAlike, perform-adds, opened-unmarked, calls-contested}
+use Rattle.theory_board.specs.Marks.{reached-adds, opened-unmarked, calls-contested}
 use Rattle.theory_board.specs.Reached.{Reached, operation-reached, machine-reached}
 use Rattle.theory_agreement.specs.Theorem.{sessions-followed, opening-reached}
 use Rattle.theory_sheet.specs.Runs.{sheet-reached}
-
--- One operation on a session that the machine reached.
-pub reached-adds : {W n L : ℕ} {s : Session} {h : List Event} (c : Counts) (o : Operation) → Reached false W n L s h →
-    let r = perform W s c o in GrowAlike c s (r .counts) (r .session)
-reached-adds {W} {s = s} c o i = perform-adds s c (i .invariant .long .marks) W o (access-in-range W s o (i .sound))
 
 module _ {n L : ℕ} (wide : 1 ≤ window n) where
   -- Entry after entry.
