@@ -1,5 +1,5 @@
 -- By computation: the list of calls of each window from 2 to 15 (`theory_window`, `Construction`) breaks the rule of polls at that window.
-use Prim.Native.Nat.{ℕ}
+use Prim.Native.Nat.{ℕ, _-_}
 use mathlib.Core.Path.{_≡_, refl}
 use mathlib.Core.Bool.{Bool, true, false, _&&_}
 use mathlib.Core.List.{List, [], _++_, map}
