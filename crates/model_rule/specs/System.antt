@@ -2,6 +2,7 @@
 use Prim.Native.Nat.{ℕ, zero, suc}
 use mathlib.Core.Path.{_≡_}
 use mathlib.Core.List.{List, [], _∷_, _++_}
+use Rattle.model.specs.Numbers.{unsound}
 
 -- ---- the machine
 
@@ -50,11 +51,11 @@ module _ {State Input Answer Event : Type 0} (M : System State Input Answer Even
   past start [] = []
   past start (f ∷ fs) = events (machine start fs) f ++ past start fs
 
-  -- Each call is answered as the machine answers that is fed the same inputs, and never with 3.
+  -- Each call is answered as the machine answers that is fed the same inputs, and never with 3, "session not sound".
   abbrev pub EachAsTheMachine : State → List (Call Input Answer) → Type 0
   EachAsTheMachine start [] = Unit {0}
   EachAsTheMachine start (c ∷ cs) =
-      (c .answer ≡ M .perform (machine start (inputs cs)) (c .input)) × (M .code (c .answer) ≡ 3 → ⊥) × EachAsTheMachine start cs
+      (c .answer ≡ M .perform (machine start (inputs cs)) (c .input)) × (M .code (c .answer) ≡ unsound → ⊥) × EachAsTheMachine start cs
 
   -- P holds of the start and no calls, and after each call of the state that it left and the calls up to it.
   abbrev pub AfterEach : (P : State → List (Call Input Answer) → Type 0) → State → List (Call Input Answer) → Type 0

@@ -20,7 +20,7 @@ use Rattle.theory_board.specs.Lists.{followed, after-each}
 use Rattle.theory_agreement.specs.Conclusions.{reached-below}
 
 -- What a call answers is what the operation answers: a proposal and a crash leave any counts.
-promised-operate : (W : ℕ) (s : Session) (c : Counts) (o : Operation) → promisedAt W s c o ≡ operateAtAs false W s c o
+pub promised-operate : (W : ℕ) (s : Session) (c : Counts) (o : Operation) → promisedAt W s c o ≡ operateAtAs false W s c o
 unfolding stepAt learnAt
 promised-operate W s c (Propose p v) = propose-counts false W s c p v
 promised-operate W s c (Step p leader) = refl

@@ -1,5 +1,6 @@
 -- Lists of calls on any machine: what each operation keeps, a list keeps; and calls that answer as the machine does follow it.
 use Rattle.base.specs.Prelude.{_≡_, refl, sym, _∙_, ap, List, [], _∷_, _++_}
+use Rattle.model.specs.Numbers.{unsound}
 use Rattle.model_rule.specs.System.{System, Call, inputs, Run, none, call, machine, events, past, EachAsTheMachine, AfterEach}
 
 module _ {State Input Answer Event : Type 0} (M : System State Input Answer Event) (Kept : State → List Event → Type 0)
@@ -10,7 +11,7 @@ module _ {State Input Answer Event : Type 0} (M : System State Input Answer Even
 
   module _ {promised : State → Input → Answer}
       (answers : (s : State) (h : List Event) (f : Input) → Kept s h →
-      (promised s f ≡ M .perform s f) × (M .code (M .perform s f) ≡ 3 → ⊥)) where
+      (promised s f ≡ M .perform s f) × (M .code (M .perform s f) ≡ unsound → ⊥)) where
     pub followed : {start s : State} {cs : List (Call Input Answer)} → Kept start [] → Run (M .state) promised start cs s →
         EachAsTheMachine M start cs × (s ≡ machine M start (inputs cs))
     followed i none = (tt, refl)

@@ -16,6 +16,7 @@ use denote.Triple.Clauses.{Ended, AtExit, ClausesAt}
 use Rattle.model.specs.declared.Caller.{Caller}
 use Rattle.model.specs.declared.Session.{Session}
 use Rattle.model.specs.declared.Counts.{Counts}
+use Rattle.model.specs.declared.Operation.{Operation}
 use Rattle.model.specs.declared.Operation.the-variants.{Propose, Step, Learn, Crash}
 use Rattle.model.specs.declared.Changed.{Changed}
 use Rattle.model.specs.Machine.{opening}
@@ -32,6 +33,7 @@ use Rattle.session_step_lent.proofs.step as step
 use Rattle.session_step_lent.proofs.learn as learn
 use Rattle.session_step.proofs.step as step-by-value
 use Rattle.session_learn.proofs.learn as learn-by-value
+use Rattle.session_operate.proofs.operate as operate
 use Rattle.poll_open.proofs.open as poll-opens
 use Rattle.poll_change.proofs.propose as poll-propose
 use Rattle.poll_change.proofs.crash as poll-crash
@@ -75,6 +77,11 @@ module _ {M : Type 1} (𝓤 : URA M) (H : Heap 𝓤) (A : Atoms 𝓤) (mem : Mem
     pub learn-value-contract : (c : Counts) →
         learn-by-value.clauses 𝓤 H A mem run tt (s, (p, (c, tt))) ≡ ensures 𝓤 (λ r e. r ≡ promised s c (Learn p))
     learn-value-contract c = refl
+
+  -- Any operation, with the counts by value. (That is `promised`: `promised-operate` of `theory_agreement`.)
+  pub operate-contract : (s : Session) (c : Counts) (o : Operation) →
+      operate.clauses 𝓤 H A mem run tt (s, (c, (o, tt))) ≡ ensures 𝓤 (λ r e. r ≡ Public.operate s c o)
+  operate-contract s c o = refl
 
   -- ---- of polls
 

@@ -1,7 +1,7 @@
 -- Contested is the number of marked rounds, after every list of calls on one tally and after every sheet.
 use Rattle.base.specs.Prelude.{ℕ, suc, zero, _≤_, arith, _≡_, refl, sym, false, List, [], _∷_, eqb}
 use Rattle.base.specs.Bools.{cond-cases}
-use Rattle.model_laws.specs.Types.{Session, Counts, Operation, Entry, WellFormed, Malformed, Ran, Stepped}
+use Rattle.model_laws.specs.Types.{Session, Counts, Entry, WellFormed, Malformed, Ran, Stepped}
 use Rattle.model.specs.Window.{window}
 use Rattle.model.specs.Board.{noCounts, opened}
 use Rattle.model.specs.Machine.{perform}

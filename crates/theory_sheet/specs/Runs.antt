@@ -7,7 +7,7 @@ use Rattle.model.specs.Board.{limitsOf, UpToServer, opened, noCounts}
 use Rattle.model.specs.Numbers.{unsound, badEntry}
 use Rattle.model.specs.Machine.{perform}
 use Rattle.model.specs.Public.{operate}
-use Rattle.model.specs.Sound.{soundAs, sound}
+use Rattle.model.specs.Sound.{soundAs}
 use Rattle.model.specs.Refusal.{refusal, openTests}
 use Rattle.model.specs.Sheet.{processCount, roundLimit, entries, sheetRefusal}
 use Rattle.model.specs.Export.{decidedBytes, endingBuffer, exportBuffer}
