@@ -50,6 +50,10 @@ module _ {M : Type 1} (𝓤 : URA M) (H : Heap 𝓤) (A : Atoms 𝓤) (mem : Mem
       opens.clauses 𝓤 H A mem run tt (caller, (n, (L, tt))) ≡ ensures 𝓤 (λ r e. r ≡ opening caller n L)
   open-contract caller n L = refl
 
+  pub poll-open-contract : (caller : Caller) (n : ℕ) →
+      poll-opens.clauses 𝓤 H A mem run tt (caller, (n, tt)) ≡ ensures 𝓤 (λ r e. r ≡ pollOpening caller n)
+  poll-open-contract caller n = refl
+
   module _ (s : Session) (p : ℕ) where
     -- A proposal and a crash are lent no counts.
     pub propose-contract : (v : ℕ) → propose.clauses 𝓤 H A mem run tt (s, (p, (v, tt))) ≡ ensures 𝓤 (λ r e. r ≡ Public.propose s p v)
@@ -58,7 +62,13 @@ module _ {M : Type 1} (𝓤 : URA M) (H : Heap 𝓤) (A : Atoms 𝓤) (mem : Mem
     pub crash-contract : crash.clauses 𝓤 H A mem run tt (s, (p, tt)) ≡ ensures 𝓤 (λ r e. r ≡ Public.crash s p)
     crash-contract = refl
 
-    -- A work turn and a look are: e has the counts as they stand at exit.
+    pub poll-propose-contract : (v : ℕ) → poll-propose.clauses 𝓤 H A mem run tt (s, (p, (v, tt))) ≡ ensures 𝓤 (λ r e. r ≡ pollPropose s p v)
+    poll-propose-contract v = refl
+
+    pub poll-crash-contract : poll-crash.clauses 𝓤 H A mem run tt (s, (p, tt)) ≡ ensures 𝓤 (λ r e. r ≡ pollCrash s p)
+    poll-crash-contract = refl
+
+    -- A work turn, a look and a poll's turn are: e has the counts as they stand at exit.
     pub step-contract : (κ : Lft) (leader : Bool) (counts : RefT Counts) →
         step.clauses 𝓤 H A mem run (κ, tt) (s, (p, (leader, (counts, tt))))
         ≡ ensures 𝓤 (λ r e. withCounts r (now (e .1 .1 .1 .0)) ≡ promised s (now counts) (Step p leader))
@@ -69,6 +79,11 @@ module _ {M : Type 1} (𝓤 : URA M) (H : Heap 𝓤) (A : Atoms 𝓤) (mem : Mem
         ≡ ensures 𝓤 (λ r e. withCounts r (now (e .1 .1 .0)) ≡ promised s (now counts) (Learn p))
     learn-contract κ counts = refl
 
+    pub turn-contract : (κ : Lft) (counts : RefT Counts) →
+        turn.clauses 𝓤 H A mem run (κ, tt) (s, (p, (counts, tt)))
+        ≡ ensures 𝓤 (λ r e. withLent r (now (e .1 .1 .0)) ≡ pollPromised s (now counts) (turns p))
+    turn-contract κ counts = refl
+
     -- With the counts by value.
     pub step-value-contract : (leader : Bool) (c : Counts) →
         step-by-value.clauses 𝓤 H A mem run tt (s, (p, (leader, (c, tt)))) ≡ ensures 𝓤 (λ r e. r ≡ promised s c (Step p leader))
@@ -78,35 +93,14 @@ module _ {M : Type 1} (𝓤 : URA M) (H : Heap 𝓤) (A : Atoms 𝓤) (mem : Mem
         learn-by-value.clauses 𝓤 H A mem run tt (s, (p, (c, tt))) ≡ ensures 𝓤 (λ r e. r ≡ promised s c (Learn p))
     learn-value-contract c = refl
 
+    pub turn-value-contract : (c : Counts) →
+        turn-by-value.clauses 𝓤 H A mem run tt (s, (p, (c, tt))) ≡ ensures 𝓤 (λ r e. r ≡ pollPromised s c (turns p))
+    turn-value-contract c = refl
+
   -- Any operation, with the counts by value. (That is `promised`: `promised-operate` of `theory_agreement`.)
   pub operate-contract : (s : Session) (c : Counts) (o : Operation) →
       operate.clauses 𝓤 H A mem run tt (s, (c, (o, tt))) ≡ ensures 𝓤 (λ r e. r ≡ Public.operate s c o)
   operate-contract s c o = refl
-
-  -- ---- of polls
-
-  pub poll-open-contract : (caller : Caller) (n : ℕ) →
-      poll-opens.clauses 𝓤 H A mem run tt (caller, (n, tt)) ≡ ensures 𝓤 (λ r e. r ≡ pollOpening caller n)
-  poll-open-contract caller n = refl
-
-  module _ (s : Session) (p : ℕ) where
-    -- A proposal and a crash are lent no counts.
-    pub poll-propose-contract : (v : ℕ) → poll-propose.clauses 𝓤 H A mem run tt (s, (p, (v, tt))) ≡ ensures 𝓤 (λ r e. r ≡ pollPropose s p v)
-    poll-propose-contract v = refl
-
-    pub poll-crash-contract : poll-crash.clauses 𝓤 H A mem run tt (s, (p, tt)) ≡ ensures 𝓤 (λ r e. r ≡ pollCrash s p)
-    poll-crash-contract = refl
-
-    -- A turn is: e has the counts as they stand at exit.
-    pub turn-contract : (κ : Lft) (counts : RefT Counts) →
-        turn.clauses 𝓤 H A mem run (κ, tt) (s, (p, (counts, tt)))
-        ≡ ensures 𝓤 (λ r e. withLent r (now (e .1 .1 .0)) ≡ pollPromised s (now counts) (turns p))
-    turn-contract κ counts = refl
-
-    -- With the counts by value.
-    pub turn-value-contract : (c : Counts) →
-        turn-by-value.clauses 𝓤 H A mem run tt (s, (p, (c, tt))) ≡ ensures 𝓤 (λ r e. r ≡ pollPromised s c (turns p))
-    turn-value-contract c = refl
 
 -- Where no counts are lent, they stand as they stood: what the contract says is what the rule takes.
 pub propose-promised : (s : Session) (c : Counts) (p v : ℕ) (r : Changed) → r ≡ Public.propose s p v →

@@ -59,19 +59,13 @@ after-sized : (W m : ℕ) (s : Session) (o : Operation) → after W (sized m s) 
 unfolding after
 after-sized W m s o = turn-sized m s (processOf o) _ _
 
--- The number and the session of an answer, where the tests and what they leave are the same.
-pub stepped-sized : (m j k : ℕ) (s t u : Session) (c d e : Counts) → j ≡ k → u ≡ sized m t →
+-- The session and the number of an answer.
+pub stepped-sized : (m k : ℕ) (s t : Session) (c d e : Counts) →
     let a = stepped k s t c d in
-    let b = stepped j (sized m s) u c e in
+    let b = stepped k (sized m s) (sized m t) c e in
     (b .session ≡ sized m (a .session)) × (b .code ≡ a .code)
-stepped-sized m j k s t u c d e number left = rw (number, left) (go k)
-  where
-    go : (k : ℕ) →
-        let a = stepped k s t c d in
-        let b = stepped k (sized m s) (sized m t) c e in
-        (b .session ≡ sized m (a .session)) × (b .code ≡ a .code)
-    go zero = (refl, refl)
-    go (suc k) = (refl, refl)
+stepped-sized m zero s t c d e = (refl, refl)
+stepped-sized m (suc k) s t c d e = (refl, refl)
 
 -- One operation of a process that is among the n, and so among the m.
 pub perform-sized : (W m : ℕ) (s : Session) (o : Operation) → processOf o < s .n → s .n ≤ m →
@@ -80,9 +74,9 @@ pub perform-sized : (W m : ℕ) (s : Session) (o : Operation) → processOf o < 
     (b .session ≡ sized m (a .session)) × (b .code ≡ a .code)
 unfolding perform answered
 perform-sized W m s o below more =
-    stepped-sized m (refusal (tests (sized m s) noCounts o)) (refusal (tests s noCounts o)) s (after W s o) _ noCounts _ _
-    (rw (tests-are (sized m s) noCounts o, tests-are s noCounts o, lt-leb m (processOf o) (omega arith), lt-leb (s .n) (processOf o) below) refl)
-    (after-sized W m s o)
+    let number : refusal (tests (sized m s) noCounts o) ≡ refusal (tests s noCounts o) =
+    rw (tests-are (sized m s) noCounts o, tests-are s noCounts o, lt-leb m (processOf o) (omega arith), lt-leb (s .n) (processOf o) below) refl in
+    rw (number, after-sized W m s o) (stepped-sized m (refusal (tests s noCounts o)) s (after W s o) noCounts _ _)
 
 -- A list of operations of the first n processes, on a machine of which that holds of each. (So n stays: take the session's own n as m.)
 module _ {O A : Type 0} (M : System Session (Input O) A Event) (process : O → ℕ)

@@ -27,12 +27,10 @@ performed-sized : (W m : ℕ) (s : Session) → s .n ≤ m → (o : PollOperatio
     ((b .session ≡ sized m (a .session)) × (b .code ≡ a .code)) × (pollEventsOf (sized m s) o ≡ pollEventsOf s o)
 unfolding pollPerform turned
 performed-sized W m s more (proposes p v) below = (perform-sized W m s (Propose p v) below more, refl)
-performed-sized W m s more (turns p) below = (
-  stepped-sized m (refusal (turnTests (sized m s) noCounts p)) (refusal (turnTests s noCounts p)) s (turnAfter W s p) _ noCounts _ _
-      (rw (lt-leb m p (omega arith), lt-leb (s .n) p below) refl)
-      (after-sized W m s p),
-  refl,
-)
+performed-sized W m s more (turns p) below =
+    let number : refusal (turnTests (sized m s) noCounts p) ≡ refusal (turnTests s noCounts p) =
+    rw (lt-leb m p (omega arith), lt-leb (s .n) p below) refl in
+    (rw (number, after-sized W m s p) (stepped-sized m (refusal (turnTests s noCounts p)) s (turnAfter W s p) noCounts _ _), refl)
 performed-sized W m s more (crashes p) below = (perform-sized W m s (Crash p) below more, refl)
 
 -- A list of operations of the first n processes.
