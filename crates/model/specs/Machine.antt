@@ -17,18 +17,18 @@ use Rattle.model.specs.declared.Stepped.{Stepped}
 use Rattle.model.specs.Window.{window}
 use Rattle.model.specs.Board.{processAt, opened, limitsOf}
 use Rattle.model.specs.Step.{access, next, learnt, found, turn, counted, process}
-use Rattle.model.specs.Refusal.{Test, refusal, openTestsAt, tests, changed, stepped}
+use Rattle.model.specs.Refusal.{Test, refusal, openTestsFor, tests, changed, stepped}
 
 -- ---- opening
 
 -- Opening within a caller's limits, at window W: 02, wish 7, has "the window a parameter of the machine". Refused, no session is made: the answer
 -- holds the session of no process and no round, which is not sound.
-unfoldable pub openingAt : Limits → (W n L : ℕ) → Changed
-openingAt most W n L = changed (refusal (openTestsAt most W n L)) (opened 0 0) (opened n L)
+unfoldable pub openingFor : Limits → (W n L : ℕ) → Changed
+openingFor most W n L = changed (refusal (openTestsFor most W n L)) (opened 0 0) (opened n L)
 
 -- In service: within the caller's limits (02, wish 9: "Opening .. take the caller's limits"), at the window of n.
 abbrev pub opening : Caller → (n L : ℕ) → Changed
-opening caller n L = openingAt (limitsOf caller) (window n) n L
+opening caller n L = openingFor (limitsOf caller) (window n) n L
 
 -- ---- one operation: its process, what it accesses, and what the process becomes
 

@@ -15,7 +15,7 @@ use Rattle.model.specs.Board.{noCounts}
 use Rattle.model.specs.Numbers.{unsound}
 use Rattle.model.specs.Refusal.{tests}
 use Rattle.model.specs.Machine.{answered}
-use Rattle.model.specs.Sound.{soundAtAs}
+use Rattle.model.specs.Sound.{soundForAs}
 
 -- An answer with the counts that the caller lent, as they stand at the end: "The caller lends its tally, which a turn updates where
 -- it stands".
@@ -30,53 +30,53 @@ withoutCounts a = record { code = a .code; session = a .session }
 
 -- 3, "session not sound", tested first; "session, tally, buffer unchanged". Proposals and crashes are those of polls too (02, wish 6), where 3 is
 -- by a poll's soundness: `poll` says which. (A poll's turn is its own: `model_poll`.)
-unfoldable pub operateAtAs : (poll : Bool) → (W : ℕ) → Session → Counts → Operation → Stepped
-operateAtAs poll W s c o = answered ((not (soundAtAs poll W s), unsound) ∷ tests s c o) W s c o
+unfoldable pub operateForAs : (poll : Bool) → (W : ℕ) → Session → Counts → Operation → Stepped
+operateForAs poll W s c o = answered ((not (soundForAs poll W s), unsound) ∷ tests s c o) W s c o
 
 -- "Proposal 3, 4, 5, 6."
-unfoldable pub proposeAtAs : (poll : Bool) → (W : ℕ) → Session → (p v : ℕ) → Changed
-proposeAtAs poll W s p v = withoutCounts (operateAtAs poll W s noCounts (Propose p v))
+unfoldable pub proposeForAs : (poll : Bool) → (W : ℕ) → Session → (p v : ℕ) → Changed
+proposeForAs poll W s p v = withoutCounts (operateForAs poll W s noCounts (Propose p v))
 
-abbrev pub proposeAt : (W : ℕ) → Session → (p v : ℕ) → Changed
-proposeAt W s p v = proposeAtAs false W s p v
+abbrev pub proposeFor : (W : ℕ) → Session → (p v : ℕ) → Changed
+proposeFor W s p v = proposeForAs false W s p v
 
 -- "Work 3, 4, 7, 8, 9, 16."
-unfoldable pub stepAt : (W : ℕ) → Session → (p : ℕ) → (leader : Bool) → Counts → Stepped
-stepAt W s p leader c = operateAtAs false W s c (Step p leader)
+unfoldable pub stepFor : (W : ℕ) → Session → (p : ℕ) → (leader : Bool) → Counts → Stepped
+stepFor W s p leader c = operateForAs false W s c (Step p leader)
 
 -- "Look 3, 4, 7, 8, 16."
-unfoldable pub learnAt : (W : ℕ) → Session → (p : ℕ) → Counts → Stepped
-learnAt W s p c = operateAtAs false W s c (Learn p)
+unfoldable pub learnFor : (W : ℕ) → Session → (p : ℕ) → Counts → Stepped
+learnFor W s p c = operateForAs false W s c (Learn p)
 
 -- "Crash 3, 4, 7, 8."
-unfoldable pub crashAtAs : (poll : Bool) → (W : ℕ) → Session → (p : ℕ) → Changed
-crashAtAs poll W s p = withoutCounts (operateAtAs poll W s noCounts (Crash p))
+unfoldable pub crashForAs : (poll : Bool) → (W : ℕ) → Session → (p : ℕ) → Changed
+crashForAs poll W s p = withoutCounts (operateForAs poll W s noCounts (Crash p))
 
-abbrev pub crashAt : (W : ℕ) → Session → (p : ℕ) → Changed
-crashAt W s p = crashAtAs false W s p
+abbrev pub crashFor : (W : ℕ) → Session → (p : ℕ) → Changed
+crashFor W s p = crashForAs false W s p
 
 -- ---- in service: at the window of the session's n
 
 abbrev pub operateAs : (poll : Bool) → Session → Counts → Operation → Stepped
-operateAs poll s c o = operateAtAs poll (window (s .n)) s c o
+operateAs poll s c o = operateForAs poll (window (s .n)) s c o
 
 abbrev pub operate : Session → Counts → Operation → Stepped
 operate s c o = operateAs false s c o
 
 abbrev pub proposeAs : (poll : Bool) → Session → (p v : ℕ) → Changed
-proposeAs poll s p v = proposeAtAs poll (window (s .n)) s p v
+proposeAs poll s p v = proposeForAs poll (window (s .n)) s p v
 
 abbrev pub propose : Session → (p v : ℕ) → Changed
 propose s p v = proposeAs false s p v
 
 abbrev pub step : Session → (p : ℕ) → (leader : Bool) → Counts → Stepped
-step s p leader c = stepAt (window (s .n)) s p leader c
+step s p leader c = stepFor (window (s .n)) s p leader c
 
 abbrev pub learn : Session → (p : ℕ) → Counts → Stepped
-learn s p c = learnAt (window (s .n)) s p c
+learn s p c = learnFor (window (s .n)) s p c
 
 abbrev pub crashAs : (poll : Bool) → Session → (p : ℕ) → Changed
-crashAs poll s p = crashAtAs poll (window (s .n)) s p
+crashAs poll s p = crashForAs poll (window (s .n)) s p
 
 abbrev pub crash : Session → (p : ℕ) → Changed
 crash s p = crashAs false s p

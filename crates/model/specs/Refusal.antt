@@ -78,15 +78,15 @@ full c = leb maxCount (c .reads) || leb maxCount (c .writes) || leb maxCount (c 
 -- ---- the tests of each operation, in their order
 
 -- Opening with n processes and round limit L, within a caller's limits, at window W: 1, 2. (02, wish 9: "1 and 2 speak of the caller's limits".)
-abbrev pub openTestsAt : Limits → (W n L : ℕ) → List Test
-openTestsAt most W n L =
+abbrev pub openTestsFor : Limits → (W n L : ℕ) → List Test
+openTestsFor most W n L =
     (not (leb 1 n && leb n (most .processes)), badProcessCount)
     ∷ (not (leb W L && leb L (most .rounds)), badRoundLimit)
     ∷ []
 
 -- In service: at the window of n.
 abbrev pub openTests : Limits → (n L : ℕ) → List Test
-openTests most n L = openTestsAt most (window n) n L
+openTests most n L = openTestsFor most (window n) n L
 
 -- The operations' own tests, by the phase of the process that they name. Proposal: 5, 6.
 abbrev pub proposeTests : Phase → (v : ℕ) → List Test

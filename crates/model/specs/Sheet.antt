@@ -27,19 +27,19 @@ roundLimit s = word16 s 2
 -- ---- the runs: "Then p pairs, 16-bit offset and 16-bit length, offsets from the sheet's start, sorted by offset."
 
 -- A run of entries: where it starts, and its length in bytes (01: a pair).
-pub record Run : Type 0 where
+pub record EntryRun : Type 0 where
   pub offset : ℕ
   pub size : ℕ
 
-abbrev pub runAt : List ℕ → ℕ → Run
+abbrev pub runAt : List ℕ → ℕ → EntryRun
 runAt s i = record { offset = word16 s (4 + 4 * i); size = word16 s (4 + 4 * i + 2) }
 
 -- The runs i, i + 1, .., as many as told.
-abbrev pub runsFrom : List ℕ → (i count : ℕ) → List Run
+abbrev pub runsFrom : List ℕ → (i count : ℕ) → List EntryRun
 runsFrom s i zero = []
 runsFrom s i (suc k) = runAt s i ∷ runsFrom s (suc i) k
 
-abbrev pub runs : List ℕ → List Run
+abbrev pub runs : List ℕ → List EntryRun
 runs s = runsFrom s 0 (runCount s)
 
 -- Where the pairs end: "byte 4 + 4p".
@@ -47,12 +47,12 @@ abbrev pub headerEnd : List ℕ → ℕ
 headerEnd s = 4 + 4 * runCount s
 
 -- "A run starts at or after byte 4 + 4p and at or after the end of the run before it, and ends within the sheet."
-abbrev pub inOrder : (from size : ℕ) → List Run → Bool
+abbrev pub inOrder : (from size : ℕ) → List EntryRun → Bool
 inOrder from size [] = true
 inOrder from size (x ∷ xs) = leb from (x .offset) && leb (x .offset + x .size) size && inOrder (x .offset + x .size) size xs
 
 -- 12: "a run's length not a multiple of 6".
-abbrev pub wholeEntries : Run → Bool
+abbrev pub wholeEntries : EntryRun → Bool
 wholeEntries x = eqb (x .size % 6) 0
 
 -- 10: "sheet under 4 or over 65,535 bytes, over 16 pairs, or too short for its pairs".
@@ -92,7 +92,7 @@ entriesAt s i zero = []
 entriesAt s i (suc k) = entryAt s i ∷ entriesAt s (i + 6) k
 
 -- The entries of the runs, one run after another.
-abbrev pub entriesOf : List ℕ → List Run → List Entry
+abbrev pub entriesOf : List ℕ → List EntryRun → List Entry
 entriesOf s [] = []
 entriesOf s (x ∷ xs) = entriesAt s (x .offset) (x .size / 6) ++ entriesOf s xs
 

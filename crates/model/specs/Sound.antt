@@ -53,8 +53,8 @@ pollRegisters poll W s = not poll || (eqb (s .limit) W && eqb (s .decision) 0)
 -- "A session is sound if: n is 1 to 64, L is W to 256; registers and marks past L are blank and unmarked; records from n
 -- on are out", and each record is sound; a poll, if its rules hold too. The window is a value, since requests change it. 02, wish 9: "soundness, 3,
 -- stays with the server's" limits, which are what a session holds, so that every operation but opening takes a cart's session as it is.
-unfoldable pub soundAtAs : (poll : Bool) → (W : ℕ) → Session → Bool
-soundAtAs poll W s =
+unfoldable pub soundForAs : (poll : Bool) → (W : ℕ) → Session → Bool
+soundForAs poll W s =
     (leb 1 (s .n) && leb (s .n) maxProcesses)
     && (leb W (s .limit) && leb (s .limit) maxRounds)
     && pollRegisters poll W s
@@ -71,13 +71,13 @@ soundPhase W L r φ = soundPhaseAs false W L r φ
 abbrev pub soundProcess : (W L : ℕ) → Process → Bool
 soundProcess W L q = soundProcessAs false W L q
 
-abbrev pub soundAt : (W : ℕ) → Session → Bool
-soundAt W s = soundAtAs false W s
+abbrev pub soundFor : (W : ℕ) → Session → Bool
+soundFor W s = soundForAs false W s
 
 -- ---- in service: at the window of its n
 
 unfoldable pub soundAs : (poll : Bool) → Session → Bool
-soundAs poll s = soundAtAs poll (window (s .n)) s
+soundAs poll s = soundForAs poll (window (s .n)) s
 
 abbrev pub sound : Session → Bool
 sound s = soundAs false s

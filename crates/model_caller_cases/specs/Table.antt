@@ -8,21 +8,21 @@ use Rattle.model.specs.declared.Caller.{Caller}
 use Rattle.model.specs.declared.Caller.the-variants.{Server, Cart}
 use Rattle.model.specs.Window.{window, rootUp, rootFrom}
 use Rattle.model.specs.Board.{limitsOf, opened}
-use Rattle.model.specs.Machine.{openingAt, opening}
+use Rattle.model.specs.Machine.{openingFor, opening}
 use Rattle.model.specs.Sheet.{sheetRefusal}
 use Rattle.model.specs.Sound.{every}
-use Rattle.model_poll.specs.Machine.{pollOpeningAt, pollOpening}
+use Rattle.model_poll.specs.Machine.{pollOpeningFor, pollOpening}
 use Rattle.model_write.specs.Write.{sheetOf, writeRefusal}
 
 -- "Opening, of polls too, and sheet reading and writing take the caller's limits": the calls that do.
-pub data Call : Type 0 where
-  opens : (n L : ℕ) → Call
-  opensPoll : (n : ℕ) → Call
-  reads : (sheet : List ℕ) → Call
-  writes : (n L : ℕ) (entries lengths : List ℕ) (room : ℕ) → Call
+pub data Request : Type 0 where
+  opens : (n L : ℕ) → Request
+  opensPoll : (n : ℕ) → Request
+  reads : (sheet : List ℕ) → Request
+  writes : (n L : ℕ) (entries lengths : List ℕ) (room : ℕ) → Request
 
 -- The number that the caller gets.
-abbrev numberOf : Caller → Call → ℕ
+abbrev numberOf : Caller → Request → ℕ
 numberOf caller (opens n L) = opening caller n L .code
 numberOf caller (opensPoll n) = pollOpening caller n .code
 numberOf caller (reads s) = sheetRefusal (limitsOf caller) s
@@ -30,7 +30,7 @@ numberOf caller (writes n L es ms room) = writeRefusal (limitsOf caller) n L es 
 
 -- A row of the table: the call, and both callers' numbers.
 pub record Row : Type 0 where
-  pub call : Call
+  pub call : Request
   pub server : ℕ
   pub cart : ℕ
 
@@ -92,5 +92,5 @@ table =
 
 -- Every row holds.
 pub caller-cases : every holds table ≡ true
-unfolding table holds window rootUp rootFrom opened openingAt pollOpeningAt sheetRefusal sheetOf writeRefusal
+unfolding table holds window rootUp rootFrom opened openingFor pollOpeningFor sheetRefusal sheetOf writeRefusal
 caller-cases = refl

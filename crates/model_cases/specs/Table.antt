@@ -10,9 +10,9 @@ use Rattle.model.specs.declared.Operation.{Operation}
 use Rattle.model.specs.declared.Operation.the-variants.{Propose, Step, Learn}
 use Rattle.model.specs.Window.{window, rootUp, rootFrom}
 use Rattle.model.specs.Board.{opened}
-use Rattle.model.specs.Step.{waitingRule, accessAt, access, found, goOn, nextAt, next, learnt, stored, turn, counted}
+use Rattle.model.specs.Step.{waitingRule, phaseAccess, access, found, goOn, phaseNext, next, learnt, stored, turn, counted}
 use Rattle.model.specs.Refusal.{full}
-use Rattle.model.specs.Machine.{openingAt, accessOf, becomes, after, countsAfter, answered, perform}
+use Rattle.model.specs.Machine.{openingFor, accessOf, becomes, after, countsAfter, answered, perform}
 use Rattle.model.specs.Sound.{every}
 use Rattle.model_cases.specs.Play.{Case, holds, repeat}
 use Rattle.model_cases.specs.Play.Shows.{answers, hasWindow, register, marked, decision, stands, counts}
@@ -102,6 +102,6 @@ table =
 -- Every row holds of the machine.
 pub starred-cases : every holds table ≡ true
 unfolding
-    table holds window rootUp rootFrom opened waitingRule accessAt access found goOn nextAt next learnt stored turn counted full openingAt
+    table holds window rootUp rootFrom opened waitingRule phaseAccess access found goOn phaseNext next learnt stored turn counted full openingFor
     accessOf becomes after countsAfter answered perform
 starred-cases = refl

@@ -7,8 +7,8 @@ use Rattle.model.specs.Step.{counted, turn, stored, found, learnt, process}
 use Rattle.model.specs.Numbers.{unsound, noSuchProcess}
 use Rattle.model.specs.Refusal.{Test, refusal, tests, processTests, stepped, full}
 use Rattle.model.specs.Machine.{accessOf, becomes, after, countsAfter, answered, perform, processOf}
-use Rattle.model.specs.Public.{operateAtAs, proposeAtAs, crashAtAs, operateAs, withCounts, withoutCounts}
-use Rattle.model.specs.Sound.{soundAtAs, soundAs}
+use Rattle.model.specs.Public.{operateForAs, proposeForAs, crashForAs, operateAs, withCounts, withoutCounts}
+use Rattle.model.specs.Sound.{soundForAs, soundAs}
 use Rattle.base.specs.Bools.{cond-same}
 use Rattle.model_laws.specs.Accepted.{NoneHolds, ownTests, tests-are, Accepted, accepted}
 use Rattle.model_laws.specs.Sounds.{sound-few}
@@ -48,18 +48,18 @@ stepped-counts (suc m) s t c d = refl
 
 module _ (poll : Bool) (W : ℕ) (s : Session) (c : Counts) where
   -- A sound session, or poll, is answered as the machine answers.
-  pub operate-sound : (o : Operation) → soundAtAs poll W s ≡ true → operateAtAs poll W s c o ≡ perform W s c o
-  unfolding operateAtAs perform answered
+  pub operate-sound : (o : Operation) → soundForAs poll W s ≡ true → operateForAs poll W s c o ≡ perform W s c o
+  unfolding operateForAs perform answered
   operate-sound o ok = rw ok
 
   -- A proposal and a crash leave any counts.
-  pub propose-counts : (p v : ℕ) → withCounts (proposeAtAs poll W s p v) c ≡ operateAtAs poll W s c (Propose p v)
-  unfolding proposeAtAs operateAtAs answered countsAfter accessOf counted
-  propose-counts p v = stepped-counts (refusal ((not (soundAtAs poll W s), unsound) ∷ tests s c (Propose p v))) s (after W s (Propose p v)) noCounts c
+  pub propose-counts : (p v : ℕ) → withCounts (proposeForAs poll W s p v) c ≡ operateForAs poll W s c (Propose p v)
+  unfolding proposeForAs operateForAs answered countsAfter accessOf counted
+  propose-counts p v = stepped-counts (refusal ((not (soundForAs poll W s), unsound) ∷ tests s c (Propose p v))) s (after W s (Propose p v)) noCounts c
 
-  pub crash-counts : (p : ℕ) → withCounts (crashAtAs poll W s p) c ≡ operateAtAs poll W s c (Crash p)
-  unfolding crashAtAs operateAtAs answered countsAfter accessOf counted
-  crash-counts p = stepped-counts (refusal ((not (soundAtAs poll W s), unsound) ∷ tests s c (Crash p))) s (after W s (Crash p)) noCounts c
+  pub crash-counts : (p : ℕ) → withCounts (crashForAs poll W s p) c ≡ operateForAs poll W s c (Crash p)
+  unfolding crashForAs operateForAs answered countsAfter accessOf counted
+  crash-counts p = stepped-counts (refusal ((not (soundForAs poll W s), unsound) ∷ tests s c (Crash p))) s (after W s (Crash p)) noCounts c
 
 -- ---- in service
 
@@ -108,7 +108,7 @@ module _ (poll : Bool) (s : Session) (c : Counts) (o : Operation) where
 
   module _ {k : ℕ} (code : k ≡ codeAs poll s c o) where
     pub operate-refused : (k ≡ 0 → ⊥) → record { code = k; session = s; counts = c } ≡ operateAs poll s c o
-    unfolding operateAtAs answered soundAs
+    unfolding operateForAs answered soundAs
     operate-refused some = stepped-refused _ _ code some
 
     module _ (none : k ≡ 0) where
@@ -123,7 +123,7 @@ module _ (poll : Bool) (s : Session) (c : Counts) (o : Operation) where
       pub operate-accepted : {t : Session} {d : Counts} → t ≡ after (window (s .n)) s o →
           d ≡ cond (full c) c (countsAfter s c o) →
           record { code = k; session = t; counts = d } ≡ operateAs poll s c o
-      unfolding operateAtAs answered countsAfter soundAs
+      unfolding operateForAs answered countsAfter soundAs
       operate-accepted et ed = stepped-accepted s c code none et (ed ∙ accepted-counts (s .limit) _ _ c o (known .1 .own))
 
 -- The same of an operation that is lent no counts.

@@ -3,11 +3,11 @@ use Rattle.base.specs.Prelude.{ℕ, _≤_, arith, _≡_, sym, _∙_, true, List
 use Rattle.model_laws.specs.Types.{Caller, Server, Cart, Limits}
 use Rattle.model.specs.Window.{window}
 use Rattle.model.specs.Board.{limitsOf, UpToServer, opened, maxProcesses, maxRounds}
-use Rattle.model.specs.Refusal.{refusal, openTestsAt}
-use Rattle.model.specs.Machine.{openingAt}
+use Rattle.model.specs.Refusal.{refusal, openTestsFor}
+use Rattle.model.specs.Machine.{openingFor}
 use Rattle.model.specs.Sheet.{processCount, roundLimit, sheetTests, sheetRefusal}
 use Rattle.model.specs.Runner.{runWithin}
-use Rattle.model.specs.Sound.{soundAt}
+use Rattle.model.specs.Sound.{soundFor}
 use Rattle.model_laws.specs.Accepted.{none-holds}
 use Rattle.model_laws.specs.Operations.{opened-sound, open-accepted, opening-accepts, opening-accepted}
 
@@ -18,25 +18,25 @@ caller-limits Cart = record { processes = omega arith; rounds = omega arith }
 
 module _ (most : Limits) (up : UpToServer most) (W n L : ℕ) where
   -- What passes the tests of an opening is what a session holds.
-  pub open-held : refusal (openTestsAt most W n L) ≡ 0 → (1 ≤ n) × (n ≤ maxProcesses) × (W ≤ L) × (L ≤ maxRounds)
+  pub open-held : refusal (openTestsFor most W n L) ≡ 0 → (1 ≤ n) × (n ≤ maxProcesses) × (W ≤ L) × (L ≤ maxRounds)
   open-held ok =
       let a = open-accepted most W n L ok in
       (a .0, omega (arith, a .1, up .processes), a .2, omega (arith, a .3, up .rounds))
 
   -- So an accepted opening, and what it opens.
-  pub opening-held : openingAt most W n L .code ≡ 0 →
-      (1 ≤ n) × (n ≤ maxProcesses) × (W ≤ L) × (L ≤ maxRounds) × (openingAt most W n L .session ≡ opened n L)
+  pub opening-held : openingFor most W n L .code ≡ 0 →
+      (1 ≤ n) × (n ≤ maxProcesses) × (W ≤ L) × (L ≤ maxRounds) × (openingFor most W n L .session ≡ opened n L)
   opening-held ok =
       let a = opening-accepted most W n L ok in
       (a .0, omega (arith, a .1, up .processes), a .2, omega (arith, a .3, up .rounds), a .4)
 
   -- It is sound, by the server's limits,
-  pub opening-sound : openingAt most W n L .code ≡ 0 → soundAt W (openingAt most W n L .session) ≡ true
+  pub opening-sound : openingFor most W n L .code ≡ 0 → soundFor W (openingFor most W n L .session) ≡ true
   opening-sound ok = let a = opening-held ok in rw (a .4) (opened-sound W n L (a .0) (a .1) (a .2) (a .3))
 
   -- and the server opens the same.
-  pub opening-server : openingAt most W n L .code ≡ 0 →
-      (openingAt (limitsOf Server) W n L .code ≡ 0) × (openingAt (limitsOf Server) W n L .session ≡ openingAt most W n L .session)
+  pub opening-server : openingFor most W n L .code ≡ 0 →
+      (openingFor (limitsOf Server) W n L .code ≡ 0) × (openingFor (limitsOf Server) W n L .session ≡ openingFor most W n L .session)
   opening-server ok =
       let a = opening-held ok in
       let b = opening-accepts (limitsOf Server) W n L (a .0) (a .1) (a .2) (a .3) in

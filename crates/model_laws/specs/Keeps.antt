@@ -1,7 +1,7 @@
 -- A step of a sound process leaves a sound process.
 use Rattle.base.specs.Prelude.{ℕ, _+_, _-_, min, _≤_, _<_, arith, _≡_, refl, Bool, true, false, leb, ltb, eqb, leb-true, ltb-true, ltb-false, eqb-false, lt-ltb}
 use Rattle.model_laws.specs.Types.{Phase, Idle, Waiting, Write, Scan, Adopt, Compare, Flag, CheckMark, CheckValue, Commit, Exhausted, Crashed, Decided, HasCommitted, HasAdopted, Process}
-use Rattle.model.specs.Step.{goOn, nextAt, next, learnt, process}
+use Rattle.model.specs.Step.{goOn, phaseNext, next, learnt, process}
 use Rattle.model.specs.Refusal.{status, isOutside}
 use Rattle.model.specs.Sound.{soundProcess}
 use Rattle.base.specs.Bools.{cond-cases}
@@ -42,8 +42,8 @@ module _ (W L : ℕ) where
 
     -- Every phase after the proposal.
     next-placed : (φ : Phase) (leader : Bool) (x : ℕ) → isOutside (status φ) ≡ false → 0 < e → PhaseSound W L r φ →
-        soundProcess W L (nextAt W L r e φ leader x) ≡ true
-    unfolding nextAt
+        soundProcess W L (phaseNext W L r e φ leader x) ≡ true
+    unfolding phaseNext
     next-placed Idle leader x o some f = let z : _≡_ {A = ℕ} 0 1 = cc in absurd (omega arith)
     next-placed Waiting leader x o some f =
         waiting-cases (λ q. soundProcess W L q ≡ true) L r leader

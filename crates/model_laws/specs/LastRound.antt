@@ -6,7 +6,7 @@ use Rattle.base.specs.Bools.{cond-cases}
 use Rattle.model_laws.specs.Types.{Phase, Waiting, Exhausted, Process, Session, Counts, Operation, Propose, Step, Learn, Crash}
 use Rattle.model.specs.declared.Status.the-variants.{Spent, Gone}
 use Rattle.model.specs.Board.{processAt, withProcess, idle}
-use Rattle.model.specs.Step.{waitingRule, accessAt, access, nextAt, next, learnt, found, stored, turn, counted, process}
+use Rattle.model.specs.Step.{waitingRule, phaseAccess, access, phaseNext, next, learnt, found, stored, turn, counted, process}
 use Rattle.model.specs.Numbers.{processSpent}
 use Rattle.model.specs.Refusal.{status, refusal, full, tests, stepped}
 use Rattle.model.specs.Machine.{accessOf, becomes, after, countsAfter, answered, perform, processOf}
@@ -19,7 +19,7 @@ module _ (W : ℕ) (s : Session) (c : Counts) (p : ℕ) (below : p < s .n) where
   pub last-round-spends : (leader : Bool) → processAt s p .phase ≡ Waiting → s .limit ≤ processAt s p .round → full c ≡ false →
       let q = processAt s p in
       perform W s c (Step p leader) ≡ record { code = 0; session = withProcess s p (process Exhausted (q .round) (q .estimate)); counts = c }
-  unfolding perform answered after countsAfter turn accessOf becomes access next accessAt nextAt waitingRule stored found counted
+  unfolding perform answered after countsAfter turn accessOf becomes access next phaseAccess phaseNext waitingRule stored found counted
   last-round-spends leader waits last room =
       rw (lt-leb (s .n) p below, waits, room, le-ltb (processAt s p .round) (s .limit) last) refl
 
@@ -31,7 +31,7 @@ module _ (W : ℕ) (s : Session) (c : Counts) (p : ℕ) (below : p < s .n) where
   -- "Hint no: nothing happens", below round L.
   pub hint-no-waits : processAt s p .phase ≡ Waiting → processAt s p .round < s .limit → full c ≡ false →
       perform W s c (Step p false) ≡ record { code = 0; session = s; counts = c }
-  unfolding perform answered after countsAfter turn accessOf becomes access next accessAt nextAt waitingRule stored found counted
+  unfolding perform answered after countsAfter turn accessOf becomes access next phaseAccess phaseNext waitingRule stored found counted
   hint-no-waits waits more room =
       let q = processAt s p in
       let same : process Waiting (q .round) (q .estimate) ≡ q = rw (← waits) refl in

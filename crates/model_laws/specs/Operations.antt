@@ -3,9 +3,9 @@ use Rattle.base.specs.Prelude.{ℕ, suc, zero, _≤_, _<_, arith, _≡_, refl, 
 use Rattle.model_laws.specs.Types.{Access, Nothing, ReadValue, WriteValue, ReadMark, SetMark, ReadDecision, WriteDecision, Process, Session, Counts, Limits, Waiting, Crashed, Operation, Propose, Step, Learn, Crash}
 use Rattle.model.specs.Board.{processAt, opened, maxProcesses, maxRounds}
 use Rattle.model.specs.Step.{access, stored, turn, found}
-use Rattle.model.specs.Refusal.{refusal, changed, stepped, openTestsAt, tests}
-use Rattle.model.specs.Machine.{openingAt, accessOf, becomes, after, countsAfter, answered, perform, processOf}
-use Rattle.model.specs.Sound.{soundAt, soundProcess, pollRegisters, soundAtAs, soundProcessAs}
+use Rattle.model.specs.Refusal.{refusal, changed, stepped, openTestsFor, tests}
+use Rattle.model.specs.Machine.{openingFor, accessOf, becomes, after, countsAfter, answered, perform, processOf}
+use Rattle.model.specs.Sound.{soundFor, soundProcess, pollRegisters, soundForAs, soundProcessAs}
 use Rattle.base.specs.Bools.{and-left, and-right}
 use Rattle.model_laws.specs.Every.{every-replicate, every-drop}
 use Rattle.model_laws.specs.Accepted.{ownTests, NoneHolds, none-holds, Accepted, accepted}
@@ -32,9 +32,9 @@ stored-same s WriteDecision e = record { n = refl; limit = refl; processes = ref
 
 -- A turn that accesses a register 1 to L and makes a sound process of one of the n.
 -- A poll's D must stay blank.
-pub turn-sound : (poll : Bool) (W : ℕ) (s : Session) (p : ℕ) (a : Access) (becomes : ℕ → Process) → soundAtAs poll W s ≡ true → p < s .n →
+pub turn-sound : (poll : Bool) (W : ℕ) (s : Session) (p : ℕ) (a : Access) (becomes : ℕ → Process) → soundForAs poll W s ≡ true → p < s .n →
     InRange (s .limit) a → pollRegisters poll W (stored s a (processAt s p .estimate)) ≡ true →
-    soundProcessAs poll W (s .limit) (becomes (found s a)) ≡ true → soundAtAs poll W (turn s p a becomes) ≡ true
+    soundProcessAs poll W (s .limit) (becomes (found s a)) ≡ true → soundForAs poll W (turn s p a becomes) ≡ true
 unfolding turn
 turn-sound poll W s p a becomes t low ok only one =
     let e = processAt s p .estimate in
@@ -73,7 +73,7 @@ module _ (W : ℕ) (s : Session) (o : Operation) where
   unfolding after turn
   after-same = (stored-same s _ _ .n, stored-same s _ _ .limit)
 
-  module _ (t : soundAt W s ≡ true) where
+  module _ (t : soundFor W s ≡ true) where
     -- The register operation of any operation is on registers 1 to L, and so on the arrays' registers.
     pub access-in-range : InRange (s .limit) (accessOf (s .limit) (processAt s (processOf o)) o)
     access-in-range = operation-range W (s .limit) _ o (sound-process false W s (processOf o) t)
@@ -81,33 +81,33 @@ module _ (W : ℕ) (s : Session) (o : Operation) where
     pub access-in-arrays : InRange maxRounds (accessOf (s .limit) (processAt s (processOf o)) o)
     access-in-arrays = operation-reach W (s .limit) maxRounds _ o (sound-facts false W s t .low) (sound-process false W s (processOf o) t)
 
-module _ (W : ℕ) (wide : 1 ≤ W) (s : Session) (c : Counts) (o : Operation) (t : soundAt W s ≡ true) where
+module _ (W : ℕ) (wide : 1 ≤ W) (s : Session) (c : Counts) (o : Operation) (t : soundFor W s ≡ true) where
   -- An accepted operation leaves a sound session.
-  pub after-sound : Accepted s c o → soundAt W (after W s o) ≡ true
+  pub after-sound : Accepted s c o → soundFor W (after W s o) ≡ true
   unfolding after
   after-sound a =
       turn-sound false W s (processOf o) _ _ t (a .below) (access-in-range W s o t) (session-only W _)
       (becomes-sound W (s .limit) _ c o _ wide (sound-process false W s (processOf o) t) (a .own))
 
   -- And so does each operation, accepted or refused.
-  pub perform-sound : soundAt W (perform W s c o .session) ≡ true
+  pub perform-sound : soundFor W (perform W s c o .session) ≡ true
   unfolding perform answered
   perform-sound = go (refusal (tests s c o)) refl
     where
-      go : (k : ℕ) → refusal (tests s c o) ≡ k → soundAt W (stepped k s (after W s o) c (countsAfter s c o) .session) ≡ true
+      go : (k : ℕ) → refusal (tests s c o) ≡ k → soundFor W (stepped k s (after W s o) c (countsAfter s c o) .session) ≡ true
       go zero e = after-sound (accepted s c o e)
       go (suc k) e = t
 
 -- A session just opened, with n and L as an opening accepts them.
-pub opened-sound : (W n L : ℕ) → 1 ≤ n → n ≤ maxProcesses → W ≤ L → L ≤ maxRounds → soundAt W (opened n L) ≡ true
+pub opened-sound : (W n L : ℕ) → 1 ≤ n → n ≤ maxProcesses → W ≤ L → L ≤ maxRounds → soundFor W (opened n L) ≡ true
 unfolding opened
 opened-sound W n L some few wide low = facts-sound false W _ (search (every-drop, every-replicate, idle-sound, session-only))
 
 -- What an accepted opening within limits knows.
-pub open-accepted : (most : Limits) (W n L : ℕ) → refusal (openTestsAt most W n L) ≡ 0 →
+pub open-accepted : (most : Limits) (W n L : ℕ) → refusal (openTestsFor most W n L) ≡ 0 →
     (1 ≤ n) × (n ≤ most .processes) × (W ≤ L) × (L ≤ most .rounds)
 open-accepted most W n L e =
-    let a = none-holds (openTestsAt most W n L) (omega arith) e in
+    let a = none-holds (openTestsFor most W n L) (omega arith) e in
     let b = not-false (leb 1 n && leb n (most .processes)) (a .0) in
     let c = not-false (leb W L && leb L (most .rounds)) (a .1 .0) in
     search (and-left, and-right, leb-true)
@@ -115,17 +115,17 @@ open-accepted most W n L e =
 -- And an opening whose n and L are so is accepted: what it opens, either way.
 module _ (most : Limits) (W n L : ℕ) where
   pub opening-accepts : 1 ≤ n → n ≤ most .processes → W ≤ L → L ≤ most .rounds →
-      (openingAt most W n L .code ≡ 0) × (openingAt most W n L .session ≡ opened n L)
-  unfolding openingAt
+      (openingFor most W n L .code ≡ 0) × (openingFor most W n L .session ≡ opened n L)
+  unfolding openingFor
   opening-accepts some few wide low =
       rw (le-leb 1 n some, le-leb n (most .processes) few, le-leb W L wide, le-leb L (most .rounds) low) (refl, refl)
 
-  pub opening-accepted : openingAt most W n L .code ≡ 0 →
-      (1 ≤ n) × (n ≤ most .processes) × (W ≤ L) × (L ≤ most .rounds) × (openingAt most W n L .session ≡ opened n L)
-  unfolding openingAt
-  opening-accepted = go (refusal (openTestsAt most W n L)) refl
+  pub opening-accepted : openingFor most W n L .code ≡ 0 →
+      (1 ≤ n) × (n ≤ most .processes) × (W ≤ L) × (L ≤ most .rounds) × (openingFor most W n L .session ≡ opened n L)
+  unfolding openingFor
+  opening-accepted = go (refusal (openTestsFor most W n L)) refl
     where
-      go : (k : ℕ) → refusal (openTestsAt most W n L) ≡ k →
+      go : (k : ℕ) → refusal (openTestsFor most W n L) ≡ k →
           let a = changed k (opened 0 0) (opened n L) in
           a .code ≡ 0 → (1 ≤ n) × (n ≤ most .processes) × (W ≤ L) × (L ≤ most .rounds) × (a .session ≡ opened n L)
       go zero e ok = let a = open-accepted most W n L e in (a .0, a .1, a .2, a .3, refl)

@@ -1,7 +1,7 @@
 -- A sound process accesses no register outside 1 to L.
 use Rattle.base.specs.Prelude.{ℕ, _≤_, arith, Bool}
 use Rattle.model_laws.specs.Types.{Phase, Idle, Waiting, Write, Scan, Adopt, Compare, Flag, CheckMark, CheckValue, Commit, Exhausted, Crashed, Decided, HasCommitted, HasAdopted, Access, Nothing, ReadValue, WriteValue, ReadMark, SetMark, ReadDecision, WriteDecision}
-use Rattle.model.specs.Step.{accessAt}
+use Rattle.model.specs.Step.{phaseAccess}
 use Rattle.model_laws.specs.Phases.{PhaseSound}
 use Rattle.model_laws.specs.WaitingRules.{waiting-cases}
 
@@ -16,8 +16,8 @@ InRange L ReadDecision = Unit {0}
 InRange L WriteDecision = Unit {0}
 
 -- A work turn of a sound process accesses registers 1 to L alone, and so registers 1 to M, where L is at most M.
-pub access-range : (W L M r : ℕ) (φ : Phase) (leader : Bool) → r ≤ L → L ≤ M → PhaseSound W L r φ → InRange M (accessAt L r φ leader)
-unfolding accessAt
+pub access-range : (W L M r : ℕ) (φ : Phase) (leader : Bool) → r ≤ L → L ≤ M → PhaseSound W L r φ → InRange M (phaseAccess L r φ leader)
+unfolding phaseAccess
 access-range W L M r Idle leader low few f = tt
 access-range W L M r Waiting leader low few f = waiting-cases (InRange M) L r leader (λ e. tt) tt (λ b. omega arith)
 access-range W L M r Write leader low few f = omega arith

@@ -2,7 +2,7 @@
 use Rattle.base.specs.Prelude.{ℕ, _+_, _-_, _%_, _≤_, arith, _≡_, refl, sym, ap, Bool, true, false, List, getD, set}
 use Rattle.model_laws.specs.Types.{Phase, Idle, Waiting, Write, Scan, Adopt, Compare, Flag, CheckMark, CheckValue, Commit, Exhausted, Crashed, Decided, HasCommitted, HasAdopted, Access, Nothing, ReadValue, WriteValue, ReadMark, SetMark, ReadDecision, WriteDecision, Process, Session, Counts, Step}
 use Rattle.model.specs.Board.{processAt, with, maxRounds}
-use Rattle.model.specs.Step.{accessAt, access, next, bit, found, stored, turn, counted}
+use Rattle.model.specs.Step.{phaseAccess, access, next, bit, found, stored, turn, counted}
 use Rattle.model.specs.Machine.{accessOf, becomes, after, countsAfter}
 use Rattle.model_laws.specs.Ranges.{InRange}
 use Rattle.model_laws.specs.WaitingRules.{waiting-cases}
@@ -101,8 +101,8 @@ turn-is s p ReadDecision becomes ok = refl
 turn-is s p WriteDecision becomes ok = refl
 
 -- A work turn makes no look.
-pub step-no-look : (L r : ℕ) (φ : Phase) (leader : Bool) → NoLook (accessAt L r φ leader)
-unfolding accessAt
+pub step-no-look : (L r : ℕ) (φ : Phase) (leader : Bool) → NoLook (phaseAccess L r φ leader)
+unfolding phaseAccess
 step-no-look L r Idle leader = tt
 step-no-look L r Waiting leader = waiting-cases NoLook L r leader (λ e. tt) tt (λ b. tt)
 step-no-look L r Write leader = tt

@@ -4,7 +4,7 @@ use Rattle.base.specs.Bools.{and-right}
 use Rattle.model_laws.specs.Types.{Process, Session}
 use Rattle.model.specs.Window.{window}
 use Rattle.model.specs.Refusal.{status, isOutside}
-use Rattle.model.specs.Sound.{every, soundProcessAs, pollRegisters, soundAtAs, soundAs}
+use Rattle.model.specs.Sound.{every, soundProcessAs, pollRegisters, soundForAs, soundAs}
 use Rattle.model_laws.specs.Passes.{rest, begins}
 
 abbrev pub outside : Process → Bool
@@ -30,7 +30,7 @@ module _ (poll : Bool) (s : Session) where
 
   module _ {W : ℕ} (w : W ≡ window (s .n)) where
     clauses : soundAs poll s ≡ (processes && (rounds W && blank) && rest outside (soundProcessAs poll W (s .limit)) (s .n) (s .processes) 0)
-    unfolding soundAs soundAtAs
+    unfolding soundAs soundForAs
     clauses = rw (← w, begins outside (soundProcessAs poll W (s .limit)) (s .n) (s .processes)) (joined processes _ _ _ _ _ _)
 
     -- The answer b of the test of the registers and marks.
@@ -43,5 +43,5 @@ module _ (poll : Bool) (s : Session) where
       records-left p q = clauses ∙ rw (sym told, not-false processes p, not-false (rounds W && b) q)
 
   pub processes-fail : not processes ≡ true → false ≡ soundAs poll s
-  unfolding soundAs soundAtAs
+  unfolding soundAs soundForAs
   processes-fail p = rw (not-true processes p)

@@ -5,7 +5,7 @@ use Rattle.model.specs.Board.{processAt, withProcess, idle, maxProcesses, maxRo
 use Rattle.model.specs.Step.{stored}
 use Rattle.model.specs.Refusal.{status, isOutside}
 use Rattle.model.specs.Window.{window}
-use Rattle.model.specs.Sound.{every, soundPhaseAs, soundProcessAs, pollRegisters, soundAtAs, soundAs}
+use Rattle.model.specs.Sound.{every, soundPhaseAs, soundProcessAs, pollRegisters, soundForAs, soundAs}
 use Rattle.base.specs.Bools.{and-left, and-right, and-both}
 use Rattle.model_laws.specs.Every.{every-get, every-set}
 use Rattle.model_laws.specs.Ranges.{InRange}
@@ -24,12 +24,12 @@ pub record Sound (poll : Bool) (W : ℕ) (s : Session) : Type 0 where
 
 module _ (poll : Bool) where
   -- The test says so, and the other way round.
-  pub sound-facts : (W : ℕ) (s : Session) → soundAtAs poll W s ≡ true → Sound poll W s
-  unfolding soundAtAs
+  pub sound-facts : (W : ℕ) (s : Session) → soundForAs poll W s ≡ true → Sound poll W s
+  unfolding soundForAs
   sound-facts W s t = search (and-left, and-right, leb-true) depth 6
 
-  pub facts-sound : (W : ℕ) (s : Session) → Sound poll W s → soundAtAs poll W s ≡ true
-  unfolding soundAtAs
+  pub facts-sound : (W : ℕ) (s : Session) → Sound poll W s → soundForAs poll W s ≡ true
+  unfolding soundForAs
   facts-sound W s f = search (and-both, le-leb) depth 8
 
   -- A process that has not proposed is sound.
@@ -38,7 +38,7 @@ module _ (poll : Bool) where
   idle-sound W L = and-both (le-leb 0 L (omega arith)) refl
 
   -- Each process of a sound session is sound.
-  pub sound-process : (W : ℕ) (s : Session) (p : ℕ) → soundAtAs poll W s ≡ true → soundProcessAs poll W (s .limit) (processAt s p) ≡ true
+  pub sound-process : (W : ℕ) (s : Session) (p : ℕ) → soundForAs poll W s ≡ true → soundProcessAs poll W (s .limit) (processAt s p) ≡ true
   sound-process W s p t =
       every-get (soundProcessAs poll W (s .limit)) (s .processes) p idle (idle-sound W (s .limit)) (sound-facts W s t .each)
 

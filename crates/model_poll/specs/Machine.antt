@@ -14,7 +14,7 @@ use Rattle.model.specs.Window.{window}
 use Rattle.model.specs.Board.{limitsOf, processAt}
 use Rattle.model.specs.Step.{found, turn, counted}
 use Rattle.model.specs.Refusal.{Test, refusal, learnTests, processTests, stepped}
-use Rattle.model.specs.Machine.{openingAt, perform}
+use Rattle.model.specs.Machine.{openingFor, perform}
 use Rattle.model_poll.specs.declared.Answer.{Answer}
 use Rattle.model_poll.specs.declared.Answer.the-variants.{Pending}
 use Rattle.model_poll.specs.declared.PollStepped.{PollStepped}
@@ -22,13 +22,13 @@ use Rattle.model_poll.specs.Turn.{pollAccess, pollNext, answerOf}
 
 -- "A poll has L = W": the session's opening with that limit, within a caller's limits, at window W (02, wish 7: "the window a parameter of the machine ..
 -- Polls are covered too").
-unfoldable pub pollOpeningAt : Limits → (W n : ℕ) → Changed
-pollOpeningAt most W n = openingAt most W n W
+unfoldable pub pollOpeningFor : Limits → (W n : ℕ) → Changed
+pollOpeningFor most W n = openingFor most W n W
 
 -- In service: within the caller's limits (02, wish 9: "Opening, of polls too .. take the caller's limits"), at the window of n. (So 1 alone can refuse it:
 -- `model_poll_laws`, `poll-opening-code`.)
 abbrev pub pollOpening : Caller → (n : ℕ) → Changed
-pollOpening caller n = pollOpeningAt (limitsOf caller) (window n) n
+pollOpening caller n = pollOpeningFor (limitsOf caller) (window n) n
 
 -- ---- a turn
 

@@ -10,8 +10,8 @@ use Rattle.model.specs.declared.Changed.{Changed}
 use Rattle.model.specs.declared.ProcessAnswer.{ProcessAnswer}
 use Rattle.model.specs.Window.{window}
 use Rattle.model.specs.Numbers.{unsound}
-use Rattle.model.specs.Sound.{soundAtAs}
-use Rattle.model.specs.Public.{proposeAtAs, crashAtAs}
+use Rattle.model.specs.Sound.{soundForAs}
+use Rattle.model.specs.Public.{proposeForAs, crashForAs}
 use Rattle.model.specs.ReadOut.{processRecordAs}
 use Rattle.model_poll.specs.declared.PollStepped.{PollStepped}
 use Rattle.model_poll.specs.declared.Polled.{Polled}
@@ -20,27 +20,27 @@ use Rattle.model_poll.specs.Machine.{turnTests, turned}
 -- ---- at any window
 
 -- Proposal 3, 4, 5, 6.
-abbrev pub pollProposeAt : (W : ℕ) → Session → (p v : ℕ) → Changed
-pollProposeAt W s p v = proposeAtAs true W s p v
+abbrev pub pollProposeFor : (W : ℕ) → Session → (p v : ℕ) → Changed
+pollProposeFor W s p v = proposeForAs true W s p v
 
 -- Turn 3, 4, 7, 8, 16.
-unfoldable pub pollTurnAt : (W : ℕ) → Session → (p : ℕ) → Counts → PollStepped
-pollTurnAt W s p c = turned ((not (soundAtAs true W s), unsound) ∷ turnTests s c p) W s c p
+unfoldable pub pollTurnFor : (W : ℕ) → Session → (p : ℕ) → Counts → PollStepped
+pollTurnFor W s p c = turned ((not (soundForAs true W s), unsound) ∷ turnTests s c p) W s c p
 
 -- Crash 3, 4, 7, 8.
-abbrev pub pollCrashAt : (W : ℕ) → Session → (p : ℕ) → Changed
-pollCrashAt W s p = crashAtAs true W s p
+abbrev pub pollCrashFor : (W : ℕ) → Session → (p : ℕ) → Changed
+pollCrashFor W s p = crashForAs true W s p
 
 -- ---- in service: at the window of the poll's n
 
 abbrev pub pollPropose : Session → (p v : ℕ) → Changed
-pollPropose s p v = pollProposeAt (window (s .n)) s p v
+pollPropose s p v = pollProposeFor (window (s .n)) s p v
 
 abbrev pub pollTurn : Session → (p : ℕ) → Counts → PollStepped
-pollTurn s p c = pollTurnAt (window (s .n)) s p c
+pollTurn s p c = pollTurnFor (window (s .n)) s p c
 
 abbrev pub pollCrash : Session → (p : ℕ) → Changed
-pollCrash s p = pollCrashAt (window (s .n)) s p
+pollCrash s p = pollCrashFor (window (s .n)) s p
 
 -- "Seats are read out as in sessions": 3, 4.
 abbrev pub pollRecord : Session → (p : ℕ) → ProcessAnswer

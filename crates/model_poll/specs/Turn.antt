@@ -74,25 +74,25 @@ pollNext W L q x = let r = next W L q true x in process (ending (q .phase) (r .p
 -- ---- the answer
 
 -- The answer that a record holds: "committed with its value", "adopted with its value"; none yet in every other phase.
-abbrev pub answerAt : Phase → (estimate : ℕ) → Answer
-answerAt Idle e = Pending
-answerAt Waiting e = Pending
-answerAt Write e = Pending
-answerAt (Scan k) e = Pending
-answerAt (Adopt k) e = Pending
-answerAt (Compare i) e = Pending
-answerAt (Flag i) e = Pending
-answerAt (CheckMark i) e = Pending
-answerAt (CheckValue i) e = Pending
-answerAt Commit e = Pending
-answerAt Exhausted e = Pending
-answerAt Crashed e = Pending
-answerAt Decided e = Pending
-answerAt HasCommitted e = Commits e
-answerAt HasAdopted e = Adopts e
+abbrev pub phaseAnswer : Phase → (estimate : ℕ) → Answer
+phaseAnswer Idle e = Pending
+phaseAnswer Waiting e = Pending
+phaseAnswer Write e = Pending
+phaseAnswer (Scan k) e = Pending
+phaseAnswer (Adopt k) e = Pending
+phaseAnswer (Compare i) e = Pending
+phaseAnswer (Flag i) e = Pending
+phaseAnswer (CheckMark i) e = Pending
+phaseAnswer (CheckValue i) e = Pending
+phaseAnswer Commit e = Pending
+phaseAnswer Exhausted e = Pending
+phaseAnswer Crashed e = Pending
+phaseAnswer Decided e = Pending
+phaseAnswer HasCommitted e = Commits e
+phaseAnswer HasAdopted e = Adopts e
 
 unfoldable pub answerOf : Process → Answer
-answerOf q = answerAt (q .phase) (q .estimate)
+answerOf q = phaseAnswer (q .phase) (q .estimate)
 
 -- The answer is committed or adopted, and its value is v.
 abbrev pub Carries : Answer → (v : ℕ) → Type 0

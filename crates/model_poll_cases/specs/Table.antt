@@ -6,16 +6,16 @@ use mathlib.Core.List.{List, [], _∷_, _++_}
 use Rattle.model.specs.declared.Phase.the-variants.{Write, CheckMark, CheckValue, Commit, Crashed, HasCommitted, HasAdopted}
 use Rattle.model.specs.Window.{window, rootUp, rootFrom}
 use Rattle.model.specs.Board.{opened}
-use Rattle.model.specs.Step.{waitingRule, accessAt, access, found, goOn, nextAt, next, stored, turn, counted}
+use Rattle.model.specs.Step.{waitingRule, phaseAccess, access, found, goOn, phaseNext, next, stored, turn, counted}
 use Rattle.model.specs.Refusal.{full}
-use Rattle.model.specs.Machine.{openingAt, accessOf, becomes, after, countsAfter, answered, perform}
+use Rattle.model.specs.Machine.{openingFor, accessOf, becomes, after, countsAfter, answered, perform}
 use Rattle.model.specs.Sound.{every}
 use Rattle.model_cases.specs.Play.{repeat}
 use Rattle.model_cases.specs.Play.Shows.{answers, hasWindow, hasLimit, register, marked, decision, stands, counts}
 use Rattle.model_poll.specs.declared.Answer.the-variants.{Pending, Commits, Adopts}
 use Rattle.model_poll.specs.Turn.{withoutDecision, pollAccess, ending, pollNext, answerOf}
 use Rattle.model_poll.specs.Machine.{PollOperation, proposes, turns, crashes}
-use Rattle.model_poll.specs.Machine.{pollOpeningAt, turnAfter, turnCounts, turned, pollPerform}
+use Rattle.model_poll.specs.Machine.{pollOpeningFor, turnAfter, turnCounts, turned, pollPerform}
 use Rattle.model_poll_cases.specs.Play.{PollCase, holds}
 
 -- n = 1, proposal 7.
@@ -174,7 +174,7 @@ table =
 -- Every row holds of the machine.
 pub poll-cases : every holds table ≡ true
 unfolding
-    table holds window rootUp rootFrom opened waitingRule accessAt access found goOn nextAt next stored turn counted full openingAt
-    accessOf becomes after countsAfter answered perform withoutDecision pollAccess ending pollNext answerOf pollOpeningAt turnAfter turnCounts
+    table holds window rootUp rootFrom opened waitingRule phaseAccess access found goOn phaseNext next stored turn counted full openingFor
+    accessOf becomes after countsAfter answered perform withoutDecision pollAccess ending pollNext answerOf pollOpeningFor turnAfter turnCounts
     turned pollPerform
 poll-cases = refl

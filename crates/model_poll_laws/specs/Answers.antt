@@ -3,7 +3,7 @@ use Rattle.base.specs.Prelude.{ℕ, suc, zero, _<_, _%_, arith, _≡_, refl, sy
 use Rattle.model_laws.specs.Types.{Process, Session, Counts, Access, Nothing, ReadValue, WriteValue, ReadMark, SetMark, ReadDecision, WriteDecision}
 use Rattle.model.specs.Window.{window}
 use Rattle.model.specs.Board.{processAt, idle, with, maxRounds}
-use Rattle.model.specs.Step.{access, accessAt, counted, found}
+use Rattle.model.specs.Step.{access, phaseAccess, counted, found}
 use Rattle.model.specs.Numbers.{unsound}
 use Rattle.model.specs.Refusal.{Test, refusal, status, isOutside, isGone, full, learnTests, stepped}
 use Rattle.model.specs.Sound.{soundAs, soundPoll}
@@ -14,7 +14,7 @@ use Rattle.model_poll.specs.declared.Answer.{Answer}
 use Rattle.model_poll.specs.declared.Answer.the-variants.{Pending}
 use Rattle.model_poll.specs.Turn.{pollAccess, answerOf}
 use Rattle.model_poll.specs.Machine.{turnTests, turnAfter, turnCounts, given, polled, turned}
-use Rattle.model_poll.specs.Public.{pollTurnAt, pollTurn}
+use Rattle.model_poll.specs.Public.{pollTurnFor, pollTurn}
 
 -- What an accepted turn knows: its process is one of the n, has proposed, is not gone; and the counts are not full.
 pub record TurnAccepted (s : Session) (c : Counts) (p : ℕ) : Type 0 where
@@ -33,7 +33,7 @@ turn-accepted s c p e =
 module _ (s : Session) (c : Counts) (p : ℕ) {k : ℕ} (code : k ≡ refusal ((not (soundPoll s), unsound) ∷ turnTests s c p)) where
   -- Refused: nothing changes, and no answer is given.
   pub turn-refused : (k ≡ 0 → ⊥) → record { code = k; session = s; counts = c; answer = Pending } ≡ pollTurn s p c
-  unfolding pollTurnAt turned soundAs
+  unfolding pollTurnFor turned soundAs
   turn-refused some = go k _ code some
     where
       go : (k m : ℕ) → k ≡ m → (k ≡ 0 → ⊥) →
@@ -57,7 +57,7 @@ module _ (s : Session) (c : Counts) (p : ℕ) {k : ℕ} (code : k ≡ refusal ((
     -- The poll, the counts and the answer that the code leaves.
     pub turn-left : {t : Session} {d : Counts} {a : Answer} → t ≡ turnAfter (window (s .n)) s p → d ≡ cond (full c) c (turnCounts s c p) →
         a ≡ answerOf (processAt t p) → record { code = k; session = t; counts = d; answer = a } ≡ pollTurn s p c
-    unfolding pollTurnAt turned soundAs
+    unfolding pollTurnFor turned soundAs
     turn-left et ed ea =
         let zero-is : 0 ≡ refusal ((not (soundPoll s), unsound) ∷ turnTests s c p) = sym none ∙ code in
         let counts = rw (turn-known .1 .room) at ed in

@@ -5,11 +5,11 @@ use Rattle.model_laws.specs.Types.{Phase, Waiting, CheckMark, CheckValue, Commi
 use Rattle.model.specs.declared.Status.the-variants.{Active, Gone}
 use Rattle.model.specs.Window.{window}
 use Rattle.model.specs.Board.{valueAt, markAt, processAt, withProcess, idle}
-use Rattle.model.specs.Step.{accessAt, access, nextAt, next, found, stored, turn, counted, process}
+use Rattle.model.specs.Step.{phaseAccess, access, phaseNext, next, found, stored, turn, counted, process}
 use Rattle.model.specs.Numbers.{unsound, processGone}
 use Rattle.model.specs.Refusal.{full, status}
 use Rattle.model.specs.Machine.{answered, perform}
-use Rattle.model.specs.Sound.{soundPhaseAs, soundAtAs, soundAs, sound, soundPoll}
+use Rattle.model.specs.Sound.{soundPhaseAs, soundForAs, soundAs, sound, soundPoll}
 use Rattle.model_laws.specs.Sounds.{sound-process}
 use Rattle.model_laws.specs.Phases.{process-facts}
 use Rattle.model_laws.specs.Answers.{codeAs}
@@ -32,7 +32,7 @@ module _ (W : ℕ) (s : Session) (c : Counts) (p : ℕ) (below : p < s .n) where
     pub commit-answers : q .phase ≡ Commit →
         pollPerform W s c (turns p)
         ≡ record { code = 0; session = withProcess s p (process HasCommitted (q .round) (q .estimate)); counts = c; answer = Commits (q .estimate) }
-    unfolding pollPerform turned turnAfter turnCounts turn pollAccess pollNext access next accessAt nextAt withoutDecision ending stored found counted answerOf
+    unfolding pollPerform turned turnAfter turnCounts turn pollAccess pollNext access next phaseAccess phaseNext withoutDecision ending stored found counted answerOf
     commit-answers at =
         rw (lt-leb (s .n) p below, at, room, getD-set-same (s .processes) p (process HasCommitted (q .round) (q .estimate)) idle long) refl
 
@@ -40,7 +40,7 @@ module _ (W : ℕ) (s : Session) (c : Counts) (p : ℕ) (below : p < s .n) where
     pub marked-adopts : (i : ℕ) → q .phase ≡ CheckMark i → markAt s (q .round - i) ≡ true →
         pollPerform W s c (turns p)
         ≡ record { code = 0; session = withProcess s p (process HasAdopted (q .round) (q .estimate)); counts = read; answer = Adopts (q .estimate) }
-    unfolding pollPerform turned turnAfter turnCounts turn pollAccess pollNext access next accessAt nextAt withoutDecision ending stored found counted answerOf
+    unfolding pollPerform turned turnAfter turnCounts turn pollAccess pollNext access next phaseAccess phaseNext withoutDecision ending stored found counted answerOf
     marked-adopts i at marked =
         rw (lt-leb (s .n) p below, at, room, marked, getD-set-same (s .processes) p (process HasAdopted (q .round) (q .estimate)) idle long) refl
 
@@ -48,7 +48,7 @@ module _ (W : ℕ) (s : Session) (c : Counts) (p : ℕ) (below : p < s .n) where
     pub other-adopts : (i : ℕ) → q .phase ≡ CheckValue i → (valueAt s (q .round - i) ≡ q .estimate → ⊥) →
         pollPerform W s c (turns p)
         ≡ record { code = 0; session = withProcess s p (process HasAdopted (q .round) (q .estimate)); counts = read; answer = Adopts (q .estimate) }
-    unfolding pollPerform turned turnAfter turnCounts turn pollAccess pollNext access next accessAt nextAt withoutDecision ending stored found counted answerOf
+    unfolding pollPerform turned turnAfter turnCounts turn pollAccess pollNext access next phaseAccess phaseNext withoutDecision ending stored found counted answerOf
     other-adopts i at other =
         rw (
           lt-leb (s .n) p below,
@@ -87,7 +87,7 @@ answered-no-session s p v has =
     let W = window (s .n) in
     let q = processAt s p in
     let is = answer-cases (q .phase) (q .estimate) v has .0 in
-    false-if (soundAtAs false W s)
+    false-if (soundForAs false W s)
     (λ t.
     let f = process-facts W (s .limit) q (sound-process false W s p t) .phase in
     ⊎-elim (λ e. rw e at f) (λ e. rw e at f) is)
@@ -96,30 +96,30 @@ answered-no-session s p v has =
 module _ (s : Session) where
   pub other-limit-no-poll : (s .limit ≡ window (s .n) → ⊥) → soundPoll s ≡ false
   unfolding soundAs
-  other-limit-no-poll other = false-if (soundAtAs true (window (s .n)) s) (λ t. other (poll-limit (window (s .n)) s t))
+  other-limit-no-poll other = false-if (soundForAs true (window (s .n)) s) (λ t. other (poll-limit (window (s .n)) s t))
 
   pub filled-no-poll : (s .decision ≡ 0 → ⊥) → soundPoll s ≡ false
   unfolding soundAs
-  filled-no-poll some = false-if (soundAtAs true (window (s .n)) s) (λ t. some (poll-blank (window (s .n)) s t))
+  filled-no-poll some = false-if (soundForAs true (window (s .n)) s) (λ t. some (poll-blank (window (s .n)) s t))
 
   module _ (p : ℕ) where
     -- The rule of the phase of process p, where the poll is sound.
-    rule : (φ : Phase) → processAt s p .phase ≡ φ → soundAtAs true (window (s .n)) s ≡ true →
+    rule : (φ : Phase) → processAt s p .phase ≡ φ → soundForAs true (window (s .n)) s ≡ true →
         soundPhaseAs true (window (s .n)) (s .limit) (processAt s p .round) φ ≡ true
     rule φ e t = rw e at (phase-rule (window (s .n)) (s .limit) (processAt s p) (sound-process true (window (s .n)) s p t))
 
     pub spent-no-poll : processAt s p .phase ≡ Exhausted → soundPoll s ≡ false
     unfolding soundAs soundPhaseAs
-    spent-no-poll e = false-if (soundAtAs true (window (s .n)) s) (λ t. true≢false (sym (rule Exhausted e t)))
+    spent-no-poll e = false-if (soundForAs true (window (s .n)) s) (λ t. true≢false (sym (rule Exhausted e t)))
 
     pub decided-no-poll : processAt s p .phase ≡ Decided → soundPoll s ≡ false
     unfolding soundAs soundPhaseAs
-    decided-no-poll e = false-if (soundAtAs true (window (s .n)) s) (λ t. true≢false (sym (rule Decided e t)))
+    decided-no-poll e = false-if (soundForAs true (window (s .n)) s) (λ t. true≢false (sym (rule Decided e t)))
 
     pub waiting-no-poll : processAt s p .phase ≡ Waiting → window (s .n) ≤ processAt s p .round → soundPoll s ≡ false
     unfolding soundAs soundPhaseAs
     waiting-no-poll e high =
-        false-if (soundAtAs true (window (s .n)) s) (λ t. omega (arith, ltb-true (processAt s p .round) (window (s .n)) (rule Waiting e t)))
+        false-if (soundForAs true (window (s .n)) s) (λ t. omega (arith, ltb-true (processAt s p .round) (window (s .n)) (rule Waiting e t)))
 
 -- What is not sound is refused with 3, by each operation that sessions and polls share.
 pub unsound-refused : (poll : Bool) (s : Session) (c : Counts) (o : Operation) → soundAs poll s ≡ false → codeAs poll s c o ≡ unsound

@@ -6,13 +6,13 @@ use Rattle.model_laws.specs.Types.{Caller, Server, Cart, Limits}
 use Rattle.model.specs.Board.{limitsOf, UpToServer, opened, maxProcesses, maxRounds}
 use Rattle.model.specs.Numbers.{badProcessCount}
 use Rattle.model.specs.Refusal.{refusal, openTests, changed}
-use Rattle.model.specs.Machine.{openingAt}
-use Rattle.model.specs.Sound.{pollRegisters, soundAtAs}
+use Rattle.model.specs.Machine.{openingFor}
+use Rattle.model.specs.Sound.{pollRegisters, soundForAs}
 use Rattle.model_laws.specs.Windows.{window-low}
 use Rattle.model_laws.specs.Callers.{opening-held}
 use Rattle.model_laws.specs.Every.{every-replicate, every-drop}
 use Rattle.model_laws.specs.Sounds.{facts-sound, idle-sound}
-use Rattle.model_poll.specs.Machine.{pollOpeningAt, pollOpening}
+use Rattle.model_poll.specs.Machine.{pollOpeningFor, pollOpening}
 
 -- The window of as many processes as a caller may have is within its rounds.
 window-held : (caller : Caller) (n : ℕ) → n ≤ limitsOf caller .processes → window n ≤ limitsOf caller .rounds
@@ -36,7 +36,7 @@ open-first caller n = go (leb 1 n && leb n (limitsOf caller .processes)) refl
 
 -- "(Numbers 1, ..": no other.
 pub poll-opening-code : (caller : Caller) (n : ℕ) → (pollOpening caller n .code ≡ 0) ⊎ (pollOpening caller n .code ≡ badProcessCount)
-unfolding pollOpeningAt openingAt
+unfolding pollOpeningFor openingFor
 poll-opening-code caller n = rw (open-first caller n) (go (leb 1 n && leb n (limitsOf caller .processes)))
   where
     go : (b : Bool) →
@@ -46,13 +46,13 @@ poll-opening-code caller n = rw (open-first caller n) (go (leb 1 n && leb n (lim
     go false = inr refl
 
 -- What an accepted opening at any window, within limits up to the server's, knows, and what it opens.
-pub poll-opened : (most : Limits) → UpToServer most → (W n : ℕ) → pollOpeningAt most W n .code ≡ 0 →
-    (1 ≤ n) × (n ≤ maxProcesses) × (W ≤ maxRounds) × (pollOpeningAt most W n .session ≡ opened n W)
-unfolding pollOpeningAt
+pub poll-opened : (most : Limits) → UpToServer most → (W n : ℕ) → pollOpeningFor most W n .code ≡ 0 →
+    (1 ≤ n) × (n ≤ maxProcesses) × (W ≤ maxRounds) × (pollOpeningFor most W n .session ≡ opened n W)
+unfolding pollOpeningFor
 poll-opened most up W n ok = let a = opening-held most up W n W ok in (a .0, a .1, a .3, a .4)
 
 -- A poll just opened is sound, at any window that fits.
-pub opened-poll-sound : (W n : ℕ) → 1 ≤ n → n ≤ maxProcesses → W ≤ maxRounds → soundAtAs true W (opened n W) ≡ true
+pub opened-poll-sound : (W n : ℕ) → 1 ≤ n → n ≤ maxProcesses → W ≤ maxRounds → soundForAs true W (opened n W) ≡ true
 unfolding opened pollRegisters
 opened-poll-sound W n some few low =
     facts-sound true W _

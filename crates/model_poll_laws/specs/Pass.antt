@@ -4,7 +4,7 @@ use Rattle.base.specs.Bools.{cond-cases}
 use Rattle.base.specs.Squares.{square-le}
 use Rattle.model_laws.specs.Types.{Phase, Idle, Waiting, Write, Scan, Adopt, Compare, Flag, CheckMark, CheckValue, Commit, Exhausted, Crashed, Decided, HasCommitted, HasAdopted, Process}
 use Rattle.model.specs.declared.Status.the-variants.{Active}
-use Rattle.model.specs.Step.{waitingRule, goOn, nextAt, next, process}
+use Rattle.model.specs.Step.{waitingRule, goOn, phaseNext, next, process}
 use Rattle.model.specs.Refusal.{status, isOutside, isGone}
 use Rattle.model_laws.specs.Phases.{PhaseSound, process-facts}
 use Rattle.model.specs.Sound.{soundPhaseAs, soundProcessAs}
@@ -68,8 +68,8 @@ module _ (W : ℕ) where
   -- One turn more, from each phase that a turn is taken in.
   pub taken-next : (r e t : ℕ) (φ : Phase) (x : ℕ) → isOutside (status φ) ≡ false → isGone (status φ) ≡ false → r ≤ W → PhaseSound W W r φ →
       (φ ≡ Waiting → r < W) → (φ ≡ Exhausted → ⊥) → Taken W r t φ →
-      let q = nextAt W W r e φ true x in Taken W (q .round) (suc t) (ending φ (q .phase))
-  unfolding nextAt ending waitingRule
+      let q = phaseNext W W r e φ true x in Taken W (q .round) (suc t) (ending φ (q .phase))
+  unfolding phaseNext ending waitingRule
   taken-next r e t Idle x o g low s w z k = absurd (true≢false o)
   taken-next r e t Waiting x o g low s w z k =
       let below = w refl in

@@ -13,7 +13,7 @@ use Rattle.model_laws.specs.Phases.{outside-here}
 use Rattle.model_poll.specs.declared.Answer.{Answer}
 use Rattle.model_poll.specs.declared.Answer.the-variants.{Pending, Commits, Adopts}
 use Rattle.model_poll.specs.declared.PollStepped.{PollStepped}
-use Rattle.model_poll.specs.Turn.{pollAccess, pollNext, answerAt, answerOf, Carries}
+use Rattle.model_poll.specs.Turn.{pollAccess, pollNext, phaseAnswer, answerOf, Carries}
 use Rattle.model_poll.specs.Machine.{PollOperation, proposes, turns, crashes, turnTests, turnAfter, turnCounts, given, polled, turned, unanswered, pollPerform}
 use Rattle.model_poll_laws.specs.Answers.{TurnAccepted, turn-accepted}
 
@@ -104,7 +104,7 @@ own-becomes W s (crashes m) below = turn-own s m _ _ below
 -- ---- the answers
 
 -- The phase of a record that holds an answer with value v, and its estimate.
-pub answer-cases : (φ : Phase) (e v : ℕ) → Carries (answerAt φ e) v → ((φ ≡ HasCommitted) ⊎ (φ ≡ HasAdopted)) × (e ≡ v)
+pub answer-cases : (φ : Phase) (e v : ℕ) → Carries (phaseAnswer φ e) v → ((φ ≡ HasCommitted) ⊎ (φ ≡ HasAdopted)) × (e ≡ v)
 answer-cases Idle e v c = absurd c
 answer-cases Waiting e v c = absurd c
 answer-cases Write e v c = absurd c

@@ -3,10 +3,10 @@ use Rattle.base.specs.Prelude.{ℕ, _+_, min, _≤_, _<_, arith, _≡_, refl, s
 use Rattle.base.specs.Bools.{cond-cases, and-left, and-right, and-both}
 use Rattle.model_laws.specs.Types.{Phase, Idle, Waiting, Write, Scan, Adopt, Compare, Flag, CheckMark, CheckValue, Commit, Exhausted, Crashed, Decided, HasCommitted, HasAdopted, Process, Access, Nothing, ReadValue, WriteValue, ReadMark, SetMark, ReadDecision, WriteDecision, Session, Counts, Operation, Propose, Step, Crash}
 use Rattle.model.specs.Board.{processAt, idle, maxRounds}
-use Rattle.model.specs.Step.{goOn, nextAt, next, stored, turn, found, process, access}
+use Rattle.model.specs.Step.{goOn, phaseNext, next, stored, turn, found, process, access}
 use Rattle.model.specs.Refusal.{status, isOutside, isGone}
 use Rattle.model.specs.Machine.{accessOf, becomes, after}
-use Rattle.model.specs.Sound.{soundPhaseAs, soundPhase, soundProcessAs, soundProcess, pollRegisters, soundAtAs}
+use Rattle.model.specs.Sound.{soundPhaseAs, soundPhase, soundProcessAs, soundProcess, pollRegisters, soundForAs}
 use Rattle.model_laws.specs.Phases.{process-facts, inside-some, outside-start, outside-here}
 use Rattle.model_laws.specs.WaitingRules.{waiting-cases}
 use Rattle.model_laws.specs.Ranges.{InRange}
@@ -85,8 +85,8 @@ module _ (W : ℕ) where
 
   -- From each phase that a turn is taken in.
   ends-next : (r e : ℕ) (φ : Phase) (x : ℕ) → isOutside (status φ) ≡ false → isGone (status φ) ≡ false → r ≤ W → soundPhaseAs true W W r φ ≡ true →
-      let q = nextAt W W r e φ true x in Ends (q .round) (q .phase) (ending φ (q .phase))
-  unfolding nextAt ending soundPhaseAs
+      let q = phaseNext W W r e φ true x in Ends (q .round) (q .phase) (ending φ (q .phase))
+  unfolding phaseNext ending soundPhaseAs
   ends-next r e Idle x o g low t = absurd (true≢false o)
   ends-next r e Waiting x o g low t =
       let below = ltb-true r W t in
@@ -174,7 +174,7 @@ poll-access-range W L M q low t = quiet-range M (access L q true) (operation-rea
 
 -- ---- the poll after a proposal, a turn and a crash
 
-module _ (W : ℕ) (s : Session) (t : soundAtAs true W s ≡ true) where
+module _ (W : ℕ) (s : Session) (t : soundForAs true W s ≡ true) where
   -- 02: "L = W, a blank D".
   pub poll-limit : s .limit ≡ W
   unfolding pollRegisters
@@ -194,7 +194,7 @@ module _ (W : ℕ) (s : Session) (t : soundAtAs true W s ≡ true) where
   poll-process p g = as-session W (s .limit) (processAt s p) g (sound-process true W s p t)
 
   pub turn-after-sound : 1 ≤ W → (p : ℕ) → p < s .n → isOutside (status (processAt s p .phase)) ≡ false → isGone (status (processAt s p .phase)) ≡ false →
-      soundAtAs true W (turnAfter W s p) ≡ true
+      soundForAs true W (turnAfter W s p) ≡ true
   unfolding turnAfter
   turn-after-sound wide p below o g =
       let q = processAt s p in
@@ -209,7 +209,7 @@ module _ (W : ℕ) (s : Session) (t : soundAtAs true W s ≡ true) where
   unfolding soundProcessAs
   placed φ r e o some low rule = rw o (and-both (and-both (lt-ltb 0 e some) (le-leb r (s .limit) low)) rule)
 
-  pub proposed-sound : 1 ≤ W → (c : Counts) (p v : ℕ) → Accepted s c (Propose p v) → soundAtAs true W (after W s (Propose p v)) ≡ true
+  pub proposed-sound : 1 ≤ W → (c : Counts) (p v : ℕ) → Accepted s c (Propose p v) → soundForAs true W (after W s (Propose p v)) ≡ true
   unfolding after accessOf becomes stored soundPhaseAs
   proposed-sound wide c p v a =
       let q = processAt s p in
@@ -219,7 +219,7 @@ module _ (W : ℕ) (s : Session) (t : soundAtAs true W s ≡ true) where
       turn-sound true W s p _ _ t (a .below) tt (still-only s refl refl)
       (placed Waiting (q .round) v refl (omega (arith, eqb-false v 0 (a .own .0))) (omega arith) (lt-ltb (q .round) W (omega arith)))
 
-  pub crashed-sound : (c : Counts) (p : ℕ) → Accepted s c (Crash p) → soundAtAs true W (after W s (Crash p)) ≡ true
+  pub crashed-sound : (c : Counts) (p : ℕ) → Accepted s c (Crash p) → soundForAs true W (after W s (Crash p)) ≡ true
   unfolding after accessOf becomes stored soundPhaseAs
   crashed-sound c p a =
       let q = processAt s p in

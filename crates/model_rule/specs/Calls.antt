@@ -9,7 +9,7 @@ use Rattle.model.specs.declared.Stepped.{Stepped}
 use Rattle.model.specs.Window.{window}
 use Rattle.model.specs.Board.{processAt}
 use Rattle.model.specs.Machine.{processOf, perform}
-use Rattle.model.specs.Public.{withCounts, proposeAt, stepAt, learnAt, crashAt}
+use Rattle.model.specs.Public.{withCounts, proposeFor, stepFor, learnFor, crashFor}
 use Rattle.model_rule.specs.Event.{Event, eventsOf}
 use Rattle.model_rule.specs.System.{System, Call, Run}
 
@@ -34,17 +34,17 @@ SessionCall = Call (Input Operation) Stepped
 
 -- What the called operation answers at window W, given session s. (A proposal and a crash are lent no counts: theirs are any, and stand as
 -- they stood.)
-abbrev pub promisedAt : (W : ℕ) → Session → Counts → Operation → Stepped
-promisedAt W s c (Propose p v) = withCounts (proposeAt W s p v) c
-promisedAt W s c (Step p leader) = stepAt W s p leader c
-promisedAt W s c (Learn p) = learnAt W s p c
-promisedAt W s c (Crash p) = withCounts (crashAt W s p) c
+abbrev pub promisedFor : (W : ℕ) → Session → Counts → Operation → Stepped
+promisedFor W s c (Propose p v) = withCounts (proposeFor W s p v) c
+promisedFor W s c (Step p leader) = stepFor W s p leader c
+promisedFor W s c (Learn p) = learnFor W s p c
+promisedFor W s c (Crash p) = withCounts (crashFor W s p) c
 
 -- In service, at the window of the session's n: what the contract of the called function says, `session_propose::propose`,
 -- `session_step_lent::step`, `session_step_lent::learn`, `session_crash::crash` (`theory_functions`).
 abbrev pub promised : Session → Counts → Operation → Stepped
-promised s c o = promisedAt (window (s .n)) s c o
+promised s c o = promisedFor (window (s .n)) s c o
 
 -- A list of calls, where w n is the window of n processes: "Each call is given the session that the last one returned or, refused, left."
 abbrev pub RunWith : (w : ℕ → ℕ) → Session → List SessionCall → Session → Type 0
-RunWith w = Run (λ (a : Stepped). a .session) (λ (s : Session) (f : Input Operation). promisedAt (w (s .n)) s (f .counts) (f .operation))
+RunWith w = Run (λ (a : Stepped). a .session) (λ (s : Session) (f : Input Operation). promisedFor (w (s .n)) s (f .counts) (f .operation))

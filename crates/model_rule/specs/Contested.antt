@@ -12,10 +12,10 @@ use Rattle.model.specs.declared.Stepped.{Stepped}
 use Rattle.model.specs.Window.{window}
 use Rattle.model.specs.Board.{UpToServer, noCounts}
 use Rattle.model.specs.Step.{bit}
-use Rattle.model.specs.Machine.{openingAt}
+use Rattle.model.specs.Machine.{openingFor}
 use Rattle.model.specs.Runner.{runWithin}
 use Rattle.model_poll.specs.declared.PollStepped.{PollStepped}
-use Rattle.model_poll.specs.Machine.{pollOpeningAt}
+use Rattle.model_poll.specs.Machine.{pollOpeningFor}
 use Rattle.model_rule.specs.System.{Call}
 use Rattle.model_rule.specs.Calls.{Input, RunWith}
 use Rattle.model_rule.specs.PollCalls.{PollRunWith}
@@ -44,14 +44,14 @@ CountsMarked {O} {A} tally Runs =
 abbrev pub ContestedRule : Type 0
 ContestedRule =
     (most : Limits) → UpToServer most → (n L : ℕ) →
-    let start = openingAt most (window n) n L in
+    let start = openingFor most (window n) n L in
     start .code ≡ 0 → CountsMarked (λ (a : Stepped). a .counts) (RunWith window (start .session))
 
 -- and of polls: "Here and below, each call of a run or order gets the session (later: poll, house) that the one before left."
 abbrev pub PollContestedRule : Type 0
 PollContestedRule =
     (most : Limits) → UpToServer most → (n : ℕ) →
-    let start = pollOpeningAt most (window n) n in
+    let start = pollOpeningFor most (window n) n in
     start .code ≡ 0 → CountsMarked (λ (a : PollStepped). a .counts) (PollRunWith window (start .session))
 
 -- And of every sheet, refused or not, and every budget.

@@ -10,7 +10,7 @@ use Rattle.model.specs.Board.{processAt}
 use Rattle.model.specs.Public.{withCounts}
 use Rattle.model_poll.specs.declared.PollStepped.{PollStepped}
 use Rattle.model_poll.specs.Machine.{PollOperation, proposes, turns, crashes, unanswered, pollPerform}
-use Rattle.model_poll.specs.Public.{pollProposeAt, pollTurnAt, pollCrashAt}
+use Rattle.model_poll.specs.Public.{pollProposeFor, pollTurnFor, pollCrashFor}
 use Rattle.model_rule.specs.Event.{Event, proposal, stepEvents}
 use Rattle.model_rule.specs.System.{System, Call, Run}
 use Rattle.model_rule.specs.Calls.{Input}
@@ -37,20 +37,20 @@ PollCall = Call (Input PollOperation) PollStepped
 
 -- What the called operation answers at window W, given poll s. (A proposal and a crash are lent no counts, theirs are any and stand as they
 -- stood; and they give no answer.)
-abbrev pub pollPromisedAt : (W : ℕ) → Session → Counts → PollOperation → PollStepped
-pollPromisedAt W s c (proposes p v) = unanswered (withCounts (pollProposeAt W s p v) c)
-pollPromisedAt W s c (turns p) = pollTurnAt W s p c
-pollPromisedAt W s c (crashes p) = unanswered (withCounts (pollCrashAt W s p) c)
+abbrev pub pollPromisedFor : (W : ℕ) → Session → Counts → PollOperation → PollStepped
+pollPromisedFor W s c (proposes p v) = unanswered (withCounts (pollProposeFor W s p v) c)
+pollPromisedFor W s c (turns p) = pollTurnFor W s p c
+pollPromisedFor W s c (crashes p) = unanswered (withCounts (pollCrashFor W s p) c)
 
 -- In service, at the window of the poll's n: what the contract of the called function says, `poll_change::propose`, `poll_turn_lent::turn`,
 -- `poll_change::crash` (`theory_functions`).
 abbrev pub pollPromised : Session → Counts → PollOperation → PollStepped
-pollPromised s c o = pollPromisedAt (window (s .n)) s c o
+pollPromised s c o = pollPromisedFor (window (s .n)) s c o
 
 -- A list of calls, where w n is the window of n processes: "each call of a run or order gets the .. poll .. that the one before left".
 abbrev pub PollRunWith : (w : ℕ → ℕ) → Session → List PollCall → Session → Type 0
 PollRunWith w =
-    Run (λ (a : PollStepped). a .session) (λ (s : Session) (f : Input PollOperation). pollPromisedAt (w (s .n)) s (f .counts) (f .operation))
+    Run (λ (a : PollStepped). a .session) (λ (s : Session) (f : Input PollOperation). pollPromisedFor (w (s .n)) s (f .counts) (f .operation))
 
 -- How many of the calls are accepted turns of process p.
 abbrev pub isTurnOf : (p : ℕ) → PollOperation → Bool

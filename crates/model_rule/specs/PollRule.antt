@@ -15,7 +15,7 @@ use Rattle.model_rule.specs.System.{machine, past, inputs, EachAsTheMach
 use Rattle.model_poll.specs.declared.Answer.{Answer}
 use Rattle.model_poll.specs.declared.Answer.the-variants.{Commits}
 use Rattle.model_poll.specs.Turn.{answerOf, Carries, passTurns}
-use Rattle.model_poll.specs.Machine.{turns, pollOpeningAt}
+use Rattle.model_poll.specs.Machine.{turns, pollOpeningFor}
 use Rattle.model_rule.specs.PollCalls.{polls, PollCall, PollRunWith, turnsOf}
 
 -- The call c of the list is a turn of process p that gave the answer a.
@@ -48,7 +48,7 @@ pub record PollRule (W : ℕ) (start : Session) (cs : List PollCall) (s : Sessio
 -- each call of it.
 abbrev pub PollClaimWithin : Limits → (w : ℕ → ℕ) → (n : ℕ) → Type 0
 PollClaimWithin most w n =
-    let start = pollOpeningAt most (w n) n in
+    let start = pollOpeningFor most (w n) n in
     let M = polls (w n) in
     start .code ≡ 0
     → (cs : List PollCall) (s : Session)

@@ -8,7 +8,7 @@ use Rattle.model.specs.declared.Caller.{Caller}
 use Rattle.model.specs.declared.Limits.{Limits}
 use Rattle.model.specs.Window.{window}
 use Rattle.model.specs.Board.{limitsOf, UpToServer, processAt}
-use Rattle.model.specs.Machine.{openingAt}
+use Rattle.model.specs.Machine.{openingFor}
 use Rattle.model_rule.specs.Event.{Event, Past, Proposed, Written, Committed, DecidedOn}
 use Rattle.model_rule.specs.Event.Event.{commit}
 use Rattle.model_rule.specs.System.{machine, past, inputs, EachAsTheMachine, AfterEach}
@@ -48,7 +48,7 @@ pub record Rule (s : Session) (h : List Event) : Type 0 where
 -- seat records) equal the machine's, and the rule holds of that session."
 abbrev pub AgreementWithin : Limits → (w : ℕ → ℕ) → (n L : ℕ) → Type 0
 AgreementWithin most w n L =
-    let start = openingAt most (w n) n L in
+    let start = openingFor most (w n) n L in
     let M = sessions (w n) in
     start .code ≡ 0
     → (cs : List SessionCall) (s : Session)

@@ -4,7 +4,7 @@ use Rattle.base.specs.Bools.{and-left, and-right, cond-cases}
 use Rattle.model.specs.declared.Caller.the-variants.{Server}
 use Rattle.model.specs.declared.Operation.{Operation}
 use Rattle.model.specs.Board.{limitsOf}
-use Rattle.model.specs.Machine.{openingAt, processOf}
+use Rattle.model.specs.Machine.{openingFor, processOf}
 use Rattle.model.specs.Sound.{every}
 use Rattle.model_rule.specs.Event.{Event, proposal, write, flag, commit, decision, here, there, Happened, DecidedOn}
 use Rattle.model_rule.specs.Calls.{sessions}
@@ -50,7 +50,7 @@ happens h c = some (commits (c .round) (c .value)) h && some (decides (c .proces
 
 -- The past of the row's machine: its opening, within the server's limits, and operations at its window.
 abbrev pub pastOf : Row → List Event
-pastOf r = played (sessions (r .window)) (openingAt (limitsOf Server) (r .window) (r .n) (r .limit) .session) [] (r .operations) .1
+pastOf r = played (sessions (r .window)) (openingFor (limitsOf Server) (r .window) (r .n) (r .limit) .session) [] (r .operations) .1
 
 -- Both commits happen, and their values differ.
 unfoldable pub differ : List Event → (first second : Commitment) → Bool
@@ -63,7 +63,7 @@ within n o = ltb (processOf o) n
 -- The opening is accepted, the operations are of its processes, and in its past two commits differ.
 unfoldable pub breaks : Row → Bool
 breaks r =
-    eqb (openingAt (limitsOf Server) (r .window) (r .n) (r .limit) .code) 0 && every (within (r .n)) (r .operations) && differ (pastOf r) (r .first) (r .second)
+    eqb (openingFor (limitsOf Server) (r .window) (r .n) (r .limit) .code) 0 && every (within (r .n)) (r .operations) && differ (pastOf r) (r .first) (r .second)
 
 -- ---- what the tests say
 
@@ -96,7 +96,7 @@ happens-decided h c t = some-happened _ _ (decides-only (c .process) (c .value))
 
 -- What a row that breaks shows.
 pub record Broken (r : Row) : Type 0 where
-  pub opens : openingAt (limitsOf Server) (r .window) (r .n) (r .limit) .code ≡ 0
+  pub opens : openingFor (limitsOf Server) (r .window) (r .n) (r .limit) .code ≡ 0
   pub inside : every (within (r .n)) (r .operations) ≡ true
   pub one : DecidedOn (r .first .process) (r .first .value) (pastOf r)
   pub other : DecidedOn (r .second .process) (r .second .value) (pastOf r)
@@ -105,7 +105,7 @@ pub record Broken (r : Row) : Type 0 where
 pub breaks-shows : (r : Row) → breaks r ≡ true → Broken r
 unfolding breaks differ
 breaks-shows r t =
-    let a = eqb (openingAt (limitsOf Server) (r .window) (r .n) (r .limit) .code) 0 in
+    let a = eqb (openingFor (limitsOf Server) (r .window) (r .n) (r .limit) .code) 0 in
     let b = every (within (r .n)) (r .operations) in
     let c = happens (pastOf r) (r .first) in
     let d = happens (pastOf r) (r .second) in

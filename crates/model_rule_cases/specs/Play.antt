@@ -8,7 +8,7 @@ use Rattle.model.specs.declared.Session.{Session}
 use Rattle.model.specs.declared.Operation.{Operation}
 use Rattle.model.specs.declared.Operation.the-variants.{Step}
 use Rattle.model.specs.Board.{noCounts}
-use Rattle.model.specs.Machine.{openingAt}
+use Rattle.model.specs.Machine.{openingFor}
 use Rattle.model_rule.specs.System.{System, Call, inputs, Run, none, call, machine, events, past, AfterEach}
 use Rattle.model_rule.specs.Calls.{Input, sessions, RunWith}
 use Rattle.model_rule.specs.Rule.{Rule, AgreementWithin}
@@ -70,11 +70,11 @@ works p = Step p true
 
 -- A list of operations from an accepted opening, within any limits, whose past no rule allows: the agreement rule is false within them.
 pub breaks-rule : (most : Limits) (w : ℕ → ℕ) (n L : ℕ) (os : List Operation) →
-    let start = openingAt most (w n) n L in
+    let start = openingFor most (w n) n L in
     start .code ≡ 0 → ((s : Session) → Rule s (played (sessions (w n)) (start .session) [] os .1) → ⊥) → AgreementWithin most w n L → ⊥
 breaks-rule most w n L os ok never rule =
     let M = sessions (w n) in
-    let start = openingAt most (w n) n L .session in
+    let start = openingFor most (w n) n L .session in
     let c : Called (RunWith w start) (fedBy os []) = called (fedBy os []) in
     let same = ap (past M start) (c .same) ∙ sym (ap (λ x. x .1) (played-machine M start os [])) in
     let holds = at-the-end M (λ s cs. Rule s (past M start (inputs cs))) (c .run) (rule ok (c .calls) (c .left) (c .run) .2) in

@@ -7,9 +7,9 @@ use lib.ListN.{replicate}
 use Rattle.model.specs.declared.Operation.{Operation}
 use Rattle.model.specs.declared.Operation.the-variants.{Propose, Learn}
 use Rattle.model.specs.Board.{opened}
-use Rattle.model.specs.Step.{waitingRule, accessAt, access, found, goOn, nextAt, next, learnt, stored, turn, counted}
+use Rattle.model.specs.Step.{waitingRule, phaseAccess, access, found, goOn, phaseNext, next, learnt, stored, turn, counted}
 use Rattle.model.specs.Refusal.{full}
-use Rattle.model.specs.Machine.{openingAt, accessOf, becomes, after, countsAfter, answered, perform}
+use Rattle.model.specs.Machine.{openingFor, accessOf, becomes, after, countsAfter, answered, perform}
 use Rattle.model.specs.Sound.{every}
 use Rattle.model_rule_cases.specs.Play.{works, played}
 use Rattle.model_rule_cases.specs.Breaks.{Row, happens, differ, breaks}
@@ -86,6 +86,6 @@ table =
 -- Every row breaks the machine at its window.
 pub short-lists : every breaks table ≡ true
 unfolding
-    two three five table played happens differ breaks opened waitingRule accessAt access found goOn nextAt next learnt stored turn counted full openingAt
+    two three five table played happens differ breaks opened waitingRule phaseAccess access found goOn phaseNext next learnt stored turn counted full openingFor
     accessOf becomes after countsAfter answered perform
 short-lists = refl

@@ -11,21 +11,21 @@ use Rattle.model.specs.Bytes.{byteAt}
 use Rattle.model.specs.Board.{opened, noCounts}
 use Rattle.model.specs.Window.{window}
 use Rattle.model.specs.ReadOut.{countAnswer}
-use Rattle.model.specs.Sheet.{Run, processCount, roundLimit, runs, headerEnd, sheetRefusal, entries}
+use Rattle.model.specs.Sheet.{EntryRun, processCount, roundLimit, runs, headerEnd, sheetRefusal, entries}
 use Rattle.model.specs.Runner.{runFrom, runWithin}
-use Rattle.model_write.specs.Write.{wellFormed, bufferEntries, wrote, written}
+use Rattle.model_write.specs.Write.{wellFormed, bufferEntries, wrote, writeResult}
 
 -- ---- what is read of a sheet besides n and L
 
 -- Its cuts: the lengths of its runs, in entries.
-abbrev pub lengths : List Run → List ℕ
-lengths xs = map (λ (x : Run). x .size / 6) xs
+abbrev pub lengths : List EntryRun → List ℕ
+lengths xs = map (λ (x : EntryRun). x .size / 6) xs
 
 abbrev pub lengthsOf : List ℕ → List ℕ
 lengthsOf s = lengths (runs s)
 
 -- The bytes of its entries: those of its runs, one run after another.
-abbrev pub runBytes : List ℕ → List Run → List ℕ
+abbrev pub runBytes : List ℕ → List EntryRun → List ℕ
 runBytes s [] = []
 runBytes s (x ∷ xs) = take (x .size) (drop (x .offset) s) ++ runBytes s xs
 
@@ -34,7 +34,7 @@ entryBytes s = runBytes s (runs s)
 
 -- 02: "no gaps and no trailing bytes": the first run starts where the pairs end, each next one where the run before it ends, and the sheet ends with
 -- the last run; a sheet of no runs ends with its pairs.
-abbrev pub follow : (from size : ℕ) → List Run → Bool
+abbrev pub follow : (from size : ℕ) → List EntryRun → Bool
 follow from size [] = eqb from size
 follow from size (x ∷ xs) = eqb (x .offset) from && follow (x .offset + x .size) size xs
 
@@ -61,8 +61,8 @@ abbrev pub WrittenReads : Type 0
 WrittenReads =
     (most : Limits) (n L : ℕ) (es ms out : List ℕ)
     → most .rounds < 65536
-    → written most n L es ms out .answer .code ≡ 0
-    → let w = written most n L es ms out in
+    → writeResult most n L es ms out .answer .code ≡ 0
+    → let w = writeResult most n L es ms out in
     ReadsAs most n L es ms (take (w .answer .count) (w .buffer))
 
 -- ---- read, then written
@@ -77,5 +77,5 @@ ReadWrites =
     → wellFormed (entries s) ≡ true
     → gapless s ≡ true
     → length s ≤ length out
-    → written most (processCount s) (roundLimit s) (entryBytes s) (lengthsOf s) out
+    → writeResult most (processCount s) (roundLimit s) (entryBytes s) (lengthsOf s) out
     ≡ wrote (countAnswer 0 (length s)) (s ++ drop (length s) out)

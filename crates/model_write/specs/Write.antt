@@ -13,17 +13,17 @@ use Rattle.model.specs.Numbers.{badRun, badCuts, badEntry, badBuffer}
 use Rattle.model.specs.Refusal.{Test, refusal, openTests}
 use Rattle.model.specs.Sound.{every}
 use Rattle.model.specs.ReadOut.{countAnswer, buffered}
-use Rattle.model.specs.Sheet.{Run, entriesAt, isMalformed}
+use Rattle.model.specs.Sheet.{EntryRun, entriesAt, isMalformed}
 
 -- ---- the sheet
 
 -- Runs of these lengths in entries (02: cuts), the first at byte `from`, each next one at the end of the one before: "without gaps".
-abbrev pub laidOut : (from : ℕ) (lengths : List ℕ) → List Run
+abbrev pub laidOut : (from : ℕ) (lengths : List ℕ) → List EntryRun
 laidOut from [] = []
 laidOut from (m ∷ ms) = record { offset = from; size = 6 * m } ∷ laidOut (from + 6 * m) ms
 
 -- 01: "p pairs, 16-bit offset and 16-bit length".
-abbrev pub pairBytes : List Run → List ℕ
+abbrev pub pairBytes : List EntryRun → List ℕ
 pairBytes [] = []
 pairBytes (x ∷ xs) = bytes16 (x .offset) ++ (bytes16 (x .size) ++ pairBytes xs)
 
@@ -71,16 +71,16 @@ writeRefusal most n L es ms room = refusal (writeTests most n L es ms room)
 -- ---- the call
 
 -- What a call of the writer gives: its answer, the refusal or 0 and the size, and what the output buffer then holds.
-pub record Written : Type 0 where
+pub record WriteResult : Type 0 where
   pub answer : CountAnswer
   pub buffer : List ℕ
 
-abbrev pub wrote : CountAnswer → (buffer : List ℕ) → Written
+abbrev pub wrote : CountAnswer → (buffer : List ℕ) → WriteResult
 wrote a b = record { answer = a; buffer = b }
 
 -- "A refused call leaves the output buffer unchanged; otherwise only the sheet's bytes in it change."
-unfoldable pub written : Limits → (n L : ℕ) (entries lengths output : List ℕ) → Written
-written most n L es ms out =
+unfoldable pub writeResult : Limits → (n L : ℕ) (entries lengths output : List ℕ) → WriteResult
+writeResult most n L es ms out =
     let code = writeRefusal most n L es ms (length out) in
     let sheet = sheetOf n L es ms in
     wrote (countAnswer code (length sheet)) (buffered code sheet out)

@@ -6,7 +6,7 @@ use lib.Dec.{eqb}
 use Rattle.model.specs.declared.Caller.{Caller}
 use Rattle.model.specs.declared.CountAnswer.{CountAnswer}
 use Rattle.model.specs.Board.{limitsOf}
-use Rattle.model_write.specs.Write.{Written, written}
+use Rattle.model_write.specs.Write.{WriteResult, writeResult}
 
 -- What C gets: the code, what the output buffer holds, and the lent number.
 pub record WriteExport : Type 0 where
@@ -25,5 +25,5 @@ sizeLeft a before = cond (eqb (a .code) 0) (a .count) before
 -- Within the caller's limits. (02, wish 9: "the C entry .. use the server's".)
 unfoldable pub writeExport : Caller → (n L : ℕ) (entries lengths output : List ℕ) (size : ℕ) → WriteExport
 writeExport caller n L es ms out size =
-    let w = written (limitsOf caller) n L es ms out in
+    let w = writeResult (limitsOf caller) n L es ms out in
     exportOf (w .answer .code) (w .buffer) (sizeLeft (w .answer) size)

@@ -2,12 +2,12 @@
 use Rattle.base.specs.Prelude.{ℕ, suc, zero, _+_, _*_, _≤_, _<_, arith, add-one, le-of-lt, _≡_, refl, ap, _∙_, List, [], _∷_, _++_, append-assoc, length, length-append, getD, take, take-suc, length-take-le, sets}
 use Rattle.base.specs.Arrays.{sets-append}
 use Rattle.model.specs.Bytes.{bytes16}
-use Rattle.model.specs.Sheet.{Run}
+use Rattle.model.specs.Sheet.{EntryRun}
 use Rattle.model_write.specs.Write.{laidOut, pairBytes, total}
 use Rattle.model_write_laws.specs.Sizes.{length-laidOut, length-pairBytes}
 
 -- A run of m entries behind those of the lengths ms.
-abbrev pub runBehind : (from : ℕ) (ms : List ℕ) (m : ℕ) → Run
+abbrev pub runBehind : (from : ℕ) (ms : List ℕ) (m : ℕ) → EntryRun
 runBehind from ms m = record { offset = from + 6 * total ms; size = 6 * m }
 
 pub total-more : (ms : List ℕ) (m : ℕ) → total (ms ++ m ∷ []) ≡ total ms + m

@@ -1,6 +1,6 @@
 -- How long what is written is.
 use Rattle.base.specs.Prelude.{ℕ, suc, _+_, _*_, arith, _≡_, refl, ap, List, [], _∷_, length, length-append}
-use Rattle.model.specs.Sheet.{Run}
+use Rattle.model.specs.Sheet.{EntryRun}
 use Rattle.model_write.specs.Write.{laidOut, pairBytes, sheetOf}
 
 -- As many runs are laid out as there are lengths.
@@ -9,7 +9,7 @@ length-laidOut from [] = refl
 length-laidOut from (m ∷ ms) = ap suc (length-laidOut (from + 6 * m) ms)
 
 -- A pair has four bytes.
-pub length-pairBytes : (xs : List Run) → length (pairBytes xs) ≡ 4 * length xs
+pub length-pairBytes : (xs : List EntryRun) → length (pairBytes xs) ≡ 4 * length xs
 length-pairBytes [] = refl
 length-pairBytes (x ∷ xs) = omega (arith, length-pairBytes xs)
 

@@ -5,7 +5,7 @@ use Rattle.model_laws.specs.Types.{Caller, Limits}
 use Rattle.model.specs.Bytes.{bytes16}
 use Rattle.model.specs.declared.CountAnswer.{CountAnswer}
 use Rattle.model.specs.Board.{limitsOf}
-use Rattle.model_write.specs.Write.{laidOut, pairBytes, sheetOf, writeRefusal, Written, wrote, written}
+use Rattle.model_write.specs.Write.{laidOut, pairBytes, sheetOf, writeRefusal, WriteResult, wrote, writeResult}
 use Rattle.model_write.specs.WriteExport.{exportOf, sizeLeft, writeExport}
 use Rattle.model_write_laws.specs.Sizes.{length-laidOut, length-pairBytes}
 
@@ -26,21 +26,21 @@ module _ (n L : ℕ) (es ms out : List ℕ) where
 module _ (most : Limits) (n L : ℕ) (es ms out : List ℕ) where
   -- A refused call.
   pub written-refused : (k : ℕ) → k ≡ writeRefusal most n L es ms (length out) → (k ≡ 0 → ⊥)
-      → wrote (record { code = k; count = 0 }) out ≡ written most n L es ms out
-  unfolding written
+      → wrote (record { code = k; count = 0 }) out ≡ writeResult most n L es ms out
+  unfolding writeResult
   written-refused zero e some = absurd (some refl)
   written-refused (suc k) e some = rw (← e)
 
   -- An accepted one.
   pub written-accepted : {size : ℕ} {after : List ℕ} → writeRefusal most n L es ms (length out) ≡ 0
       → size ≡ length (sheetOf n L es ms) → after ≡ sheetOf n L es ms ++ drop (length (sheetOf n L es ms)) out
-      → wrote (record { code = 0; count = size }) after ≡ written most n L es ms out
-  unfolding written
+      → wrote (record { code = 0; count = size }) after ≡ writeResult most n L es ms out
+  unfolding writeResult
   written-accepted e s a = rw (e, s, a)
 
 -- What C gets of a call within a caller's limits.
 pub exported : (caller : Caller) (n L : ℕ) (es ms out : List ℕ) (before : ℕ) {a : CountAnswer} {after : List ℕ} {size : ℕ}
-    → wrote a after ≡ written (limitsOf caller) n L es ms out → size ≡ sizeLeft a before
+    → wrote a after ≡ writeResult (limitsOf caller) n L es ms out → size ≡ sizeLeft a before
     → exportOf (a .code) after size ≡ writeExport caller n L es ms out before
 unfolding writeExport
-exported caller n L es ms out before e s = rw s (ap (λ (w : Written). exportOf (w .answer .code) (w .buffer) (sizeLeft (w .answer) before)) e)
+exported caller n L es ms out before e s = rw s (ap (λ (w : WriteResult). exportOf (w .answer .code) (w .buffer) (sizeLeft (w .answer) before)) e)

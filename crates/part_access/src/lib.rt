@@ -1,7 +1,7 @@
 // The one register operation of a step, as a function of one process' record.
 ghost use mathlib.Core.Path.{_≡_};
 ghost use Prim.Native.Nat.{_-_};
-ghost use Rattle.model.specs.Step.{access as accessOf, accessAt};
+ghost use Rattle.model.specs.Step.{access as accessOf, phaseAccess};
 use model::Access;
 use model::Phase;
 use model::Process;
@@ -16,7 +16,7 @@ fn minus(a: usize, b: usize) -> usize
 // 01, "One turn at a time", gate: a process that is told to lead reads the register of the next round, if there is one. The limit is read first, as in
 // 02, wish 5; where no round is left, no register is read, whatever the hint.
 fn waiting_access(limit: usize, round: usize, leader: bool) -> Access
-    ensures { λ r. ⌜ r ≡ accessAt limit round Phase.Waiting leader ⌝ }
+    ensures { λ r. ⌜ r ≡ phaseAccess limit round Phase.Waiting leader ⌝ }
 {
     if round < limit {
         if leader {

@@ -3,7 +3,7 @@ ghost use mathlib.Core.Path.{_≡_};
 ghost use mathlib.Core.Bool.{true, cond};
 ghost use Prim.Native.Nat.{ℕ, _+_, _-_, min};
 ghost use lib.Dec.{ltb, eqb};
-ghost use Rattle.model.specs.Step.{process as processOf, nextAt, next as nextOf, goOn};
+ghost use Rattle.model.specs.Step.{process as processOf, phaseNext, next as nextOf, goOn};
 use model::Phase;
 use model::Process;
 
@@ -32,7 +32,7 @@ fn upward(limit: usize, k: usize) -> Phase
 // 01, "One turn at a time", gate, in the order of 02, wish 5: "The round limit is read first from now on." The tests stand as in
 // `part_access::waiting_access`: the compiler then makes one branch of the tests of both functions. The window plays no part.
 fn waiting(limit: usize, round: usize, estimate: u32, leader: bool, x: u32) -> Process
-    ensures { λ r. ⌜ ((W : ℕ) → r ≡ nextAt W limit round estimate Phase.Waiting leader x) ⌝ }
+    ensures { λ r. ⌜ ((W : ℕ) → r ≡ phaseNext W limit round estimate Phase.Waiting leader x) ⌝ }
 {
     let left = round < limit;
     if left {

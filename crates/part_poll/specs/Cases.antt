@@ -9,7 +9,7 @@ use Rattle.model.specs.declared.Phase.the-variants.{Idle, Waiting, Write, Scan,
 use Rattle.model.specs.declared.Phase.the-variants.{CheckValue, Commit, Exhausted, Crashed, Decided, HasCommitted, HasAdopted}
 use Rattle.model_poll.specs.declared.Answer.{Answer}
 use Rattle.model_poll.specs.declared.Answer.the-variants.{Pending}
-use Rattle.model_poll.specs.Turn.{isWaiting, ending, answerAt}
+use Rattle.model_poll.specs.Turn.{isWaiting, ending, phaseAnswer}
 
 -- Every phase but gate.
 abbrev not-waiting-tags : List ℕ
@@ -58,7 +58,7 @@ goes-on HasAdopted left h = refl
 abbrev no-answer-tags : List ℕ
 no-answer-tags = 0 ∷ 1 ∷ 2 ∷ 3 ∷ 4 ∷ 5 ∷ 6 ∷ 7 ∷ 8 ∷ 9 ∷ 10 ∷ 11 ∷ 12 ∷ []
 
-pub no-answer : (f : Phase) (e : ℕ) → OneOf no-answer-tags (tagOf the-type f) → Pending ≡ answerAt f e
+pub no-answer : (f : Phase) (e : ℕ) → OneOf no-answer-tags (tagOf the-type f) → Pending ≡ phaseAnswer f e
 no-answer Idle e h = refl
 no-answer Waiting e h = refl
 no-answer Write e h = refl

@@ -21,7 +21,7 @@ module _ (s : Session) (buffer : List ℕ) where
     short h = (rw (t, size, lt-ltb _ _ h), rw (t, size, lt-ltb _ _ h))
 
     -- Otherwise the list is put to the buffer's first places.
-    pub written : n ≤ length buffer → (after : List ℕ) → after ≡ standingValues s ++ drop n buffer
+    pub list-written : n ≤ length buffer → (after : List ℕ) → after ≡ standingValues s ++ drop n buffer
         → Meets s buffer (record { code = 0; count = n }) after
     unfolding standingRefusal
-    written h after put = (rw (t, size, le-ltb _ _ h), rw (t, size, le-ltb _ _ h, size) put)
+    list-written h after put = (rw (t, size, le-ltb _ _ h), rw (t, size, le-ltb _ _ h, size) put)

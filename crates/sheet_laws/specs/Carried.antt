@@ -8,7 +8,7 @@ use Rattle.model.specs.Step.{found, counted}
 use Rattle.model.specs.Numbers.{noSuchProcess, badEntry}
 use Rattle.model.specs.Refusal.{refusal, full, tests}
 use Rattle.model.specs.Machine.{accessOf, after, countsAfter, answered, perform, processOf}
-use Rattle.model.specs.Sound.{soundAt}
+use Rattle.model.specs.Sound.{soundFor}
 use Rattle.model.specs.Runner.{ran, runBy, runFrom, runWithin, run}
 use Rattle.model.specs.Sheet.{processCount, roundLimit, entries, sheetRefusal}
 use Rattle.model_laws.specs.Accepted.{ownTests, Accepted, accepted}
@@ -27,7 +27,7 @@ use Rattle.sheet_laws.specs.Entries.{haltOf, entry-refusal, number-refus
 -- A session to start from: sound at window W.
 pub record Opened (W : ℕ) (s : Session) : Type 0 where
   pub wide : 1 ≤ W
-  pub sound : soundAt W s ≡ true
+  pub sound : soundFor W s ≡ true
 
 -- What a run starts from: such a session, and a sheet whose runs lie inside it.
 pub record Begun (t : List ℕ) (W : ℕ) (s : Session) : Type 0 where

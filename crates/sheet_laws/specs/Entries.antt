@@ -8,7 +8,7 @@ use Rattle.model.specs.Step.{access, next, learnt, found, stored, turn, counted
 use Rattle.model.specs.Numbers.{noSuchProcess}
 use Rattle.model.specs.Refusal.{refusal, tests, stepTests}
 use Rattle.model.specs.Machine.{accessOf, becomes, after, countsAfter, processOf}
-use Rattle.model.specs.Sound.{soundAt}
+use Rattle.model.specs.Sound.{soundFor}
 use Rattle.model_laws.specs.Accepted.{ownTests, tests-are}
 use Rattle.model_laws.specs.Operations.{access-in-arrays}
 use Rattle.model_laws.specs.Registers.{valueIn, markIn, valuesAfter, marksAfter, decisionAfter, counted-is, worked-is}
@@ -64,7 +64,7 @@ step-refusal φ c told = rw told
 
 -- What the code leaves after a work turn of a sound session, register by register.
 pub step-leaves : (W : ℕ) (s : Session) (p : ℕ) (leader : Bool) {o : Operation} {m v x y : ℕ} {a : Access} {values : List ℕ} {marks : List Bool} {q : Process} →
-    soundAt W s ≡ true →
+    soundFor W s ≡ true →
     o ≡ Step m leader →
     p ≡ processOf o →
     a ≡ access (s .limit) (processAt s p) leader →
@@ -81,7 +81,7 @@ step-leaves W s p leader {m = m} t told named ea er ex ev em ey eq =
 
 -- And what it counts.
 pub step-counts : (W : ℕ) (s : Session) (p : ℕ) (leader : Bool) (c : Counts) {o : Operation} {m v x : ℕ} {a : Access} →
-    soundAt W s ≡ true →
+    soundFor W s ≡ true →
     o ≡ Step m leader →
     p ≡ processOf o →
     a ≡ access (s .limit) (processAt s p) leader →

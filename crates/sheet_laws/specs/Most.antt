@@ -1,7 +1,7 @@
 -- How many entries a sheet can have: at most 10,921, the budget of document 01's board report.
 use Rattle.base.specs.Prelude.{ℕ, suc, zero, _+_, _*_, _≤_, arith, _≡_, refl, ap, true, List, [], _∷_, length, length-append}
 use Rattle.model.specs.declared.Limits.{Limits}
-use Rattle.model.specs.Sheet.{Run, runs, headerEnd, inOrder, entriesAt, entriesOf, entries, sheetRefusal}
+use Rattle.model.specs.Sheet.{EntryRun, runs, headerEnd, inOrder, entriesAt, entriesOf, entries, sheetRefusal}
 use Rattle.model_laws.specs.SheetFacts.{sheet-facts}
 use Rattle.sheet_laws.specs.Ordered.{in-order}
 
@@ -10,7 +10,7 @@ length-entriesAt s i zero = refl
 length-entriesAt s i (suc k) = ap suc (length-entriesAt s (i + 6) k)
 
 -- Runs in order, from one byte on up to another, have 6 bytes between those for each entry.
-most-of : (s : List ℕ) (from size : ℕ) (xs : List Run) → from ≤ size → inOrder from size xs ≡ true
+most-of : (s : List ℕ) (from size : ℕ) (xs : List EntryRun) → from ≤ size → inOrder from size xs ≡ true
     → 6 * length (entriesOf s xs) + from ≤ size
 most-of s from size [] f h = omega arith
 most-of s from size (x ∷ xs) f h =

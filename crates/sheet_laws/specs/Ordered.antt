@@ -2,12 +2,12 @@
 use Rattle.base.specs.Prelude.{ℕ, suc, zero, _+_, _≤_, _<_, arith, _≡_, true, List, _∷_, length, leb-true}
 use Rattle.base.specs.Bools.{and-left, and-right}
 use Rattle.model.specs.declared.Limits.{Limits}
-use Rattle.model.specs.Sheet.{Run, runAt, runCount, runsFrom, headerEnd, inOrder, sheetRefusal}
+use Rattle.model.specs.Sheet.{EntryRun, runAt, runCount, runsFrom, headerEnd, inOrder, sheetRefusal}
 use Rattle.model_laws.specs.SheetFacts.{sheet-facts}
 use Rattle.sheet_laws.specs.Places.{Inside}
 
 -- The first of runs in order lies where it may, and the others are in order behind it.
-pub in-order : (from size : ℕ) (x : Run) (xs : List Run) → inOrder from size (x ∷ xs) ≡ true
+pub in-order : (from size : ℕ) (x : EntryRun) (xs : List EntryRun) → inOrder from size (x ∷ xs) ≡ true
     → (from ≤ x .offset) × (x .offset + x .size ≤ size) × (inOrder (x .offset + x .size) size xs ≡ true)
 in-order from size x xs h = search (and-left, and-right, leb-true)
 

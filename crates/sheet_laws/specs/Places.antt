@@ -2,7 +2,7 @@
 -- number.
 use Rattle.base.specs.Prelude.{ℕ, suc, zero, _+_, _-_, _*_, _/_, _%_, _≤_, _<_, _≡_, Bool, false, cond, List, [], _∷_, _++_, leb}
 use Rattle.model.specs.declared.Entry.{Entry}
-use Rattle.model.specs.Sheet.{Run, runAt, runCount, runsFrom, entryAt, entriesAt, entriesOf}
+use Rattle.model.specs.Sheet.{EntryRun, runAt, runCount, runsFrom, entryAt, entriesAt, entriesOf}
 use Rattle.sheet_laws.specs.declared.Handed.{Handed}
 use Rattle.sheet_laws.specs.declared.Handed.the-variants.{Next, End}
 
@@ -32,7 +32,7 @@ abbrev pub hasEntry : Position → Bool
 hasEntry q = leb 1 (q .left)
 
 -- Run i, opened: its entries, "6 bytes" each, are to be handed out, and i + 1 is the next run.
-abbrev pub openedRun : (i : ℕ) → Run → Position
+abbrev pub openedRun : (i : ℕ) → EntryRun → Position
 openedRun i x = record { run = i + 1; at = x .offset; left = x .size / 6 }
 
 -- No entry of a run is left, and run i is the next.

@@ -4,7 +4,7 @@ ghost use Prim.Native.Nat.{_+_, _*_, _≤_};
 ghost use lib.ListN.{length};
 ghost use lib.Seq.{sets};
 ghost use Rattle.model.specs.Board.{limitsOf};
-ghost use Rattle.model_write.specs.Write.{laidOut, pairBytes, total, wrote, written};
+ghost use Rattle.model_write.specs.Write.{laidOut, pairBytes, total, wrote, writeResult};
 use model::Caller;
 use model::CountAnswer;
 
@@ -47,7 +47,7 @@ pub fn write(
     lengths: &[usize],
     sheet: &mut [u8],
 ) -> CountAnswer
-    ensures { λ r. ⌜ wrote r (now (sheet .exit)) ≡ written (limitsOf caller) n limit (now (entries .entry)) (now (lengths .entry)) (now (sheet .entry)) ⌝ }
+    ensures { λ r. ⌜ wrote r (now (sheet .exit)) ≡ writeResult (limitsOf caller) n limit (now (entries .entry)) (now (lengths .entry)) (now (sheet .entry)) ⌝ }
 {
     let code = sheet_write_refusal::write_refusal(caller, n, limit, entries, lengths, sheet.len());
     if code != 0 {

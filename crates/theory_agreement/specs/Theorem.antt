@@ -3,15 +3,15 @@ use Rattle.base.specs.Prelude.{ℕ, _*_, _≤_, arith, _≡_, refl, sym, _∙_,
 use Rattle.model_laws.specs.Types.{Limits, Session, Counts, Operation, Propose, Step, Learn, Crash}
 use Rattle.model.specs.Window.{window}
 use Rattle.model.specs.Board.{limitsOf, UpToServer}
-use Rattle.model.specs.Machine.{answered, perform, openingAt}
-use Rattle.model.specs.Public.{operateAtAs, stepAt, learnAt}
+use Rattle.model.specs.Machine.{answered, perform, openingFor}
+use Rattle.model.specs.Public.{operateForAs, stepFor, learnFor}
 use Rattle.model_laws.specs.Windows.{window-square}
 use Rattle.model_laws.specs.Accepted.{never-three}
 use Rattle.model_laws.specs.Callers.{caller-limits, opening-held}
 use Rattle.model_laws.specs.Answers.{stepped-code, operate-sound, propose-counts, crash-counts}
 use Rattle.model_rule.specs.Event.{Event}
 use Rattle.model_rule.specs.System.{inputs, machine, past, EachAsTheMachine}
-use Rattle.model_rule.specs.Calls.{Input, sessions, SessionCall, promisedAt, RunWith}
+use Rattle.model_rule.specs.Calls.{Input, sessions, SessionCall, promisedFor, RunWith}
 use Rattle.model_rule.specs.Rule.{Rule, EveryWindow, AgreementRule, CallerAgreement}
 use Rattle.model_rule.specs.Safe.{Safe, BelowThreshold}
 use Rattle.theory_count.specs.Grid.{wide-below, below-wide}
@@ -20,8 +20,8 @@ use Rattle.theory_board.specs.Lists.{followed, after-each}
 use Rattle.theory_agreement.specs.Conclusions.{reached-below}
 
 -- What a call answers is what the operation answers: a proposal and a crash leave any counts.
-pub promised-operate : (W : ℕ) (s : Session) (c : Counts) (o : Operation) → promisedAt W s c o ≡ operateAtAs false W s c o
-unfolding stepAt learnAt
+pub promised-operate : (W : ℕ) (s : Session) (c : Counts) (o : Operation) → promisedFor W s c o ≡ operateForAs false W s c o
+unfolding stepFor learnFor
 promised-operate W s c (Propose p v) = propose-counts false W s c p v
 promised-operate W s c (Step p leader) = refl
 promised-operate W s c (Learn p) = refl
@@ -29,7 +29,7 @@ promised-operate W s c (Crash p) = crash-counts false W s c p
 
 -- A session that the machine reached: every operation at its window answers as the machine does, and not 3.
 module _ (w : ℕ → ℕ) {n L : ℕ} {m : Session} {h : List Event} (i : Reached false (w n) n L m h) (f : Input Operation) where
-  pub operates-as : operateAtAs false (w (m .n)) m (f .counts) (f .operation) ≡ perform (w n) m (f .counts) (f .operation)
+  pub operates-as : operateForAs false (w (m .n)) m (f .counts) (f .operation) ≡ perform (w n) m (f .counts) (f .operation)
   operates-as =
       let same : w (m .n) ≡ w n = ap w (i .size) in
       operate-sound false (w (m .n)) m (f .counts) (f .operation) (rw same (i .sound)) ∙ rw same
@@ -47,8 +47,8 @@ sessions-followed w {n} {L} wide =
     (λ s h f i. (promised-operate (w (s .n)) s (f .counts) (f .operation) ∙ operates-as w i f, never-unsound i f))
 
 -- An accepted opening, within limits up to the server's.
-pub opening-reached : (most : Limits) → UpToServer most → (W n L : ℕ) → openingAt most W n L .code ≡ 0 →
-    (1 ≤ n) × Reached false W n L (openingAt most W n L .session) []
+pub opening-reached : (most : Limits) → UpToServer most → (W n L : ℕ) → openingFor most W n L .code ≡ 0 →
+    (1 ≤ n) × Reached false W n L (openingFor most W n L .session) []
 opening-reached most up W n L ok =
     let a = opening-held most up W n L ok in (a .0, rw (a .4) (opened-session W n L (a .0) (a .1) (a .2) (a .3)))
 
@@ -56,7 +56,7 @@ opening-reached most up W n L ok =
 pub below-threshold : BelowThreshold
 below-threshold w n L few most up ok cs s run =
     let M = sessions (w n) in
-    let start = openingAt most (w n) n L .session in
+    let start = openingFor most (w n) n L .session in
     let o = opening-reached most up (w n) n L ok in
     let least : 2 ≤ w n = below-wide (w n) n (o .0) few in
     let wide : 1 ≤ w n = omega arith in

@@ -8,7 +8,7 @@ use Rattle.theory_board.specs.Lawful.{Lawful, lawful-at, blank-above}
 use Rattle.base.specs.Bools.{cond-cases}
 use Rattle.theory_board.specs.Past.{past-before, happened-past}
 use Rattle.theory_board.specs.Registers.{epoch-top, wrote-round, written-fresh, last-written}
-use Rattle.theory_board.specs.Place.{Walked, Placed, PlacedAt}
+use Rattle.theory_board.specs.Place.{Walked, Placed, RecordPlaced}
 
 -- A round that is over was passed if no higher round was written.
 walked-passed : {W p r v : ℕ} {h : List Event} → Walked W p r v h → top h ≡ r → PassedBy W p r v h
@@ -54,7 +54,7 @@ walked-none w = record { written = w; compared = λ e j a b c. absurd (omega ari
 
 -- A step that adopts the value of a filled register.
 pub adopt-placed : {W n : ℕ} (p r v k x : ℕ) {h : List Event} → 1 ≤ k → Lawful W n h → Placed W p r v (Adopt k) h → x ≡ last h k →
-    PlacedAt W p (process (Compare 0) k (cond (eqb x 0) v x)) h
+    RecordPlaced W p (process (Compare 0) k (cond (eqb x 0) v x)) h
 adopt-placed p r v k x {h} b l a e =
     cond-cases (λ (u : ℕ). Proposed u h × Walked 0 p k u h) (eqb x 0)
     (λ t. absurd (omega (arith, blank-above l k b (sym e ∙ eqb-true x 0 t))))

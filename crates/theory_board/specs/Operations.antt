@@ -2,7 +2,7 @@
 use Rattle.base.specs.Prelude.{ℕ, zero, suc, _-_, _≡_, refl, sym, _∙_, Bool, true, false, true≢false, List, [], _∷_, _++_, not, not-false, arith}
 use Rattle.model_laws.specs.Types.{Phase, Idle, Waiting, Write, Scan, Adopt, Compare, Flag, CheckMark, CheckValue, Commit, Exhausted, Crashed, Decided, HasCommitted, HasAdopted, Session, Counts, Operation, Propose, Step, Learn, Crash}
 use Rattle.model.specs.Board.{processAt}
-use Rattle.model.specs.Step.{accessAt, access, found, stored}
+use Rattle.model.specs.Step.{phaseAccess, access, found, stored}
 use Rattle.model.specs.Refusal.{status, isOutside, isGone}
 use Rattle.model.specs.Machine.{accessOf, becomes, after, processOf}
 use Rattle.model.specs.Sound.{soundProcess}
@@ -21,9 +21,9 @@ use Rattle.theory_board.specs.Invariant.{Invariant, turn-invariant}
 -- ---- the registers that an operation leaves are those of the past with its event
 
 pub step-events : {s : Session} {h : List Event} (p r v : ℕ) (φ : Phase) (leader : Bool) → Long s → Matches s h →
-    InRange (s .limit) (accessAt (s .limit) r φ leader) →
-    let t = stored s (accessAt (s .limit) r φ leader) v in Long t × Matches t (stepEvents p r v φ ++ h)
-unfolding accessAt stored
+    InRange (s .limit) (phaseAccess (s .limit) r φ leader) →
+    let t = stored s (phaseAccess (s .limit) r φ leader) v in Long t × Matches t (stepEvents p r v φ ++ h)
+unfolding phaseAccess stored
 step-events p r v Idle leader l k ok = (l, k)
 step-events {s} {h} p r v Waiting leader l k ok =
     waiting-cases (λ a. Long (stored s a v) × Matches (stored s a v) h) (s .limit) r leader (λ e. (l, k)) (l, k) (λ b. (l, k))

@@ -44,10 +44,10 @@ Placed W p r v HasCommitted h = Happened (commit r v) h
 Placed W p r v HasAdopted h = Written r v h
 
 -- What a process that has proposed tells by its phase, round and estimate: the estimate was proposed, too.
-abbrev pub PlacedAt : (W p : ℕ) → Process → List Event → Type 0
-PlacedAt W p q h = Proposed (q .estimate) h × Placed W p (q .round) (q .estimate) (q .phase) h
+abbrev pub RecordPlaced : (W p : ℕ) → Process → List Event → Type 0
+RecordPlaced W p q h = Proposed (q .estimate) h × Placed W p (q .round) (q .estimate) (q .phase) h
 
 -- And one that has decided is at Decided and holds that value.
 pub record Stands (W p : ℕ) (q : Process) (h : List Event) : Type 0 where
-  pub placed : isOutside (status (q .phase)) ≡ false → PlacedAt W p q h
+  pub placed : isOutside (status (q .phase)) ≡ false → RecordPlaced W p q h
   pub decided : (v : ℕ) → DecidedOn p v h → (q .phase ≡ Decided) × (q .estimate ≡ v)

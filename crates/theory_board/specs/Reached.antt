@@ -4,7 +4,7 @@ use Rattle.model_laws.specs.Types.{Session, Counts, Operation}
 use Rattle.model.specs.Board.{processAt, opened, maxProcesses, maxRounds}
 use Rattle.model.specs.Refusal.{refusal, tests, stepped}
 use Rattle.model.specs.Machine.{after, countsAfter, answered, perform, processOf}
-use Rattle.model.specs.Sound.{soundProcess, soundAtAs}
+use Rattle.model.specs.Sound.{soundProcess, soundForAs}
 use Rattle.model_laws.specs.Accepted.{Accepted, accepted}
 use Rattle.model_laws.specs.Sounds.{sound-process}
 use Rattle.model_laws.specs.Operations.{after-same, after-sound, opened-sound}
@@ -18,7 +18,7 @@ use Rattle.theory_board.specs.Lists.{machine-kept}
 
 -- It is sound, as a session or (poll true) as a poll, has its n and its limit still, and keeps the invariant.
 pub record Reached (poll : Bool) (W n L : ℕ) (s : Session) (h : List Event) : Type 0 where
-  pub sound : soundAtAs poll W s ≡ true
+  pub sound : soundForAs poll W s ≡ true
   pub size : s .n ≡ n
   pub rounds : s .limit ≡ L
   pub invariant : Invariant W s h
@@ -26,7 +26,7 @@ pub record Reached (poll : Bool) (W n L : ℕ) (s : Session) (h : List Event) : 
 -- An accepted operation of a session, and so an accepted proposal or crash of a poll: the process that it names is sound, as one of a
 -- session, and what it leaves is sound.
 pub accepted-reached : {poll : Bool} {W n L : ℕ} {s : Session} {h : List Event} → Reached poll W n L s h → (c : Counts) (o : Operation) →
-    Accepted s c o → soundProcess W (s .limit) (processAt s (processOf o)) ≡ true → soundAtAs poll W (after W s o) ≡ true →
+    Accepted s c o → soundProcess W (s .limit) (processAt s (processOf o)) ≡ true → soundForAs poll W (after W s o) ≡ true →
     Reached poll W n L (after W s o) (eventsOf (processAt s (processOf o)) (s .decision) o ++ h)
 accepted-reached {W = W} {s = s} i c o a one left =
     let same = after-same W s o in
@@ -34,7 +34,7 @@ accepted-reached {W = W} {s = s} i c o a one left =
     record { sound = left; size = same .0 ∙ i .size; rounds = same .1 ∙ i .rounds; invariant = kept }
 
 -- What is just opened, and sound.
-pub opened-reached : {poll : Bool} (W n L : ℕ) → soundAtAs poll W (opened n L) ≡ true → n ≤ maxProcesses → L ≤ maxRounds →
+pub opened-reached : {poll : Bool} (W n L : ℕ) → soundForAs poll W (opened n L) ≡ true → n ≤ maxProcesses → L ≤ maxRounds →
     Reached poll W n L (opened n L) []
 unfolding opened
 opened-reached W n L sound few low = record { sound = sound; size = refl; rounds = refl; invariant = opened-invariant W n L few low }

@@ -1,7 +1,7 @@
 -- A step of a process: what it adds to the past is lawful, and the process stands where its new phase tells.
 use Rattle.base.specs.Prelude.{ℕ, _-_, _<_, _≡_, Bool, false, List, [], _∷_, _++_, arith}
 use Rattle.model_laws.specs.Types.{Phase, Idle, Waiting, Write, Scan, Adopt, Compare, Flag, CheckMark, CheckValue, Commit, Exhausted, Crashed, Decided, HasCommitted, HasAdopted, Process}
-use Rattle.model.specs.Step.{accessAt, access, nextAt, next, process}
+use Rattle.model.specs.Step.{phaseAccess, access, phaseNext, next, process}
 use Rattle.model.specs.Refusal.{status, isOutside}
 use Rattle.model_laws.specs.Phases.{PhaseSound}
 use Rattle.model_laws.specs.WaitingRules.{waiting-both}
@@ -10,7 +10,7 @@ use Rattle.model_rule.specs.Event.Past.{here, there}
 use Rattle.theory_board.specs.Past.{happened-past, happened-older}
 use Rattle.theory_board.specs.Registers.{wrote-round}
 use Rattle.theory_board.specs.Lawful.{Lawful, also}
-use Rattle.theory_board.specs.Place.{Found, Placed, PlacedAt, Stands}
+use Rattle.theory_board.specs.Place.{Found, Placed, RecordPlaced, Stands}
 use Rattle.theory_board.specs.Stays.{walked-event, SpareAll}
 use Rattle.theory_board.specs.Climb.{leads-placed, scan-placed, walked-none, adopt-placed}
 use Rattle.theory_board.specs.Rounds.{compare-placed, flag-placed}
@@ -18,12 +18,12 @@ use Rattle.theory_board.specs.Checks.{check-mark-placed, check-value-pla
 
 -- A process in round r with estimate v that finds x by its access is, after its step, where its new phase tells.
 pub step-placed : {W n : ℕ} (L p r v : ℕ) (φ : Phase) (leader : Bool) (x : ℕ) {h : List Event} →
-    PhaseSound W L r φ → Lawful W n h → Proposed v h → Placed W p r v φ h → Found h (accessAt L r φ leader) x →
-    PlacedAt W p (nextAt W L r v φ leader x) (stepEvents p r v φ ++ h)
-unfolding accessAt nextAt
+    PhaseSound W L r φ → Lawful W n h → Proposed v h → Placed W p r v φ h → Found h (phaseAccess L r φ leader) x →
+    RecordPlaced W p (phaseNext W L r v φ leader x) (stepEvents p r v φ ++ h)
+unfolding phaseAccess phaseNext
 step-placed L p r v Idle leader x s l b a f = (b, tt)
 step-placed {W} L p r v Waiting leader x {h} s l b a f =
-    waiting-both (λ c q. Found h c x → PlacedAt W p q h) L r leader
+    waiting-both (λ c q. Found h c x → RecordPlaced W p q h) L r leader
     (λ e g. (b, tt))
     (λ g. (b, a))
     (λ e g. (b, leads-placed L p r v x l a g))
@@ -63,7 +63,7 @@ step-cases P p r v none w f c HasAdopted = none HasAdopted
 
 -- The event of a step of one of the n processes is lawful.
 pub step-lawful : {W n : ℕ} (L p r v : ℕ) (φ : Phase) {h : List Event} →
-    p < n → 0 < v → PhaseSound W L r φ → Lawful W n h → PlacedAt W p (process φ r v) h → Lawful W n (stepEvents p r v φ ++ h)
+    p < n → 0 < v → PhaseSound W L r φ → Lawful W n h → RecordPlaced W p (process φ r v) h → Lawful W n (stepEvents p r v φ ++ h)
 step-lawful {W} {n} L p r v φ {h} q u s l a =
     step-cases (λ φ es. PhaseSound W L r φ → Placed W p r v φ h → Lawful W n (es ++ h)) p r v
     (λ φ s b. l)

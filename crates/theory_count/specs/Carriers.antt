@@ -62,11 +62,11 @@ module _
         let n = closing j low in record { before = n .before; past = past-trans (n .past) (up-past m h); epoch = closing-epoch j low }
 
     -- That writer carries c to register m + 1.
-    abbrev pub Carries : (c j : ℕ) → Low j → Type 0
-    Carries c j low = (e : ℕ) × Wrote (closing j low .process) (m + 1) c e h
+    abbrev pub IsCarrier : (c j : ℕ) → Low j → Type 0
+    IsCarrier c j low = (e : ℕ) × Wrote (closing j low .process) (m + 1) c e h
 
     -- After its last write in epoch m it saw c in every such register, in that epoch.
-    seen : {c j : ℕ} (low : Low j) → Carries c j low → (i : ℕ) → Low i →
+    seen : {c j : ℕ} (low : Low j) → IsCarrier c j low → (i : ℕ) → Low i →
         let n = closing j low in
         (a : List Event) × Past (write (n .process) j (n .value) ∷ n .before) a × Past a (upTo m h) × (last a i ≡ c)
     seen {c} {j} low x i row =
@@ -93,11 +93,11 @@ module _
         ]
 
     -- So its last write was of c.
-    carries-own : {c j : ℕ} (low : Low j) → Carries c j low → closing j low .value ≡ c
+    carries-own : {c j : ℕ} (low : Low j) → IsCarrier c j low → closing j low .value ≡ c
     carries-own low x = let a = seen low x _ low in sym (newest-holds (closing _ low) (a .1) (a .2)) ∙ a .3
 
     -- And it is older than that of one that carries another value.
-    carries-older : {c d i j : ℕ} (low : Low i) (row : Low j) → Carries c i low → Carries d j row → (c ≡ d → ⊥) →
+    carries-older : {c d i j : ℕ} (low : Low i) (row : Low j) → IsCarrier c i low → IsCarrier d j row → (c ≡ d → ⊥) →
         Past (write (closing i low .process) i (closing i low .value) ∷ closing i low .before) (closing j row .before)
     carries-older {c} {d} {i} {j} low row x y differ =
         let n = closing j row in
@@ -113,7 +113,7 @@ module _
         ]
 
     -- Two of them do not carry two values.
-    pub carry-one : {c d i j : ℕ} (low : Low i) (row : Low j) → Carries c i low → Carries d j row → (c ≡ d → ⊥) → ⊥
+    pub carry-one : {c d i j : ℕ} (low : Low i) (row : Low j) → IsCarrier c i low → IsCarrier d j row → (c ≡ d → ⊥) → ⊥
     carry-one low row x y differ =
         let p = carries-older low row x y differ in
         let q = carries-older row low y x (λ e. differ (sym e)) in

@@ -7,7 +7,7 @@ use Rattle.theory_board.specs.Registers.{top-le}
 use Rattle.theory_count.specs.Pigeon.{holes}
 use Rattle.theory_count.specs.Apart.{same-write, grid-once}
 use Rattle.theory_count.specs.Rivals.{Rivals, walked, cell}
-use Rattle.theory_count.specs.Carriers.{carried-twice, Low, closing, closing-wrote, Carries, carry-one}
+use Rattle.theory_count.specs.Carriers.{carried-twice, Low, closing, closing-wrote, IsCarrier, carry-one}
 
 module _
     {W n R u v : ℕ} {h : List Event} (s k m : ℕ) (rivals : Rivals W n R u v h)
@@ -46,7 +46,7 @@ module _
           omega (arith, same .0)
 
       -- Where no last writer of epoch m carries c, each place of the grid has its write, which is of no carrier.
-      module _ (never : (j : ℕ) (row : Low s k m rivals split mid above j) → Carries s k m rivals split mid above c j row → ⊥) where
+      module _ (never : (j : ℕ) (row : Low s k m rivals split mid above j) → IsCarrier s k m rivals split mid above c j row → ⊥) where
         mark : (t : ℕ) → t < k * s → (p : ℕ) × (p < n) × Mark t p
         mark t inside =
             let row = mod-lt t some in

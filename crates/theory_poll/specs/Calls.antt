@@ -3,7 +3,7 @@ use Rattle.base.specs.Prelude.{ℕ, _≤_, arith, _≡_, refl, sym, _∙_, ap, 
 use Rattle.model_laws.specs.Types.{Session, Counts, Process, Propose, Crash}
 use Rattle.model.specs.Board.{processAt, idle}
 use Rattle.model.specs.Machine.{answered, perform}
-use Rattle.model.specs.Sound.{soundAtAs}
+use Rattle.model.specs.Sound.{soundForAs}
 use Rattle.model_laws.specs.Accepted.{returned, never-three}
 use Rattle.model_laws.specs.Answers.{stepped-code, operate-sound, propose-counts, crash-counts}
 use Rattle.model_rule.specs.Event.{Event, proposal, stepEvents, Past, here, there, Proposed}
@@ -13,8 +13,8 @@ use Rattle.model_poll.specs.declared.Answer.{Answer}
 use Rattle.model_poll.specs.declared.PollStepped.{PollStepped}
 use Rattle.model_poll.specs.Turn.{answerOf, Carries}
 use Rattle.model_poll.specs.Machine.{PollOperation, proposes, turns, crashes, turnTests, turned, unanswered, pollPerform}
-use Rattle.model_poll.specs.Public.{pollTurnAt}
-use Rattle.model_rule.specs.PollCalls.{polls, PollCall, pollPromisedAt, PollRunWith}
+use Rattle.model_poll.specs.Public.{pollTurnFor}
+use Rattle.model_rule.specs.PollCalls.{polls, PollCall, pollPromisedFor, PollRunWith}
 use Rattle.model_rule.specs.PollRule.{Gave}
 use Rattle.model_poll_laws.specs.Performs.{pollProcessOf, pollBecomes, perform-cases, others-stay, own-becomes, accepted-below, answered-stays, gives, turn-gives}
 use Rattle.theory_board.specs.Step.{step-older}
@@ -25,15 +25,15 @@ use Rattle.theory_poll.specs.Machine.{poll-operation-reached, poll-reach
 -- ---- the calls follow the machine
 
 -- What a call on a sound poll answers is what the machine answers.
-promised-performs : (W : ℕ) (s : Session) (c : Counts) (o : PollOperation) → soundAtAs true W s ≡ true → pollPromisedAt W s c o ≡ pollPerform W s c o
-unfolding pollPerform pollTurnAt turned
+promised-performs : (W : ℕ) (s : Session) (c : Counts) (o : PollOperation) → soundForAs true W s ≡ true → pollPromisedFor W s c o ≡ pollPerform W s c o
+unfolding pollPerform pollTurnFor turned
 promised-performs W s c (proposes p v) ok = ap unanswered (propose-counts true W s c p v ∙ operate-sound true W s c (Propose p v) ok)
 promised-performs W s c (turns p) ok = rw ok refl
 promised-performs W s c (crashes p) ok = ap unanswered (crash-counts true W s c p ∙ operate-sound true W s c (Crash p) ok)
 
 -- At the window of a poll that the machine reached.
 pub answered-as : (w : ℕ → ℕ) {n : ℕ} {s : Session} {h : List Event} → Reached true (w n) n (w n) s h → (c : Counts) (o : PollOperation) →
-    pollPromisedAt (w (s .n)) s c o ≡ pollPerform (w n) s c o
+    pollPromisedFor (w (s .n)) s c o ≡ pollPerform (w n) s c o
 answered-as w {n} {s} m c o =
     let same : w (s .n) ≡ w n = ap w (m .size) in
     promised-performs (w (s .n)) s c o (rw same (m .sound)) ∙ rw same

@@ -3,10 +3,10 @@ use Rattle.base.specs.Prelude.{ℕ, _+_, _≤_, arith, _≡_, refl, true, List,
 use Rattle.base.specs.Bools.{cond-cases}
 use Rattle.model_laws.specs.Types.{Phase, Idle, Waiting, Write, Scan, Adopt, Compare, Flag, CheckMark, CheckValue, Commit, Exhausted, Crashed, Decided, HasCommitted, HasAdopted, Access, Nothing, ReadValue, WriteValue, ReadMark, SetMark, ReadDecision, WriteDecision, Session, Counts, Step}
 use Rattle.model.specs.Board.{processAt}
-use Rattle.model.specs.Step.{access, next, nextAt, found, stored, process}
+use Rattle.model.specs.Step.{access, next, phaseNext, found, stored, process}
 use Rattle.model.specs.Refusal.{status, isGone}
 use Rattle.model.specs.Machine.{accessOf}
-use Rattle.model.specs.Sound.{soundAtAs}
+use Rattle.model.specs.Sound.{soundForAs}
 use Rattle.model_laws.specs.Phases.{PhaseSound, process-facts, inside-some}
 use Rattle.model_laws.specs.Ranges.{InRange}
 use Rattle.model_laws.specs.Operations.{operation-range}
@@ -16,7 +16,7 @@ use Rattle.model_poll.specs.Turn.{withoutDecision, pollAccess, ending, pollNext
 use Rattle.model_poll.specs.Machine.{turnAfter}
 use Rattle.model_poll_laws.specs.Answers.{TurnAccepted}
 use Rattle.model_poll_laws.specs.Sounds.{poll-blank, poll-process}
-use Rattle.theory_board.specs.Place.{Found, Placed, PlacedAt}
+use Rattle.theory_board.specs.Place.{Found, Placed, RecordPlaced}
 use Rattle.theory_board.specs.Step.{step-lawful, step-spares, step-older, step-placed}
 use Rattle.theory_board.specs.Matches.{Matches, Long, found-matches}
 use Rattle.theory_board.specs.Invariant.{Invariant, turn-invariant}
@@ -54,9 +54,9 @@ quiet-found s WriteDecision h ok k = tt
 
 -- Where a session's turn leads back to gate from the checks or from commit, the round was walked: its value was written.
 ends-placed : (W L p r v : ℕ) (φ : Phase) (x : ℕ) (h : List Event) → 1 ≤ W → PhaseSound W L r φ →
-    let q = nextAt W L r v φ true x in
-    PlacedAt W p q (stepEvents p r v φ ++ h) → PlacedAt W p (process (ending φ (q .phase)) (q .round) (q .estimate)) (stepEvents p r v φ ++ h)
-unfolding nextAt ending
+    let q = phaseNext W L r v φ true x in
+    RecordPlaced W p q (stepEvents p r v φ ++ h) → RecordPlaced W p (process (ending φ (q .phase)) (q .round) (q .estimate)) (stepEvents p r v φ ++ h)
+unfolding phaseNext ending
 ends-placed W L p r v Idle x h wide s a = a
 ends-placed W L p r v Waiting x h wide s a = a
 ends-placed W L p r v Write x h wide s a = a
@@ -87,7 +87,7 @@ ends-placed W L p r v HasAdopted x h wide s a = a
 
 -- ---- the turn
 
-pub turn-kept : {W : ℕ} {s : Session} {h : List Event} → Invariant W s h → 1 ≤ W → soundAtAs true W s ≡ true → (c : Counts) (p : ℕ) → TurnAccepted s c p →
+pub turn-kept : {W : ℕ} {s : Session} {h : List Event} → Invariant W s h → 1 ≤ W → soundForAs true W s ≡ true → (c : Counts) (p : ℕ) → TurnAccepted s c p →
     let q = processAt s p in Invariant W (turnAfter W s p) (stepEvents p (q .round) (q .estimate) (q .phase) ++ h)
 unfolding turnAfter pollAccess pollNext next accessOf access
 turn-kept {W} {s} {h} i wide sound c p a =

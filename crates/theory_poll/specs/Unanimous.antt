@@ -4,11 +4,11 @@ use Rattle.base.specs.Prelude.{ℕ, _+_, _-_, _≤_, arith, _≡_, refl, sym, _
 use Rattle.base.specs.Bools.{cond-cases}
 use Rattle.model_laws.specs.Types.{Phase, Idle, Waiting, Write, Scan, Adopt, Compare, Flag, CheckMark, CheckValue, Commit, Exhausted, Crashed, Decided, HasCommitted, HasAdopted, Process, Session, Counts}
 use Rattle.model.specs.Board.{processAt, markAt, valueAt, idle, opened, maxProcesses}
-use Rattle.model.specs.Step.{waitingRule, access, accessAt, goOn, next, nextAt, found, bit}
+use Rattle.model.specs.Step.{waitingRule, access, phaseAccess, goOn, next, phaseNext, found, bit}
 use Rattle.model_laws.specs.Phases.{PhaseSound, process-facts}
 use Rattle.model_rule.specs.Event.{Event, flag, stepEvents, Happened, Proposed, Written}
 use Rattle.model_rule.specs.Event.Past.{there, here}
-use Rattle.model_poll.specs.Turn.{withoutDecision, pollAccess, ending, pollNext, answerAt, answerOf, Carries}
+use Rattle.model_poll.specs.Turn.{withoutDecision, pollAccess, ending, pollNext, phaseAnswer, answerOf, Carries}
 use Rattle.theory_board.specs.Epoch.{last}
 use Rattle.theory_board.specs.Past.{past-before, past-none, happened-past, happened-older}
 use Rattle.theory_board.specs.Registers.{wrote-round, last-written}
@@ -80,13 +80,13 @@ module _ {W : ℕ} {s : Session} {h : List Event} (i : Invariant W s h) (v : ℕ
 
   -- A turn of a calm process leaves it calm.
   pub calm-next : NoFlag h → 1 ≤ W → (L p r e : ℕ) (φ : Phase) → PhaseSound W L r φ → Proposed e h → Placed W p r e φ h → Calm φ →
-      let q = nextAt W L r e φ true (found s (withoutDecision (accessAt L r φ true))) in Calm (ending φ (q .phase))
-  unfolding nextAt accessAt ending withoutDecision found waitingRule
+      let q = phaseNext W L r e φ true (found s (withoutDecision (phaseAccess L r φ true))) in Calm (ending φ (q .phase))
+  unfolding phaseNext phaseAccess ending withoutDecision found waitingRule
   calm-next none wide L p r e Idle k b a c = tt
   calm-next none wide L p r e Waiting k b a c =
       cond-cases (λ (q : Process). Calm (q .phase)) (ltb r L)
       (λ t.
-      cond-cases Calm (eqb (found s (withoutDecision (accessAt L r Waiting true))) 0)
+      cond-cases Calm (eqb (found s (withoutDecision (phaseAccess L r Waiting true))) 0)
       (λ u. tt)
       (λ u. cond-cases Calm (ltb (r + 1) L) (λ z. tt) (λ z. tt)))
       (λ t. tt)
@@ -180,7 +180,7 @@ unfolding opened
 opened-calm W n =
     record { calm = λ p. rw (same-everywhere maxProcesses p idle) tt; none = λ j f. past-none (f .past) }
 
-committed-is : (φ : Phase) (e v : ℕ) → φ ≡ HasCommitted → e ≡ v → answerAt φ e ≡ Commits v
+committed-is : (φ : Phase) (e v : ℕ) → φ ≡ HasCommitted → e ≡ v → phaseAnswer φ e ≡ Commits v
 committed-is φ e v a b = rw (a, b) refl
 
 -- An answer of a calm process is committed, and carries v.

@@ -5,7 +5,7 @@ use Rattle.model_laws.specs.Types.{Process, Session, Counts, Operation, Propose
 use Rattle.model.specs.Board.{processAt}
 use Rattle.model.specs.Bytes.{byteAt, word32}
 use Rattle.model.specs.Machine.{perform, processOf}
-use Rattle.model.specs.Sheet.{Run, runs, entryOf, entriesAt, entriesOf, entries}
+use Rattle.model.specs.Sheet.{EntryRun, runs, entryOf, entriesAt, entriesOf, entries}
 use Rattle.model.specs.Sound.{every}
 use Rattle.model_laws.specs.Every.{every-get}
 use Rattle.model_laws.specs.ByteLaws.{AreBytes, word32-low}
@@ -86,7 +86,7 @@ module _ (t : List ℕ) (bytes : AreBytes t) where
   low-run i (suc k) es low =
       and-both (low-entry (byteAt t i) (byteAt t (i + 1)) (word32 t (i + 2)) (word32-low t (i + 2) bytes)) (low-run (i + 6) k es low)
 
-  low-runs : (rs : List Run) → every isLowEntry (entriesOf t rs) ≡ true
+  low-runs : (rs : List EntryRun) → every isLowEntry (entriesOf t rs) ≡ true
   low-runs [] = refl
   low-runs (r ∷ rs) = low-run (r .offset) (r .size / 6) (entriesOf t rs) (low-runs rs)
 

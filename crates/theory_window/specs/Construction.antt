@@ -89,8 +89,8 @@ abbrev freed : List Ready → List Free → List Free
 freed [] fs = fs
 freed (r ∷ rs) fs = freed rs (record { process = r .process; round = r .register; pass = r .pass } ∷ fs)
 
-unfoldable pub written : (t : ℕ) → Standing → Standing
-written t s =
+unfoldable pub withWrite : (t : ℕ) → Standing → Standing
+withWrite t s =
     let rs = due t (s .ready) in
     record {
       operations = s .operations ++ writes rs ++ compares rs;
@@ -135,7 +135,7 @@ allGoOn i t [] s = s
 allGoOn i t (later ∷ rest) s = allGoOn i t rest (goesOn i t later [] (s .free) s)
 
 unfoldable pub onePass : (W i t : ℕ) → Standing → Standing
-onePass W i t s = allGoOn i t (passesFor W (i + 1) t) (written t s)
+onePass W i t s = allGoOn i t (passesFor W (i + 1) t) (withWrite t s)
 
 unfoldable pub epochs : (W : ℕ) → List ℕ → Standing → Standing
 epochs W [] s = s

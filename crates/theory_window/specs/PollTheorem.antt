@@ -12,7 +12,7 @@ use Rattle.model_rule.specs.Safe.{threshold, PollSafeWithin, ExactPollWindows}
 use Rattle.model_poll.specs.declared.Answer.{Answer}
 use Rattle.model_poll.specs.declared.Answer.the-variants.{Pending, Commits, Adopts}
 use Rattle.model_poll.specs.Turn.{answerOf, Carries}
-use Rattle.model_poll.specs.Machine.{PollOperation, pollOpeningAt}
+use Rattle.model_poll.specs.Machine.{PollOperation, pollOpeningFor}
 use Rattle.model_rule.specs.System.{machine}
 use Rattle.model_rule.specs.PollCalls.{polls, PollRunWith}
 use Rattle.model_rule.specs.PollRule.{PollRule, PollClaimWithin}
@@ -27,12 +27,12 @@ use Rattle.theory_window.specs.PollMore.{within, polls-more}
 
 -- Two records that show a committed value and another value, after operations from an accepted opening, within any limits.
 breaks-poll-rule : (most : Limits) (w : ℕ → ℕ) (n : ℕ) (os : List PollOperation) (p q u v : ℕ) →
-    let start = pollOpeningAt most (w n) n in
+    let start = pollOpeningFor most (w n) n in
     let s = played (polls (w n)) (start .session) [] os .0 in
     start .code ≡ 0 → answerOf (processAt s p) ≡ Commits v → Carries (answerOf (processAt s q)) u → (u ≡ v → ⊥) → PollClaimWithin most w n → ⊥
 breaks-poll-rule most w n os p q u v ok commits carries differ claim =
     let M = polls (w n) in
-    let start = pollOpeningAt most (w n) n .session in
+    let start = pollOpeningFor most (w n) n .session in
     let c : Called (PollRunWith w start) (fedBy os []) = called (fedBy os []) in
     let holds = claim ok (c .calls) (c .left) (c .run) in
     let rule = at-the-end M (λ s cs. PollRule (w n) start cs s) (c .run) (holds .2) in
@@ -56,8 +56,8 @@ adopted-carries v (Commits u) t = absurd (true≢false (sym t))
 adopted-carries v (Adopts u) t = eqb-true u v t
 
 -- What is opened with n processes and a window that fits.
-opens : (W n : ℕ) → 1 ≤ n → n ≤ maxProcesses → W ≤ maxRounds → (pollOpeningAt (limitsOf Server) W n .code ≡ 0) × (pollOpeningAt (limitsOf Server) W n .session ≡ opened n W)
-unfolding pollOpeningAt
+opens : (W n : ℕ) → 1 ≤ n → n ≤ maxProcesses → W ≤ maxRounds → (pollOpeningFor (limitsOf Server) W n .code ≡ 0) × (pollOpeningFor (limitsOf Server) W n .session ≡ opened n W)
+unfolding pollOpeningFor
 opens W n some few low = opening-accepts (limitsOf Server) W n W some few (omega arith) low
 
 -- The list of a window from 2 to 15 breaks it, with as many processes as its threshold and with more.
@@ -70,13 +70,13 @@ broken-unsafe W n t enough few =
     let other = withTwo W (atLast W) in
     let a = answerOf (processAt (left W) one) in
     let b = answerOf (processAt (left W) other) in
-    let accepted = eqb (pollOpeningAt (limitsOf Server) W e .code) 0 in
+    let accepted = eqb (pollOpeningFor (limitsOf Server) W e .code) 0 in
     let start = and-left (accepted && every (within e) os) (answersDiffer (left W) one other) t in
     let differ = and-right (accepted && every (within e) os) (answersDiffer (left W) one other) t in
-    let small = poll-opened (limitsOf Server) (caller-limits Server) W e (eqb-true (pollOpeningAt (limitsOf Server) W e .code) 0 (and-left accepted (every (within e) os) start)) in
+    let small = poll-opened (limitsOf Server) (caller-limits Server) W e (eqb-true (pollOpeningFor (limitsOf Server) W e .code) 0 (and-left accepted (every (within e) os) start)) in
     let large = opens W n (omega (arith, small .0)) few (small .2) in
     let leftFrom : Session → Session = λ s. played (polls W) s [] os .0 in
-    let same : sized n (left W) ≡ leftFrom (pollOpeningAt (limitsOf Server) W n .session) =
+    let same : sized n (left W) ≡ leftFrom (pollOpeningFor (limitsOf Server) W n .session) =
     ap (λ s. sized n (leftFrom s)) (small .3)
     ∙ sym (ap (λ x. x .0) (polls-more W n e (opened e W) [] os refl enough (and-right accepted (every (within e) os) start)))
     ∙ ap leftFrom (sym (large .1)) in

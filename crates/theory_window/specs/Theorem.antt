@@ -5,7 +5,7 @@ use Rattle.model.specs.declared.Caller.the-variants.{Server}
 use Rattle.model.specs.declared.Session.{Session}
 use Rattle.model.specs.Window.{window, rootUp, rootFrom}
 use Rattle.model.specs.Board.{limitsOf, opened, maxProcesses}
-use Rattle.model.specs.Machine.{openingAt}
+use Rattle.model.specs.Machine.{openingFor}
 use Rattle.model.specs.Sound.{every}
 use Rattle.model.specs.ReadOut.{holds}
 use Rattle.model_laws.specs.Operations.{opening-accepts, opening-accepted}
@@ -31,7 +31,7 @@ row-unsafe r t n more few safe =
     let o = opening-accepted (limitsOf Server) W (r .n) L (b .opens) in
     let large = opening-accepts (limitsOf Server) W n L (omega (arith, o .0)) few (o .2) (o .3) in
     let pastFrom : Session → List Event = λ s. played (sessions W) s [] (r .operations) .1 in
-    let same : pastOf r ≡ pastFrom (openingAt (limitsOf Server) W n L .session) =
+    let same : pastOf r ≡ pastFrom (openingFor (limitsOf Server) W n L .session) =
     ap pastFrom (o .4)
     ∙ sym (ap (λ x. x .1) (sessions-more W n (r .n) (opened (r .n) L) [] (r .operations) refl more (b .inside)))
     ∙ ap pastFrom (sym (large .1)) in

@@ -17,7 +17,7 @@ use Rattle.model.specs.declared.CountAnswer.{CountAnswer}
 use Rattle.model.specs.Board.{limitsOf}
 use Rattle.model.specs.Bytes.{byteAt, word16}
 use Rattle.model.specs.Sheet.{sheetRefusal}
-use Rattle.model_write.specs.Write.{wrote, written}
+use Rattle.model_write.specs.Write.{wrote, writeResult}
 use Rattle.sheet_layout.specs.declared.Span.{Span}
 use Rattle.sheet_layout.specs.Runs.{IsRun}
 use Rattle.sheet_laws.specs.declared.Handed.{Handed}
@@ -34,7 +34,7 @@ use Rattle.part_bytes.proofs.word16 as word
 -- ---- what is promised of a call: its answer, and of the writer what the output holds after it
 
 abbrev pub Writes : Caller → (n L : ℕ) (es ms out : List ℕ) → CountAnswer → (after : List ℕ) → Type 0
-Writes caller n L es ms out answer after = wrote answer after ≡ written (limitsOf caller) n L es ms out
+Writes caller n L es ms out answer after = wrote answer after ≡ writeResult (limitsOf caller) n L es ms out
 
 abbrev pub Refuses : Caller → (sheet : List ℕ) (code : ℕ) → Type 0
 Refuses caller sheet code = code ≡ sheetRefusal (limitsOf caller) sheet

@@ -3,7 +3,7 @@ use lib.Seq.{take-add}
 use Rattle.base.specs.Prelude.{ℕ, _+_, _*_, _/_, _%_, _≤_, arith, _≡_, refl, sym, ap, ap₂, true, List, [], _∷_, take, drop, drop-drop}
 use Rattle.base.specs.Prelude.{le-leb, eqb-true, eq-eqb}
 use Rattle.base.specs.Bools.{and-left, and-right, and-both}
-use Rattle.model.specs.Sheet.{Run, inOrder, wholeEntries, entriesAt, entriesOf}
+use Rattle.model.specs.Sheet.{EntryRun, inOrder, wholeEntries, entriesAt, entriesOf}
 use Rattle.model.specs.Sound.{every}
 use Rattle.model_laws.specs.SheetLaws.{entriesAt-add}
 use Rattle.model_write.specs.Write.{laidOut, total}
@@ -12,19 +12,19 @@ use Rattle.model_write.specs.RoundTrip.{lengths, runBytes, follow}
 -- ---- runs that follow one another
 
 -- The first starts at the byte given, and the others follow it.
-pub follow-cons : (from size : ℕ) (x : Run) (xs : List Run) → follow from size (x ∷ xs) ≡ true
+pub follow-cons : (from size : ℕ) (x : EntryRun) (xs : List EntryRun) → follow from size (x ∷ xs) ≡ true
     → (x .offset ≡ from) × (follow (x .offset + x .size) size xs ≡ true)
 follow-cons from size x xs h = search (and-left, and-right, eqb-true)
 
 -- They start no later than they end.
-pub follow-le : (from size : ℕ) (xs : List Run) → follow from size xs ≡ true → from ≤ size
+pub follow-le : (from size : ℕ) (xs : List EntryRun) → follow from size xs ≡ true → from ≤ size
 follow-le from size [] h = omega (arith, eqb-true from size h)
 follow-le from size (x ∷ xs) h =
     let f = follow-cons from size x xs h in
     omega (arith, follow-le (x .offset + x .size) size xs (f .1))
 
 -- They are in order.
-pub follow-inOrder : (from size : ℕ) (xs : List Run) → follow from size xs ≡ true → inOrder from size xs ≡ true
+pub follow-inOrder : (from size : ℕ) (xs : List EntryRun) → follow from size xs ≡ true → inOrder from size xs ≡ true
 follow-inOrder from size [] h = refl
 follow-inOrder from size (x ∷ xs) h =
     let f = follow-cons from size x xs h in
@@ -36,14 +36,14 @@ follow-inOrder from size (x ∷ xs) h =
 -- ---- runs of whole entries that follow one another
 
 -- The first has six bytes to an entry, and the others are whole.
-whole-cons : (x : Run) (xs : List Run) → every wholeEntries (x ∷ xs) ≡ true
+whole-cons : (x : EntryRun) (xs : List EntryRun) → every wholeEntries (x ∷ xs) ≡ true
     → (6 * (x .size / 6) ≡ x .size) × (every wholeEntries xs ≡ true)
 whole-cons x xs w =
     let six : x .size % 6 ≡ 0 = search (and-left, eqb-true) in
     (omega arith, search and-right)
 
 -- They are laid out by their lengths.
-pub laidOut-lengths : (from size : ℕ) (xs : List Run) → follow from size xs ≡ true → every wholeEntries xs ≡ true
+pub laidOut-lengths : (from size : ℕ) (xs : List EntryRun) → follow from size xs ≡ true → every wholeEntries xs ≡ true
     → laidOut from (lengths xs) ≡ xs
 laidOut-lengths from size [] h w = refl
 laidOut-lengths from size (x ∷ xs) h w =
@@ -52,7 +52,7 @@ laidOut-lengths from size (x ∷ xs) h w =
     rw (v .0, ← f .0) (ap (λ r. x ∷ r) (laidOut-lengths (x .offset + x .size) size xs (f .1) (v .1)))
 
 -- Their lengths add up to the bytes between their start and their end.
-pub total-lengths : (from size : ℕ) (xs : List Run) → follow from size xs ≡ true → every wholeEntries xs ≡ true
+pub total-lengths : (from size : ℕ) (xs : List EntryRun) → follow from size xs ≡ true → every wholeEntries xs ≡ true
     → from + 6 * total (lengths xs) ≡ size
 total-lengths from size [] h w = omega (arith, eqb-true from size h)
 total-lengths from size (x ∷ xs) h w =

@@ -11,7 +11,7 @@ use Rattle.model.specs.Bytes.{byteAt}
 use Rattle.model.specs.ReadOut.{countAnswer}
 use Rattle.model.specs.Sheet.{runAt, runsFrom, runCount, processCount, roundLimit, entries}
 use Rattle.model_laws.specs.Callers.{caller-limits}
-use Rattle.model_write.specs.Write.{Written, bufferEntries, wellFormed, wrote, written}
+use Rattle.model_write.specs.Write.{WriteResult, bufferEntries, wellFormed, wrote, writeResult}
 use Rattle.model_write.specs.RoundTrip.{lengths, lengthsOf, entryBytes, gapless, ReadsAs}
 use Rattle.sheet_layout.specs.declared.Span.{Span}
 use Rattle.sheet_laws.specs.declared.Handed.{Handed}
@@ -117,9 +117,9 @@ pub write-finds : (caller : Caller) (n L : ℕ) (es ms out : List ℕ) (answer :
     → Finds caller n L es ms (take (answer .count) after)
 write-finds caller n L es ms out answer after e ok =
     let low : limitsOf caller .rounds < 65536 = omega (arith, caller-limits caller .rounds) in
-    let code = sym (ap (λ (w : Written). w .answer .code) e) ∙ ok in
+    let code = sym (ap (λ (w : WriteResult). w .answer .code) e) ∙ ok in
     reads-finds caller n L es ms _
-    (rw (ap (λ (w : Written). w .answer .count) e, ap (λ (w : Written). w .buffer) e)
+    (rw (ap (λ (w : WriteResult). w .answer .count) e, ap (λ (w : WriteResult). w .buffer) e)
     (written-reads (limitsOf caller) n L es ms out low code))
 
 -- ---- read, then written

@@ -2,14 +2,14 @@
 use Rattle.base.specs.Prelude.{ℕ, suc, zero, _+_, _*_, _≤_, _<_, arith, zero-add, add-zero, _≡_, refl, ap, true, List, [], _∷_, _++_}
 use Rattle.base.specs.Prelude.{length, drop, drop-cons}
 use Rattle.model.specs.Bytes.{bytes16}
-use Rattle.model.specs.Sheet.{Run, processCount, runCount, roundLimit, runsFrom, runs, headerEnd}
+use Rattle.model.specs.Sheet.{EntryRun, processCount, runCount, roundLimit, runsFrom, runs, headerEnd}
 use Rattle.model_laws.specs.ByteLaws.{AreBytes, word16-at, drop-bytes16, drop-word16}
 use Rattle.model_write.specs.Write.{pairBytes}
 use Rattle.model_write.specs.RoundTrip.{follow}
 use Rattle.theory_write.specs.Follow.{follow-cons, follow-le}
 
 -- Where the pairs of runs stand that follow one another and end within 16 bits, these runs are read.
-pub runsFrom-pairBytes : (s rest : List ℕ) (xs : List Run) (i from size : ℕ) → size < 65536 → follow from size xs ≡ true
+pub runsFrom-pairBytes : (s rest : List ℕ) (xs : List EntryRun) (i from size : ℕ) → size < 65536 → follow from size xs ≡ true
     → drop (4 + 4 * i) s ≡ pairBytes xs ++ rest → runsFrom s i (length xs) ≡ xs
 runsFrom-pairBytes s rest [] i from size low f e = refl
 runsFrom-pairBytes s rest (x ∷ xs) i from size low f e =

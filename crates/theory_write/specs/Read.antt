@@ -5,7 +5,7 @@ use Rattle.model.specs.Sheet.{processCount, runCount, roundLimit, runs, headerE
 use Rattle.model.specs.Sound.{every}
 use Rattle.model_laws.specs.ByteLaws.{AreBytes}
 use Rattle.model_laws.specs.SheetLaws.{length-runsFrom}
-use Rattle.model_write.specs.Write.{laidOut, sheetOf, total, written}
+use Rattle.model_write.specs.Write.{laidOut, sheetOf, total, writeResult}
 use Rattle.model_write.specs.RoundTrip.{lengthsOf, runBytes, entryBytes, gapless, ReadWrites}
 use Rattle.theory_write.specs.Follow.{laidOut-lengths, total-lengths, runBytes-laidOut}
 use Rattle.theory_write.specs.Pairs.{sheet-parts}
@@ -46,7 +46,7 @@ module _ (s : List ℕ) (whole : every wholeEntries (runs s) ≡ true) (gap : ga
 
 -- So the call that is given what was read is accepted, and writes the sheet.
 pub read-writes : ReadWrites
-unfolding written
+unfolding writeResult
 read-writes most s out bytes ok formed gap room =
     let a = sheet-facts most s ok in
     let n = processCount s in

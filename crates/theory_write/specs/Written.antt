@@ -5,7 +5,7 @@ use Rattle.model_laws.specs.Types.{Limits}
 use Rattle.model.specs.ReadOut.{countAnswer}
 use Rattle.model.specs.Sheet.{runCount, roundLimit, runs, headerEnd, hasHeader, sheetRefusal}
 use Rattle.model.specs.Runner.{runWithin}
-use Rattle.model_write.specs.Write.{sheetOf, writeRefusal, written}
+use Rattle.model_write.specs.Write.{sheetOf, writeRefusal, writeResult}
 use Rattle.model_write.specs.RoundTrip.{gapless, ReadsAs, WrittenReads}
 use Rattle.theory_write.specs.Follow.{follow-inOrder}
 use Rattle.model_write_laws.specs.Sizes.{length-sheetOf}
@@ -58,7 +58,7 @@ countAnswer-code (suc k) c = refl
 
 -- The sheet that an accepted call wrote stands first in the output, and so it reads.
 pub written-reads : WrittenReads
-unfolding written
+unfolding writeResult
 written-reads most n L es ms out rounds ok =
     let code : writeRefusal most n L es ms (length out) ≡ 0 = sym (countAnswer-code _ _) ∙ ok in
     rw (code, take-append-seam) (sheet-reads most n L es ms (length out) rounds (write-facts most n L es ms (length out) code))

@@ -7,9 +7,9 @@ use Rattle.use_input.specs.declared.Input.{Input}
 use Rattle.use_input.specs.declared.Input.the-variants.{Bytes, Failed}
 
 -- The bytes that were read are the first of the buffer. (That they are those of the input no contract can say.)
-abbrev pub Held : Input → List ℕ → Type 0
-Held (Bytes n) buffer = Counts n buffer
-Held Failed buffer = Unit
+abbrev pub InputHeld : Input → List ℕ → Type 0
+InputHeld (Bytes n) buffer = Counts n buffer
+InputHeld Failed buffer = Unit
 
-pub held-bytes : (r : Input) (n : ℕ) (buffer : List ℕ) → r ≡ Bytes n → Held r buffer → Counts n buffer
-held-bytes r n buffer = subst (λ r. Held r buffer)
+pub held-bytes : (r : Input) (n : ℕ) (buffer : List ℕ) → r ≡ Bytes n → InputHeld r buffer → Counts n buffer
+held-bytes r n buffer = subst (λ r. InputHeld r buffer)

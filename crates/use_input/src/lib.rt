@@ -5,7 +5,7 @@
 // on with such a read, or ends the program. To tell EINTR from other failures a program needs errno, hence C code of the kit's `os`, and more
 // assumptions than those on `read` and `write`.
 ghost use mathlib.Core.Path.{_≡_};
-ghost use Rattle.use_input.specs.Input.{Held};
+ghost use Rattle.use_input.specs.Input.{InputHeld};
 
 // The bytes that were read, from the buffer's start on, or that a read failed.
 pub enum Input {
@@ -23,7 +23,7 @@ fn failed(program: &[u8]) -> Input
 
 // Where a read fails, one line on standard error says so, with the program's name.
 pub fn read(program: &[u8], buf: &mut [u8]) -> Input
-    ensures { λ r. ⌜ Held r (now (buf .exit)) ⌝ }
+    ensures { λ r. ⌜ InputHeld r (now (buf .exit)) ⌝ }
 {
     let mut done: usize = 0;
     while done < buf.len() {

@@ -2,14 +2,14 @@
 use Rattle.base.specs.Prelude.{_≡_, refl, ap, needs}
 use Rattle.model.specs.declared.Phase.{Phase}
 use Rattle.model.specs.declared.Access.{Access}
-use Rattle.model.specs.Step.{access, accessAt}
+use Rattle.model.specs.Step.{access, phaseAccess}
 use Rattle.model.specs.declared.Access.the-variants.{ReadValue, ReadMark, SetMark}
 use Rattle.part_access.proofs.access.Statement.{statement}
 use Rattle.part_access.proofs.access.Tie as tie
 
 -- In the order of the code: of each arm what it is told of the phase and what its callee asks, then the answers.
 pub access-spec : {M : Type 1} → statement M
-unfolding access accessAt
+unfolding access phaseAccess
 access-spec =
     tie.close
     (tie.spec
@@ -29,7 +29,7 @@ access-spec =
         (s : tie.Start) {φ : Phase} {x : Access} →
         let a = s .args in
         a .q .phase ≡ φ →
-        x ≡ accessAt (a .limit) (a .q .round) φ (a .leader) →
+        x ≡ phaseAccess (a .limit) (a .q .round) φ (a .leader) →
         x ≡ access (a .limit) (a .q) (a .leader)
     answer s told e = rw told e
 

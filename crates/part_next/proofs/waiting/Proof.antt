@@ -1,18 +1,18 @@
 -- `part_next::waiting` meets its contract, at every window. Assumes nothing.
 use Rattle.base.specs.Prelude.{_<_, _≡_, sym, _∙_, ⊎-elim, true, true≢false, ltb, add-assoc, needs, ltb-true, eq-eqb, ne-eqb}
-use Rattle.model.specs.Step.{waitingRule, nextAt}
+use Rattle.model.specs.Step.{waitingRule, phaseNext}
 use Rattle.part_next.proofs.waiting.Statement.{statement}
 use Rattle.part_next.proofs.waiting.Tie as tie
 
 -- The register is read: blank, and then filled.
 blank : tie.Need-returns
-unfolding nextAt waitingRule
+unfolding phaseNext waitingRule
 blank c W =
     let inside = c .before .before in
     rw (inside .before .if1 .taken, inside .if2 .taken, eq-eqb _ _ (c .before .if3 .taken)) (c .process .ensures)
 
 filled : tie.Need-returns-2
-unfolding nextAt waitingRule
+unfolding phaseNext waitingRule
 filled c W =
     let inside = c .before .before .before in
     rw (inside .before .if1 .taken, inside .if2 .taken, ne-eqb _ _ (c .before .before .if3 .left))
@@ -20,14 +20,14 @@ filled c W =
 
 -- It is not: with hint no, and since no round is left.
 stays : tie.Need-returns-3
-unfolding nextAt waitingRule
+unfolding phaseNext waitingRule
 stays c W =
     let a = c .before .before .before .args in
     let t : ltb (a .round) (a .limit) ≡ true = c .before .if4 .taken in
     ⊎-elim (λ w. rw (t, w .1 .left) (c .process3 .ensures)) (λ w. absurd (true≢false (sym t ∙ w .left))) (c .before .before .if1 .came)
 
 spent : tie.Need-returns-4
-unfolding nextAt waitingRule
+unfolding phaseNext waitingRule
 spent c W = rw (c .before .if4 .left) (c .process4 .ensures)
 
 -- Where a register is read, a round is left, so that the sum fits: one of the two tests says so.

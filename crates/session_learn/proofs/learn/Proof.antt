@@ -20,7 +20,7 @@ code c =
 
 -- Accepted, and refused.
 returns : tie.Need-returns
-unfolding Public.learnAt accessOf countsAfter counted
+unfolding Public.learnFor accessOf countsAfter counted
 returns c =
     let first = c .before .before .before in
     let none = c .before .before .if1 .taken in
@@ -28,7 +28,7 @@ returns c =
     operate-accepted false _ _ o (code first) none (learnt-is _ _ _ (index-of false _ _ o (code first) none) (c .before .learnt .ensures)) (c .counted .ensures)
 
 returns-2 : tie.Need-returns-2
-unfolding Public.learnAt
+unfolding Public.learnFor
 returns-2 c = operate-refused false _ _ (operation (c .before .before .before .before .before)) (code (c .before)) (c .if1 .left)
 
 -- The answers in the order of the code: the record's address and index, the tests, the new record, its address and index, the counts.

@@ -4,19 +4,19 @@ use Rattle.model.specs.declared.Caller.{Caller}
 use Rattle.model.specs.declared.Session.{Session}
 use Rattle.model.specs.Board.{limitsOf, opened}
 use Rattle.model.specs.Refusal.{refusal, openTests}
-use Rattle.model.specs.Machine.{openingAt, opening}
+use Rattle.model.specs.Machine.{openingFor, opening}
 use Rattle.session_open.proofs.open.Statement.{statement}
 use Rattle.session_open.proofs.open.Tie as tie
 
 -- The answer, where the number is not 0 and where it is.
 module _ (caller : Caller) (n L : ℕ) {t : Session} where
   refused : (k : ℕ) → k ≡ refusal (openTests (limitsOf caller) n L) → (k ≡ 0 → ⊥) → t ≡ opened 0 0 → record { code = k; session = t } ≡ opening caller n L
-  unfolding openingAt
+  unfolding openingFor
   refused zero e some same = absurd (some refl)
   refused (suc k) e some same = rw (← e, same)
 
   accepted : {k : ℕ} → k ≡ refusal (openTests (limitsOf caller) n L) → k ≡ 0 → t ≡ opened n L → record { code = k; session = t } ≡ opening caller n L
-  unfolding openingAt
+  unfolding openingFor
   accepted e none same = rw (← e, none, same)
 
 returns : tie.Need-returns

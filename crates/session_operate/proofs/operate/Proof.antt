@@ -11,11 +11,11 @@ returns c =
     c .uncounted .ensures ∙ rw (c .before .propose .ensures, told) (propose-counts false _ _ _ _ _)
 
 returns-2 : tie.Need-returns-2
-unfolding Public.stepAt
+unfolding Public.stepFor
 returns-2 c = rw (c .before .before .o2 .given .1) (c .step .ensures)
 
 returns-3 : tie.Need-returns-3
-unfolding Public.learnAt
+unfolding Public.learnFor
 returns-3 c = rw (c .before .before .o3 .given .1) (c .learn .ensures)
 
 returns-4 : tie.Need-returns-4

@@ -17,7 +17,7 @@ code c = code-is _ _ noCounts (operation (c .before .before .before .before)) (c
 
 -- Accepted, and refused.
 returns : tie.Need-returns
-unfolding Public.proposeAtAs
+unfolding Public.proposeForAs
 returns c =
     let none = c .before .if1 .taken in
     let o = operation (c .before .before .before .before .before .before) in
@@ -25,7 +25,7 @@ returns c =
     (proposed-is _ _ _ _ (index-of _ _ noCounts o (code (c .before .before)) none) (c .proposed .ensures))
 
 returns-2 : tie.Need-returns-2
-unfolding Public.proposeAtAs
+unfolding Public.proposeForAs
 returns-2 c = uncounted-refused _ _ (operation (c .before .before .before .before .before)) (code (c .before)) (c .if1 .left)
 
 -- In the order of the code: the record's address and index, the tests, the new record, its address and index, the answers.

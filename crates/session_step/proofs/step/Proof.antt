@@ -37,7 +37,7 @@ cast-window c =
 
 -- Accepted, and refused.
 returns : tie.Need-returns
-unfolding Public.stepAt accessOf soundAs
+unfolding Public.stepFor accessOf soundAs
 returns c =
     let written = c .before .before .before in
     let marked = written .before in
@@ -68,7 +68,7 @@ returns c =
     (counted-is (args .t1) (args .p) (args .leader) ranged i (accessed .access .ensures) (valued .value .ensures .0) (marked .mark .ensures .0) (args .c)))
 
 returns-2 : tie.Need-returns-2
-unfolding Public.stepAt
+unfolding Public.stepFor
 returns-2 c = operate-refused false _ _ (operation (c .before .before .before .before .before)) (code (c .before)) (c .if1 .left)
 
 -- The answers in the order of the code: the record's address and index, the tests, the turn's calls with the cast of n among them,

@@ -5,7 +5,7 @@ use Rattle.model.specs.declared.Session.{Session}
 use Rattle.model.specs.Sound.{sound}
 use Rattle.model.specs.ReadOut.{standingValues}
 use Rattle.model_laws.specs.Sounds.{sound-low}
-use Rattle.session_values.proofs.Standing.{unsound, short, written}
+use Rattle.session_values.proofs.Standing.{unsound, short, list-written}
 use Rattle.session_values.proofs.standing_values.Statement.{statement}
 use Rattle.session_values.proofs.standing_values.Tie as tie
 
@@ -50,7 +50,7 @@ returns-3 c =
     let at-copy = c .before .before in
     let at-test = at-copy .before .before .before .before .before in
     let at-list = at-test .before in
-    written _ _ _ (is-sound (past-test at-list)) (size at-list) (at-test .if2 .left) _
+    list-written _ _ _ (is-sound (past-test at-list)) (size at-list) (at-test .if2 .left) _
     (rw (← first at-list) (at-copy .copy .ensures))
 
 pub standing-values-spec : {M : Type 1} → statement M

@@ -5,7 +5,7 @@ use lib.Seq.{length-sets}
 use Rattle.base.specs.Bools.{and-right}
 use Rattle.model.specs.Board.{limitsOf}
 use Rattle.model_laws.specs.Callers.{caller-limits}
-use Rattle.model_write.specs.Write.{wrote, written}
+use Rattle.model_write.specs.Write.{wrote, writeResult}
 use Rattle.model_write_laws.specs.Sizes.{length-sheetOf}
 use Rattle.model_write_laws.specs.Facts.{WriteFacts, write-facts}
 use Rattle.model_write_laws.specs.Stored.{sheet-stored, written-refused, written-accepted}
@@ -79,7 +79,7 @@ returns-2 c =
     let es = now (a .entries) in
     let ms = now (a .lengths) in
     let accepted : wrote (record { code = 0; count = 4 + 4 * length ms + length es }) (entries .put-entries .last .1 .1 .0)
-    ≡ written (limitsOf (a .caller)) (a .n) (a .limit) es ms (now (a .sheet)) =
+    ≡ writeResult (limitsOf (a .caller)) (a .n) (a .limit) es ms (now (a .sheet)) =
     written-accepted (limitsOf (a .caller)) (a .n) (a .limit) es ms (now (a .sheet)) (sym (e .before .write-refusal .ensures) ∙ e .if1 .left)
     (sym (length-sheetOf (a .n) (a .limit) es ms))
     (entries .put-entries .ensures ∙ rw (pairs .put-pairs .ensures, header .put16 .ensures) (sheet-stored (a .n) (a .limit) es ms (now (a .sheet)) (facts e .fits)))

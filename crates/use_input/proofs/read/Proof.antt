@@ -2,7 +2,7 @@
 -- measure is what is left of it, since a read that gives nothing ends the loop. Assumes nothing.
 use Rattle.base.specs.Prelude.{ℕ, List, _-_, _≤_, _≡_, sym, subst, needs, length, length-take-le}
 use Rattle.io.specs.Counts.{Counts}
-use Rattle.use_input.specs.Input.{Held}
+use Rattle.use_input.specs.Input.{InputHeld}
 use Rattle.use_input.specs.declared.Input.{Input}
 use Rattle.use_input.specs.declared.Input.the-variants.{Failed}
 use Rattle.use_input.proofs.read.Statement.{statement}
@@ -11,8 +11,8 @@ use Rattle.use_input.proofs.read.Tie as tie
 counts-within : (n : ℕ) (buffer : List ℕ) → n ≤ length buffer → Counts n buffer
 counts-within n buffer h = (h, sym (length-take-le n buffer h))
 
-held-failed : (r : Input) (buffer : List ℕ) → r ≡ Failed → Held r buffer
-held-failed r buffer h = subst (λ r. Held r buffer) (sym h) tt
+held-failed : (r : Input) (buffer : List ℕ) → r ≡ Failed → InputHeld r buffer
+held-failed r buffer h = subst (λ r. InputHeld r buffer) (sym h) tt
 
 abbrev Inv-loop : tie.InvT-loop
 Inv-loop program buf₀ done₀ buf done = (done ≤ length buf) × (length buf ≡ length buf₀)
