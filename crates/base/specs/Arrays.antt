@@ -1,7 +1,9 @@
 -- Arrays in structs, and stores of lists.
 use lib.Seq.{paste-suc}
-use Rattle.base.specs.Prelude.{ℕ, _+_, zero, suc, _≤_, _<_, arith, add-zero, add-suc, suc-add, add-one, zero-add, le-of-lt, _≡_, refl, sym, _∙_}
-use Rattle.base.specs.Prelude.{List, [], _∷_, _++_, map, length, length-map, length-set, getD, set, set-out, sets, take, take-suc, length-take-le, drop}
+use Rattle.base.specs.Prelude.{ℕ, _+_, zero, suc, _≤_, _<_, arith, add-zero, add-suc, suc-add, add-one, zero-add, le-of-lt, _≡_, refl}
+use Rattle.base.specs.Prelude.{sym, _∙_}
+use Rattle.base.specs.Prelude.{List, [], _∷_, _++_, map, length, length-map, length-set, getD, set, set-out, sets, take, take-suc}
+use Rattle.base.specs.Prelude.{length-take-le, drop}
 
 -- The length of an array in a struct, as the struct's own rule has it: that of the list of its elements' values.
 pub length-mapped : (X Y : Type 0) (f : X → Y) (l : List X) (n : ℕ) → length (map f l) ≡ n → length l ≡ n

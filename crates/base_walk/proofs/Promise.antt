@@ -1,4 +1,5 @@
--- A contract that asks nothing and fixes what the function answers, as a function of the arguments, and what it leaves behind its references.
+-- A contract that asks nothing and fixes what the function answers, as a function of the arguments, and what it leaves behind its
+-- references.
 --     Row              a parameter's or a result's type: its row, how its machine value is spelled, what is had of it at exit, and the laws that a walk asks
 --     by-value         a type of which nothing is said at exit.        uint, truth, struct      an unsigned integer, `bool`, a declared struct
 --     slots, stays, spells, all-tell, fits, all-go, lawfuls      of a list of them, what `Denote/Triple/Walked.antt` and `Denote/Laws.antt` ask of a signature's parameters
@@ -8,8 +9,10 @@
 --     had              what is had of the parameters at exit
 -- What is shown of a Row's laws takes `Given`. The rest assumes nothing.
 use Rattle.base.specs.Prelude.{_≡_, refl, ℕ, List, [], _∷_}
-use Rattle.base.specs.Walks.{URA, Width, Val, vint, vbool, SProp, emp, ex, sep, Fml, ftrue, Heap, sem, Atoms, Given, Lfts, Shares, fact, yes, Last, left, RattleType, Denots}
-use Rattle.base.specs.Walks.{Valss, owns, Is, Ises, Tells, Tellss, Spells, valss, Lawful, Slot, plain, typesAt, Declared, row as row-of, UInt, Boolean}
+use Rattle.base.specs.Walks.{URA, Width, Val, vint, vbool, SProp, emp, ex, sep, Fml, ftrue, Heap, sem, Atoms, Given, Lfts, Shares, fact}
+use Rattle.base.specs.Walks.{yes, Last, left, RattleType, Denots}
+use Rattle.base.specs.Walks.{Valss, owns, Is, Ises, Tells, Tellss, Spells, valss, Lawful, Slot, plain, typesAt, Declared, row as row-of}
+use Rattle.base.specs.Walks.{UInt, Boolean}
 use Rattle.base.specs.Walks.{uint-tells, uint-lawful, bool-tells, bool-lawful, Ended, Lasts, Fins, all, alive, onEntry, tripleOf, Contract}
 use Rattle.base.specs.Walks.{Stay, Stays, fitsOf, hasOf, Goes, AllGo, goes-dropped}
 use denote.Laws.{Lawfuls}
@@ -22,11 +25,14 @@ pub record Row (n : ℕ) : Type 2 where
   pub tells : (κs : Lfts n) → Tells (row κs) (Is (row κs)) (λ x. val κs x ∷ [])
   pub lawful : {M : Type 1} (𝓤 : URA M) (H : Heap 𝓤) (A : Atoms 𝓤) (W : Given 𝓤 H A) (κs : Lfts n) → Lawful 𝓤 H A (row κs)
   pub has : (κs : Lfts n) (x : row κs .Denot) → Last (row κs .exit yes) x → List Val → Fml
-  pub goes : {M : Type 1} (𝓤 : URA M) (H : Heap 𝓤) (A : Atoms 𝓤) (W : Given 𝓤 H A) → Goes 𝓤 H A W n (plain row) yes (record { fit = λ κs x w. Unit {0}; has = has })
+  pub goes : {M : Type 1} (𝓤 : URA M) (H : Heap 𝓤) (A : Atoms 𝓤) (W : Given 𝓤 H A) →
+      Goes 𝓤 H A W n (plain row) yes (record { fit = λ κs x w. Unit {0}; has = has })
 
 module _ {n : ℕ} where
-  abbrev pub by-value : (R : Lfts n → RattleType) (val : (κs : Lfts n) → R κs .Denot → Val) → ((κs : Lfts n) → Tells (R κs) (Is (R κs)) (λ x. val κs x ∷ []))
-      → ((M : Type 1) (𝓤 : URA M) (H : Heap 𝓤) (A : Atoms 𝓤) (W : Given 𝓤 H A) (κs : Lfts n) → Lawful 𝓤 H A (R κs)) → ((κs : Lfts n) (x : R κs .Denot) (w : Last (R κs .exit yes) x) → left (R κs .exit yes) x w ≡ ftrue) → Row n
+  abbrev pub by-value : (R : Lfts n → RattleType) (val : (κs : Lfts n) → R κs .Denot → Val) →
+      ((κs : Lfts n) → Tells (R κs) (Is (R κs)) (λ x. val κs x ∷ []))
+      → ((M : Type 1) (𝓤 : URA M) (H : Heap 𝓤) (A : Atoms 𝓤) (W : Given 𝓤 H A) (κs : Lfts n) → Lawful 𝓤 H A (R κs)) →
+      ((κs : Lfts n) (x : R κs .Denot) (w : Last (R κs .exit yes) x) → left (R κs .exit yes) x w ≡ ftrue) → Row n
   by-value R val tells lawful silent = record {
     row = R;
     val = val;
@@ -42,8 +48,10 @@ module _ {n : ℕ} where
   abbrev pub truth : Row n
   truth = by-value (λ κs. Boolean) (λ κs. vbool) (λ κs. bool-tells) (λ M 𝓤 H A W κs. bool-lawful 𝓤 H A W) (λ κs x w. refl)
 
-  abbrev pub struct : (S : Lfts n → Declared) → ((κs : Lfts n) → LL.Laws (S κs)) → ((κs : Lfts n) (x : S κs .D) (w : Last (row-of (S κs) .exit yes) x) → left (row-of (S κs) .exit yes) x w ≡ ftrue) → Row n
-  struct S laws = by-value (λ κs. row-of (S κs)) (λ κs. LL.val (S κs) (laws κs)) (λ κs. LL.tells (S κs) (laws κs)) (λ M 𝓤 H A W κs. LL.lawful (S κs) (laws κs) 𝓤 H A W)
+  abbrev pub struct : (S : Lfts n → Declared) → ((κs : Lfts n) → LL.Laws (S κs)) →
+      ((κs : Lfts n) (x : S κs .D) (w : Last (row-of (S κs) .exit yes) x) → left (row-of (S κs) .exit yes) x w ≡ ftrue) → Row n
+  struct S laws = by-value (λ κs. row-of (S κs)) (λ κs. LL.val (S κs) (laws κs)) (λ κs. LL.tells (S κs) (laws κs))
+      (λ M 𝓤 H A W κs. LL.lawful (S κs) (laws κs) 𝓤 H A W)
 
   -- ---- a list of them, as a signature's parameters
   abbrev pub slots : List (Row n) → List (Slot n)
@@ -66,7 +74,8 @@ module _ {n : ℕ} where
     all-tell [] = tt
     all-tell (R ∷ Rs) = (R .tells κs, all-tell Rs)
 
-    pub fits : (Rs : List (Row n)) (a : Denots (rows Rs)) (ws : Fins κs (slots Rs) (all yes (slots Rs)) a) → fitsOf κs (slots Rs) (all yes (slots Rs)) (stays Rs) a ws
+    pub fits : (Rs : List (Row n)) (a : Denots (rows Rs)) (ws : Fins κs (slots Rs) (all yes (slots Rs)) a) →
+        fitsOf κs (slots Rs) (all yes (slots Rs)) (stays Rs) a ws
     fits [] a ws = tt
     fits (R ∷ Rs) a ws = (tt, fits Rs (a .1) (ws .1))
 

@@ -12,16 +12,16 @@ use model::Ran;
 use model::numbers::BAD_BUFFER;
 use model::numbers::BUDGET_ENDED;
 
-// The run of a sheet, called by both entries: so that the loop stands once in the archive, and the functions that only it calls stand in it. 02, wish 9:
-// "the C entry and the report use the server's" limits.
+// The run of a sheet, called by both entries: so that the loop stands once in the archive, and the functions that only it calls stand in
+// it. 02, wish 9: "the C entry and the report use the server's" limits.
 fn run(sheet: &[u8], budget: usize) -> Ran
     ensures { λ r. ⌜ r ≡ runOf Server (now (sheet .entry)) budget ⌝ }
 {
     sheet_run::run(Caller::Server, sheet, budget)
 }
 
-// Runs a sheet. 15 is tested first; then 0 for finished, 100 for budget ended, or the refusal's number. Where no session was made the buffer is
-// as it was.
+// Runs a sheet. 15 is tested first; then 0 for finished, 100 for budget ended, or the refusal's number. Where no session was made the
+// buffer is as it was.
 #[no_mangle]
 pub extern "C" fn janus_run(sheet: &[u8], budget: usize, buffer: &mut [u8]) -> u32
     ensures code { λ r. ⌜ r ≡ exportCode (now (sheet .entry)) budget (now (buffer .entry)) ⌝ }
@@ -52,8 +52,8 @@ pub extern "C" fn janus_report(sheet: &[u8], buffer: &mut [u8]) -> usize
     janus_report::put_report(run(sheet, 10921), buffer)
 }
 
-// Writes a sheet of the entries, cut into runs of the given lengths in entries, to the lent buffer: 0, and its size to the lent number; or the
-// refusal's number and nothing changed.
+// Writes a sheet of the entries, cut into runs of the given lengths in entries, to the lent buffer: 0, and its size to the lent number; or
+// the refusal's number and nothing changed.
 #[no_mangle]
 pub extern "C" fn janus_write(
     n: usize,

@@ -1,6 +1,7 @@
 -- The bytes of the decided values, one process more at a time. Assumes nothing.
 use Prim.{tt}
-use Rattle.base.specs.Prelude.{ℕ, _+_, _*_, _<_, _≡_, refl, _∙_, ap, List, [], _∷_, _++_, le-of-lt, zero-add, add-one, arith, length, getD, take, take-suc, length-take-le, sets}
+use Rattle.base.specs.Prelude.{ℕ, _+_, _*_, _<_, _≡_, refl, _∙_, ap, List, [], _∷_, _++_, le-of-lt, zero-add, add-one, arith, length, getD}
+use Rattle.base.specs.Prelude.{take, take-suc, length-take-le, sets}
 use Rattle.base.specs.Arrays.{sets-append}
 use denote.Enum.Declared.{tagOf}
 use types.Run.{OneOf, miss}

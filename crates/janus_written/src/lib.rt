@@ -3,8 +3,8 @@ ghost use mathlib.Core.Path.{_≡_};
 ghost use Rattle.model_write.specs.WriteExport.{exportOf, writeExport};
 use model::Caller;
 
-// Writes a sheet of the entries, cut into runs of the given lengths in entries, to the lent buffer, within the caller's limits (02, wish 9): 0, and its
-// size to the lent number; or the refusal's number and nothing changed.
+// Writes a sheet of the entries, cut into runs of the given lengths in entries, to the lent buffer, within the caller's limits (02, wish
+// 9): 0, and its size to the lent number; or the refusal's number and nothing changed.
 pub fn write(
     caller: Caller,
     n: usize,

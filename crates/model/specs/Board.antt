@@ -20,8 +20,8 @@ maxProcesses = 64
 abbrev pub maxRounds : ℕ
 maxRounds = 256
 
--- 02, wish 9: "A cart runs the same library with at most 16 seats and 64 rounds; the server stays at 64 and 256." There is "one pair for each of the
--- two callers". The server's is what a session holds.
+-- 02, wish 9: "A cart runs the same library with at most 16 seats and 64 rounds; the server stays at 64 and 256." There is "one pair for
+-- each of the two callers". The server's is what a session holds.
 abbrev pub limitsOf : Caller → Limits
 limitsOf Server = record { processes = maxProcesses; rounds = maxRounds }
 limitsOf Cart = record { processes = 16; rounds = 64 }

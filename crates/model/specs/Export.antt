@@ -57,4 +57,6 @@ unfoldable pub exportCode : (sheet : List ℕ) (budget : ℕ) (buffer : List ℕ
 exportCode s budget b = cond (eqb (length b) 256) (endingCode (run Server s budget .ending)) badBuffer
 
 unfoldable pub exportBuffer : (sheet : List ℕ) (budget : ℕ) (buffer : List ℕ) → List ℕ
-exportBuffer s budget b = cond (eqb (length b) 256) (endingBuffer (run Server s budget .ending) (run Server s budget .session .processes) b) b
+exportBuffer s budget b =
+    let r = run Server s budget in
+    cond (eqb (length b) 256) (endingBuffer (r .ending) (r .session .processes) b) b

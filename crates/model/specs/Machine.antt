@@ -21,8 +21,8 @@ use Rattle.model.specs.Refusal.{Test, refusal, openTestsFor, tests, chan
 
 -- ---- opening
 
--- Opening within a caller's limits, at window W: 02, wish 7, has "the window a parameter of the machine". Refused, no session is made: the answer
--- holds the session of no process and no round, which is not sound.
+-- Opening within a caller's limits, at window W: 02, wish 7, has "the window a parameter of the machine". Refused, no session is made: the
+-- answer holds the session of no process and no round, which is not sound.
 unfoldable pub openingFor : Limits → (W n L : ℕ) → Changed
 openingFor most W n L = changed (refusal (openTestsFor most W n L)) (opened 0 0) (opened n L)
 

@@ -1,5 +1,5 @@
--- The public operations on any session at all, damaged ones included: the machine with one test more. At any window W (02, wish 7: "the window a
--- parameter of the machine"), and in service, at the window of the session's n.
+-- The public operations on any session at all, damaged ones included: the machine with one test more. At any window W (02, wish 7: "the
+-- window a parameter of the machine"), and in service, at the window of the session's n.
 -- (Opening takes no session: `Machine.opening`.)
 use Prim.Native.Nat.{ℕ}
 use mathlib.Core.Bool.{Bool, false, not}
@@ -28,8 +28,8 @@ withoutCounts a = record { code = a .code; session = a .session }
 
 -- ---- at any window
 
--- 3, "session not sound", tested first; "session, tally, buffer unchanged". Proposals and crashes are those of polls too (02, wish 6), where 3 is
--- by a poll's soundness: `poll` says which. (A poll's turn is its own: `model_poll`.)
+-- 3, "session not sound", tested first; "session, tally, buffer unchanged". Proposals and crashes are those of polls too (02, wish 6),
+-- where 3 is by a poll's soundness: `poll` says which. (A poll's turn is its own: `model_poll`.)
 unfoldable pub operateForAs : (poll : Bool) → (W : ℕ) → Session → Counts → Operation → Stepped
 operateForAs poll W s c o = answered ((not (soundForAs poll W s), unsound) ∷ tests s c o) W s c o
 

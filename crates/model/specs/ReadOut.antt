@@ -1,4 +1,5 @@
--- Document 01, "Standing values", and 02, wish 1: the read-outs. "Read-outs 3, then 4, 14 or 15 as the read-out has a seat, a round or a buffer."
+-- Document 01, "Standing values", and 02, wish 1: the read-outs. "Read-outs 3, then 4, 14 or 15 as the read-out has a seat, a round or a
+-- buffer."
 use Prim.Native.Nat.{ℕ, suc, zero, _+_}
 use mathlib.Core.Bool.{Bool, false, cond, not, _&&_, _||_}
 use mathlib.Core.List.{List, [], _∷_, _++_}

@@ -31,7 +31,8 @@ refusal (t ∷ ts) = cond (t .0) (t .1) (refusal ts)
 
 -- ---- the situations of a process
 
--- 01: "seat out"; working, "gate to commit"; "seat spent"; "seat crashed or decided". 02, wish 6: "a turn or crash of an answered seat gives 8".
+-- 01: "seat out"; working, "gate to commit"; "seat spent"; "seat crashed or decided". 02, wish 6: "a turn or crash of an answered seat
+-- gives 8".
 abbrev pub status : Phase → Status
 status Idle = Outside
 status Waiting = Active
@@ -77,7 +78,8 @@ full c = leb maxCount (c .reads) || leb maxCount (c .writes) || leb maxCount (c 
 
 -- ---- the tests of each operation, in their order
 
--- Opening with n processes and round limit L, within a caller's limits, at window W: 1, 2. (02, wish 9: "1 and 2 speak of the caller's limits".)
+-- Opening with n processes and round limit L, within a caller's limits, at window W: 1, 2. (02, wish 9: "1 and 2 speak of the caller's
+-- limits".)
 abbrev pub openTestsFor : Limits → (W n L : ℕ) → List Test
 openTestsFor most W n L =
     (not (leb 1 n && leb n (most .processes)), badProcessCount)

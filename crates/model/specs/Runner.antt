@@ -23,9 +23,9 @@ use Rattle.model.specs.Sheet.{processCount, roundLimit, entries, sheetRe
 abbrev pub ran : (carried : ℕ) → Session → Counts → Ending → Ran
 ran k s c e = record { carried = k; session = s; counts = c; ending = e }
 
--- The entries one after another, each operation as `answer` has it, k of them carried out before: "It ends finished when none is left, with the
--- refusal and the entry's index (from 0) at the first refused one, or budget ended after as many entries as the budget allows with
--- more left; that next one is not tried." And "each entry 13 first, then its operation's own order".
+-- The entries one after another, each operation as `answer` has it, k of them carried out before: "It ends finished when none is left, with
+-- the refusal and the entry's index (from 0) at the first refused one, or budget ended after as many entries as the budget allows with more
+-- left; that next one is not tried." And "each entry 13 first, then its operation's own order".
 unfoldable pub runBy : (answer : Session → Counts → Operation → Stepped) → (budget k : ℕ) → Session → Counts → List Entry → Ran
 runBy answer b k s c [] = ran k s c Finished
 runBy answer zero k s c (e ∷ es) = ran k s c BudgetEnded

@@ -18,8 +18,8 @@ abbrev pub every : {A : Type 0} → (A → Bool) → List A → Bool
 every test [] = true
 every test (x ∷ xs) = test x && every test xs
 
--- The rules of each phase, of a session and (poll true) of a poll. 01: "out has round 0 ..; put has round 1 or more; seek k has 1 ≤ r < k ≤ L;
--- take k has 1 ≤ r ≤ k ≤ L; compare and flag have r ≥ 1 and i below the smaller of r and W; the checks have r ≥ W and i < W; commit has
+-- The rules of each phase, of a session and (poll true) of a poll. 01: "out has round 0 ..; put has round 1 or more; seek k has 1 ≤ r < k ≤
+-- L; take k has 1 ≤ r ≤ k ≤ L; compare and flag have r ≥ 1 and i below the smaller of r and W; the checks have r ≥ W and i < W; commit has
 -- r ≥ W; spent has r = L." 02, wish 6: "A sound poll keeps a session's rules and has .. no spent or decided seat, gate only below round W,
 -- and answered seats at round W; no sound session has an answered seat."
 unfoldable pub soundPhaseAs : (poll : Bool) → (W L r : ℕ) → Phase → Bool
@@ -50,9 +50,9 @@ soundProcessAs poll W L q =
 unfoldable pub pollRegisters : (poll : Bool) → (W : ℕ) → Session → Bool
 pollRegisters poll W s = not poll || (eqb (s .limit) W && eqb (s .decision) 0)
 
--- "A session is sound if: n is 1 to 64, L is W to 256; registers and marks past L are blank and unmarked; records from n
--- on are out", and each record is sound; a poll, if its rules hold too. The window is a value, since requests change it. 02, wish 9: "soundness, 3,
--- stays with the server's" limits, which are what a session holds, so that every operation but opening takes a cart's session as it is.
+-- "A session is sound if: n is 1 to 64, L is W to 256; registers and marks past L are blank and unmarked; records from n on are out", and
+-- each record is sound; a poll, if its rules hold too. The window is a value, since requests change it. 02, wish 9: "soundness, 3, stays
+-- with the server's" limits, which are what a session holds, so that every operation but opening takes a cart's session as it is.
 unfoldable pub soundForAs : (poll : Bool) → (W : ℕ) → Session → Bool
 soundForAs poll W s =
     (leb 1 (s .n) && leb (s .n) maxProcesses)

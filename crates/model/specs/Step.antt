@@ -18,9 +18,10 @@ use Rattle.model.specs.Board.{valueAt, markAt, processAt, withValues, wi
 
 -- ---- a process that waits
 
--- gate, which of its rules holds: of three answers, one for each rule, that of the first rule that holds. In 01 "the rules are read in this order. Hint no:
--- nothing happens. Round equal to L: spent. Otherwise the round r grows by one and T[r] is read; .."; in 02, wish 5: "The round limit is read first from
--- now on. A work turn with hint no at that place now gives spent". (A round above L, which no sound session has, counts as L: here and in `phaseNext`.)
+-- gate, which of its rules holds: of three answers, one for each rule, that of the first rule that holds. In 01 "the rules are read in this
+-- order. Hint no: nothing happens. Round equal to L: spent. Otherwise the round r grows by one and T[r] is read; .."; in 02, wish 5: "The
+-- round limit is read first from now on. A work turn with hint no at that place now gives spent". (A round above L, which no sound session
+-- has, counts as L: here and in `phaseNext`.)
 unfoldable pub waitingRule : {A : Type 0} → (limit r : ℕ) → (leader : Bool) → (exhausted stays leads : A) → A
 waitingRule L r leader exhausted stays leads = cond (ltb r L) (cond leader leads stays) exhausted
 
@@ -52,8 +53,8 @@ abbrev pub bit : Bool → ℕ
 bit false = 0
 bit true = 1
 
--- What the register operation finds: the value read; at a flag write, which reads nothing, the mark that stood there, by which no process goes
--- (`phaseNext`, flag), but the counts do (`counted`); 0 otherwise.
+-- What the register operation finds: the value read; at a flag write, which reads nothing, the mark that stood there, by which no process
+-- goes (`phaseNext`, flag), but the counts do (`counted`); 0 otherwise.
 unfoldable pub found : Session → Access → ℕ
 found s Nothing = 0
 found s (ReadValue r) = valueAt s r

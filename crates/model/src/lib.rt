@@ -81,8 +81,8 @@ pub enum Entry {
     Malformed,
 }
 
-// Who calls (02, wish 9: "one pair for each of the two callers; a call names only which of the two it is"): the clinic's server, or the bedside
-// cart.
+// Who calls (02, wish 9: "one pair for each of the two callers; a call names only which of the two it is"): the clinic's server, or the
+// bedside cart.
 pub enum Caller {
     Server,
     Cart,

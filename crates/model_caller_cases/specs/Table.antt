@@ -39,7 +39,8 @@ holds r = eqb (numberOf Server (r .call)) (r .server) && eqb (numberOf Cart (r .
 
 pub table : List Row
 table =
-    -- sessions: no process; one round fewer than W, and W; "at most 16 seats and 64 rounds"; one more of either, and of both: 1 is tested first
+    -- sessions: no process; one round fewer than W, and W; "at most 16 seats and 64 rounds"; one more of either, and of both: 1 is tested
+    -- first
     record { call = opens 0 16; server = 1; cart = 1 }
     ∷ record { call = opens 16 7; server = 2; cart = 2 }
     ∷ record { call = opens 16 8; server = 0; cart = 0 }
@@ -64,8 +65,8 @@ table =
     ∷ record { call = reads (16 ∷ 0 ∷ 64 ∷ 0 ∷ []); server = 0; cart = 0 }
     ∷ record { call = reads (17 ∷ 0 ∷ 64 ∷ 0 ∷ []); server = 0; cart = 1 }
     ∷ record { call = reads (16 ∷ 0 ∷ 65 ∷ 0 ∷ []); server = 0; cart = 2 }
-    -- in the sheet's own order, "Sheet 10, 1, 2, 11 over all pairs, 12 over all runs": 17 pairs; 1 before 2; a pair that begins in the header, behind 1
-    -- and behind 2; a run of one byte, likewise
+    -- in the sheet's own order, "Sheet 10, 1, 2, 11 over all pairs, 12 over all runs": 17 pairs; 1 before 2; a pair that begins in the
+    -- header, behind 1 and behind 2; a run of one byte, likewise
     ∷ record { call = reads (17 ∷ 17 ∷ 65 ∷ 0 ∷ []); server = 10; cart = 10 }
     ∷ record { call = reads (17 ∷ 0 ∷ 65 ∷ 0 ∷ []); server = 0; cart = 1 }
     ∷ record { call = reads (17 ∷ 1 ∷ 64 ∷ 0 ∷ 0 ∷ 0 ∷ 0 ∷ 0 ∷ []); server = 11; cart = 1 }
@@ -77,8 +78,8 @@ table =
     ∷ record { call = writes 17 64 [] [] 4; server = 0; cart = 1 }
     ∷ record { call = writes 16 65 [] [] 4; server = 0; cart = 2 }
     ∷ record { call = writes 17 65 [] [] 4; server = 0; cart = 1 }
-    -- in its order, "1, 2, 12 for the entry buffer, 17, 13, then 15 if the output is too short", each behind 1 and behind 2: a buffer of one byte; a run of
-    -- one entry that is not there; an entry of an unknown kind; an output too short
+    -- in its order, "1, 2, 12 for the entry buffer, 17, 13, then 15 if the output is too short", each behind 1 and behind 2: a buffer of
+    -- one byte; a run of one entry that is not there; an entry of an unknown kind; an output too short
     ∷ record { call = writes 17 64 (0 ∷ []) [] 4; server = 12; cart = 1 }
     ∷ record { call = writes 16 65 (0 ∷ []) [] 4; server = 12; cart = 2 }
     ∷ record { call = writes 17 64 [] (1 ∷ []) 8; server = 17; cart = 1 }

@@ -1,5 +1,6 @@
 -- The answer of an operation, by the number of its first refusal and by what is left where it is 0.
-use Rattle.base.specs.Prelude.{ℕ, suc, zero, _<_, _%_, arith, _≡_, refl, sym, _∙_, ap, Bool, true, false, cond, not, List, _∷_, leb, leb-false}
+use Rattle.base.specs.Prelude.{ℕ, suc, zero, _<_, _%_, arith, _≡_, refl, sym, _∙_, ap, Bool, true, false, cond, not, List, _∷_, leb}
+use Rattle.base.specs.Prelude.{leb-false}
 use Rattle.model_laws.specs.Types.{Phase, Waiting, Crashed, Process, Session, Counts, Operation, Propose, Step, Learn, Crash}
 use Rattle.model.specs.Board.{processAt, withProcess, noCounts}
 use Rattle.model.specs.Window.{window}
@@ -55,7 +56,8 @@ module _ (poll : Bool) (W : ℕ) (s : Session) (c : Counts) where
   -- A proposal and a crash leave any counts.
   pub propose-counts : (p v : ℕ) → withCounts (proposeForAs poll W s p v) c ≡ operateForAs poll W s c (Propose p v)
   unfolding proposeForAs operateForAs answered countsAfter accessOf counted
-  propose-counts p v = stepped-counts (refusal ((not (soundForAs poll W s), unsound) ∷ tests s c (Propose p v))) s (after W s (Propose p v)) noCounts c
+  propose-counts p v = stepped-counts (refusal ((not (soundForAs poll W s), unsound) ∷ tests s c (Propose p v))) s
+      (after W s (Propose p v)) noCounts c
 
   pub crash-counts : (p : ℕ) → withCounts (crashForAs poll W s p) c ≡ operateForAs poll W s c (Crash p)
   unfolding crashForAs operateForAs answered countsAfter accessOf counted

@@ -1,6 +1,7 @@
 -- Numbers in bytes: what was written is what is read.
 use lib.Seq.{getD-drop}
-use Rattle.base.specs.Prelude.{ℕ, zero, suc, _+_, _*_, _/_, _%_, _≤_, _<_, arith, _≡_, refl, sym, _∙_, ap, List, [], _∷_, _++_, length, getD, drop}
+use Rattle.base.specs.Prelude.{ℕ, zero, suc, _+_, _*_, _/_, _%_, _≤_, _<_, arith, _≡_, refl, sym, _∙_, ap, List, [], _∷_, _++_, length}
+use Rattle.base.specs.Prelude.{getD, drop}
 use Rattle.base.specs.Prelude.{add-zero, add-assoc, add-one, add-two, div-div-eq-div-mul, mod-eq-of-lt, drop-cons, drop-drop}
 use Rattle.model.specs.declared.Process.{Process}
 use Rattle.model.specs.Board.{idle}

@@ -1,4 +1,5 @@
--- The limits of the callers (document 02, wish 9): both are up to the server's, and what is opened within such limits is a session as the server's.
+-- The limits of the callers (document 02, wish 9): both are up to the server's, and what is opened within such limits is a session as the
+-- server's.
 use Rattle.base.specs.Prelude.{ℕ, _≤_, arith, _≡_, sym, _∙_, true, List, le-leb}
 use Rattle.model_laws.specs.Types.{Caller, Server, Cart, Limits}
 use Rattle.model.specs.Window.{window}
@@ -52,7 +53,15 @@ module _ (most : Limits) (up : UpToServer most) (s : List ℕ) (ok : sheetRefusa
       let L = roundLimit s in
       let a = none-holds (sheetTests most s) (omega arith) ok in
       let h = open-held most up (window n) n L (rw (a .1 .0, a .1 .1 .0)) in
-      rw (a .0, le-leb 1 n (h .0), le-leb n maxProcesses (h .1), le-leb (window n) L (h .2), le-leb L maxRounds (h .3), a .1 .1 .1 .0, a .1 .1 .1 .1 .0)
+      rw (
+        a .0,
+        le-leb 1 n (h .0),
+        le-leb n maxProcesses (h .1),
+        le-leb (window n) L (h .2),
+        le-leb L maxRounds (h .3),
+        a .1 .1 .1 .0,
+        a .1 .1 .1 .1 .0,
+      )
 
   -- and run to the same end.
   pub run-server : (budget : ℕ) → runWithin most s budget ≡ runWithin (limitsOf Server) s budget

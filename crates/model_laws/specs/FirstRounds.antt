@@ -1,5 +1,8 @@
 -- What 01 says of the standing values, and 02 of their order, is so of the list that the model gives (`valuesTo`). Assumes nothing.
-use Rattle.base.specs.Prelude.{ℕ, zero, suc, _+_, _≤_, _<_, _≡_, refl, sym, ap, Bool, true, false, cond, not, _&&_, _||_, and-false, or-false, or-true, or-assoc, List, [], _∷_, _++_, _⊎_, ⊎-elim, eq-or-lt-of-le, not-suc-le-zero, add-zero, arith, length, getD, take, drop, length-append, List·getD-append, take-suc, take-append-seam, getD-append-seam, ltb, eqb, ltb-true, ltb-false, eqb-true, eq-eqb, lt-ltb, le-ltb}
+use Rattle.base.specs.Prelude.{ℕ, zero, suc, _+_, _≤_, _<_, _≡_, refl, sym, ap, Bool, true, false, cond, not, _&&_, _||_, and-false}
+use Rattle.base.specs.Prelude.{or-false, or-true, or-assoc, List, [], _∷_, _++_, _⊎_, ⊎-elim, eq-or-lt-of-le, not-suc-le-zero, add-zero}
+use Rattle.base.specs.Prelude.{arith, length, getD, take, drop, length-append, List·getD-append, take-suc, take-append-seam}
+use Rattle.base.specs.Prelude.{getD-append-seam, ltb, eqb, ltb-true, ltb-false, eqb-true, eq-eqb, lt-ltb, le-ltb}
 use Rattle.base.specs.Bools.{cond-cases}
 use Rattle.model.specs.declared.Session.{Session}
 use Rattle.model.specs.ReadOut.{holds, valuesTo, standingValues, standingRefusal, standingAnswer, standingBuffer}
@@ -79,7 +82,8 @@ each-once x = by-rounds (Once x) (rw (and-false (not (eqb x 0)))) same more
 
 -- Accepted, the count is the list's length, and the buffer begins with the list.
 pub counted : (s : Session) (buffer : List ℕ) → standingRefusal s buffer ≡ 0
-    → (standingAnswer s buffer .count ≡ length (standingValues s)) × (take (length (standingValues s)) (standingBuffer s buffer) ≡ standingValues s)
+    → (standingAnswer s buffer .count ≡ length (standingValues s))
+    × (take (length (standingValues s)) (standingBuffer s buffer) ≡ standingValues s)
 counted s buffer e = (rw e, rw (e, take-append-seam (standingValues s) (drop (length (standingValues s)) buffer)))
 
 -- ---- 02: "by the first round in which it stands, lowest first"

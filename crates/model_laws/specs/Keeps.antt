@@ -1,6 +1,8 @@
 -- A step of a sound process leaves a sound process.
-use Rattle.base.specs.Prelude.{ℕ, _+_, _-_, min, _≤_, _<_, arith, _≡_, refl, Bool, true, false, leb, ltb, eqb, leb-true, ltb-true, ltb-false, eqb-false, lt-ltb}
-use Rattle.model_laws.specs.Types.{Phase, Idle, Waiting, Write, Scan, Adopt, Compare, Flag, CheckMark, CheckValue, Commit, Exhausted, Crashed, Decided, HasCommitted, HasAdopted, Process}
+use Rattle.base.specs.Prelude.{ℕ, _+_, _-_, min, _≤_, _<_, arith, _≡_, refl, Bool, true, false, leb, ltb, eqb, leb-true, ltb-true}
+use Rattle.base.specs.Prelude.{ltb-false, eqb-false, lt-ltb}
+use Rattle.model_laws.specs.Types.{Phase, Idle, Waiting, Write, Scan, Adopt, Compare, Flag, CheckMark, CheckValue, Commit, Exhausted}
+use Rattle.model_laws.specs.Types.{Crashed, Decided, HasCommitted, HasAdopted, Process}
 use Rattle.model.specs.Step.{goOn, phaseNext, next, learnt, process}
 use Rattle.model.specs.Refusal.{status, isOutside}
 use Rattle.model.specs.Sound.{soundProcess}

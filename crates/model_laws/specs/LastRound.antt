@@ -1,5 +1,6 @@
 -- The last round (document 02, wish 5): what its sentences say of the machine, at any window, of any session and counts.
-use Rattle.base.specs.Prelude.{ℕ, zero, suc, _<_, _≤_, _≡_, refl, _⊎_, inl, inr, ⊎-elim, Bool, false, true≢false, getD-set-other, ℕ-discrete, eqb, eqb-false, lt-leb, lt-ltb, le-ltb}
+use Rattle.base.specs.Prelude.{ℕ, zero, suc, _<_, _≤_, _≡_, refl, _⊎_, inl, inr, ⊎-elim, Bool, false, true≢false, getD-set-other}
+use Rattle.base.specs.Prelude.{ℕ-discrete, eqb, eqb-false, lt-leb, lt-ltb, le-ltb}
 use lib.Seq.{set-getD}
 use Rattle.base.specs.Arrays.{getD-set-keeps}
 use Rattle.base.specs.Bools.{cond-cases}
@@ -14,17 +15,22 @@ use Rattle.model_laws.specs.Accepted.{NoneHolds, ownTests, Accepted, acc
 use Rattle.model_laws.specs.Operations.{stored-same}
 
 module _ (W : ℕ) (s : Session) (c : Counts) (p : ℕ) (below : p < s .n) where
-  -- "The round limit is read first from now on. A work turn with hint no at that place now gives spent": a work turn at gate in round L, whatever its
-  -- hint, changes the record alone and counts nothing. (With a full tally it is refused, 16.)
+  -- "The round limit is read first from now on. A work turn with hint no at that place now gives spent": a work turn at gate in round L,
+  -- whatever its hint, changes the record alone and counts nothing. (With a full tally it is refused, 16.)
   pub last-round-spends : (leader : Bool) → processAt s p .phase ≡ Waiting → s .limit ≤ processAt s p .round → full c ≡ false →
       let q = processAt s p in
-      perform W s c (Step p leader) ≡ record { code = 0; session = withProcess s p (process Exhausted (q .round) (q .estimate)); counts = c }
+      perform W s c (Step p leader) ≡ record {
+        code = 0;
+        session = withProcess s p (process Exhausted (q .round) (q .estimate));
+        counts = c;
+      }
   unfolding perform answered after countsAfter turn accessOf becomes access next phaseAccess phaseNext waitingRule stored found counted
   last-round-spends leader waits last room =
       rw (lt-leb (s .n) p below, waits, room, le-ltb (processAt s p .round) (s .limit) last) refl
 
   -- ".. and each later one 9 while the seat stays spent", whatever its hint.
-  pub spent-refused : (leader : Bool) → processAt s p .phase ≡ Exhausted → perform W s c (Step p leader) ≡ record { code = processSpent; session = s; counts = c }
+  pub spent-refused : (leader : Bool) → processAt s p .phase ≡ Exhausted →
+      perform W s c (Step p leader) ≡ record { code = processSpent; session = s; counts = c }
   unfolding perform answered
   spent-refused leader spent = rw (lt-leb (s .n) p below, spent) refl
 
@@ -68,7 +74,8 @@ spent-stays W s c o p spent = go (refusal (tests s c o)) refl
           | no ne ↦ inl (rw (stored-same s _ _ .processes) (getD-set-other (s .processes) (processOf o) p _ idle ne))
         ]
 
-    go : (k : ℕ) → refusal (tests s c o) ≡ k → (processAt (stepped k s (after W s o) c (countsAfter s c o) .session) p ≡ processAt s p) ⊎ Ends s p o
+    go : (k : ℕ) → refusal (tests s c o) ≡ k → (processAt (stepped k s (after W s o) c (countsAfter s c o) .session) p ≡ processAt s p)
+        ⊎ Ends s p o
     go zero e = turned (accepted s c o e)
     go (suc k) e = inl refl
 
@@ -76,7 +83,8 @@ spent-stays W s c o p spent = go (refusal (tests s c o)) refl
 abbrev pub Ended : Phase → Type 0
 Ended φ = (status φ ≡ Spent) ⊎ (status φ ≡ Gone)
 
--- What an accepted operation makes of such a process: a look leaves it or makes it decided, a crash makes it crashed, and no other is accepted.
+-- What an accepted operation makes of such a process: a look leaves it or makes it decided, a crash makes it crashed, and no other is
+-- accepted.
 becomes-ended : (W L : ℕ) (q : Process) (c : Counts) (o : Operation) (x : ℕ) → NoneHolds (ownTests (q .phase) c o) →
     Ended (q .phase) → Ended (becomes W L q o x .phase)
 unfolding becomes learnt
@@ -100,7 +108,8 @@ ended-stays W s c o p ended = go (refusal (tests s c o)) refl
         (elim (ℕ-discrete p m) [
           | yes e ↦
               rw e
-              (getD-set-keeps (λ (q : Process). Ended (q .phase)) (s .processes) m _ idle (becomes-ended W (s .limit) _ c o _ (a .own) (rw e at ended))
+              (getD-set-keeps (λ (q : Process). Ended (q .phase)) (s .processes) m _ idle
+              (becomes-ended W (s .limit) _ c o _ (a .own) (rw e at ended))
               (rw e at ended))
           | no ne ↦ rw (getD-set-other (s .processes) m p _ idle ne) ended
         ])

@@ -1,5 +1,7 @@
 -- One round more: what the loops over the rounds do to the list, and one place more of a copy. Assumes nothing.
-use Rattle.base.specs.Prelude.{ℕ, zero, suc, _+_, _<_, _≡_, sym, true, false, or-true, List, [], _∷_, _++_, le-of-lt, not-suc-le-zero, add-one, arith, length, getD, take, drop, set, take-suc, take-suc-set, drop-cons, set-at, length-take-le, append-snoc, eqb, eq-eqb, ne-eqb}
+use Rattle.base.specs.Prelude.{ℕ, zero, suc, _+_, _<_, _≡_, sym, true, false, or-true, List, [], _∷_, _++_, le-of-lt, not-suc-le-zero}
+use Rattle.base.specs.Prelude.{add-one, arith, length, getD, take, drop, set, take-suc, take-suc-set, drop-cons, set-at, length-take-le}
+use Rattle.base.specs.Prelude.{append-snoc, eqb, eq-eqb, ne-eqb}
 use Rattle.model.specs.ReadOut.{holds, valuesTo}
 use Rattle.model_laws.specs.FirstRounds.{holds-last}
 
@@ -20,8 +22,10 @@ unfolding valuesTo
 round-earlier T l r e a b h p = rw (add-one, holds-earlier T r e (getD T r 0) a b h, or-true (eqb (getD T r 0) 0)) p
 
 -- A value that no earlier round holds: one round more is compared, and the value goes to the list's end.
-pub not-earlier : (T : List ℕ) (e y : ℕ) → e < length T → (getD T e 0 ≡ y → ⊥) → holds y (take e T) ≡ false → holds y (take (e + 1) T) ≡ false
-not-earlier T e y h ne none = rw (add-one, take-suc T e 0, holds-last y (getD T e 0) (take e T), none) (ne-eqb y (getD T e 0) (λ p. ne (sym p)))
+pub not-earlier : (T : List ℕ) (e y : ℕ) → e < length T → (getD T e 0 ≡ y → ⊥) → holds y (take e T) ≡ false →
+    holds y (take (e + 1) T) ≡ false
+not-earlier T e y h ne none = rw (add-one, take-suc T e 0, holds-last y (getD T e 0) (take e T), none)
+    (ne-eqb y (getD T e 0) (λ p. ne (sym p)))
 
 pub round-new : (T vs : List ℕ) (r n : ℕ) → n < length vs → (getD T r 0 ≡ 0 → ⊥) → holds (getD T r 0) (take r T) ≡ false
     → take n vs ≡ valuesTo T r → take (n + 1) (set vs n (getD T r 0)) ≡ valuesTo T (r + 1)

@@ -1,6 +1,8 @@
 -- Each accepted operation of the machine leaves a sound session, and so does each operation, accepted or refused.
-use Rattle.base.specs.Prelude.{ℕ, suc, zero, _≤_, _<_, arith, _≡_, refl, Bool, true, false, _&&_, leb, not-false, leb-true, le-leb, eqb-false}
-use Rattle.model_laws.specs.Types.{Access, Nothing, ReadValue, WriteValue, ReadMark, SetMark, ReadDecision, WriteDecision, Process, Session, Counts, Limits, Waiting, Crashed, Operation, Propose, Step, Learn, Crash}
+use Rattle.base.specs.Prelude.{ℕ, suc, zero, _≤_, _<_, arith, _≡_, refl, Bool, true, false, _&&_, leb, not-false, leb-true, le-leb}
+use Rattle.base.specs.Prelude.{eqb-false}
+use Rattle.model_laws.specs.Types.{Access, Nothing, ReadValue, WriteValue, ReadMark, SetMark, ReadDecision, WriteDecision, Process}
+use Rattle.model_laws.specs.Types.{Session, Counts, Limits, Waiting, Crashed, Operation, Propose, Step, Learn, Crash}
 use Rattle.model.specs.Board.{processAt, opened, maxProcesses, maxRounds}
 use Rattle.model.specs.Step.{access, stored, turn, found}
 use Rattle.model.specs.Refusal.{refusal, changed, stepped, openTestsFor, tests}

@@ -1,6 +1,8 @@
 -- Two tests in one pass. A test t of all places is what is left of it at place i, and that is the test of the place and what is left
 -- at i + 1. Assumes nothing.
-use Rattle.base.specs.Prelude.{ℕ, suc, _+_, _≤_, _<_, max, _≡_, refl, sym, ap, _∙_, Bool, true, false, not, _&&_, _||_, and-assoc, and-false, List, add-one, arith, ltb-true, ltb-false, not-true, not-false, ltb, length, getD, drop, drop-of-length-le, drop-cons}
+use Rattle.base.specs.Prelude.{ℕ, suc, _+_, _≤_, _<_, max, _≡_, refl, sym, ap, _∙_, Bool, true, false, not, _&&_, _||_, and-assoc}
+use Rattle.base.specs.Prelude.{and-false, List, add-one, arith, ltb-true, ltb-false, not-true, not-false, ltb, length, getD, drop}
+use Rattle.base.specs.Prelude.{drop-of-length-le, drop-cons}
 use Rattle.model.specs.Sound.{every}
 
 swap : (e q r : Bool) → (e && (q && r)) ≡ (q && (e && r))
@@ -46,7 +48,8 @@ module _ {A : Type 0} (P Q : A → Bool) (n : ℕ) (xs : List A) where
           rw (e, e′, add-one, drop-cons xs i d h)
           (shuffle (P (getD xs i d)) (every P (drop (suc i) xs)) (Q (getD xs i d)) (every Q (drop (suc i) xs)))
 
-  module _ {m : ℕ} {t b : Bool} (size : length xs ≡ m) (i : ℕ) (left : t ≡ rest i) (d : A) (h : i < m) (told : b ≡ here i (getD xs i d)) where
+  module _ {m : ℕ} {t b : Bool} (size : length xs ≡ m) (i : ℕ) (left : t ≡ rest i) (d : A) (h : i < m)
+      (told : b ≡ here i (getD xs i d)) where
     pub more : not b ≡ false → t ≡ rest (i + 1)
     more = went (here i (getD xs i d)) left (goes size i d h) told
 

@@ -1,6 +1,8 @@
 -- What soundness says of a process, phase by phase, as facts.
-use Rattle.base.specs.Prelude.{ℕ, min, _≤_, _<_, _≡_, refl, sym, true, false, true≢false, cond, ltb, eqb, leb-true, ltb-true, eqb-true, le-leb, lt-ltb, eq-eqb}
-use Rattle.model_laws.specs.Types.{Phase, Idle, Waiting, Write, Scan, Adopt, Compare, Flag, CheckMark, CheckValue, Commit, Exhausted, Crashed, Decided, HasCommitted, HasAdopted, Process}
+use Rattle.base.specs.Prelude.{ℕ, min, _≤_, _<_, _≡_, refl, sym, true, false, true≢false, cond, ltb, eqb, leb-true, ltb-true, eqb-true}
+use Rattle.base.specs.Prelude.{le-leb, lt-ltb, eq-eqb}
+use Rattle.model_laws.specs.Types.{Phase, Idle, Waiting, Write, Scan, Adopt, Compare, Flag, CheckMark, CheckValue, Commit, Exhausted}
+use Rattle.model_laws.specs.Types.{Crashed, Decided, HasCommitted, HasAdopted, Process}
 use Rattle.model.specs.declared.Status.{Status}
 use Rattle.model.specs.declared.Status.the-variants.{Outside, Active, Spent, Gone}
 use Rattle.model.specs.Refusal.{status, isOutside, isGone}

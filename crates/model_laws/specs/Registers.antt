@@ -1,13 +1,16 @@
 -- The registers one by one: what an access reads and leaves in each, and the turn made of them.
 use Rattle.base.specs.Prelude.{ℕ, _+_, _-_, _%_, _≤_, arith, _≡_, refl, sym, ap, Bool, true, false, List, getD, set}
-use Rattle.model_laws.specs.Types.{Phase, Idle, Waiting, Write, Scan, Adopt, Compare, Flag, CheckMark, CheckValue, Commit, Exhausted, Crashed, Decided, HasCommitted, HasAdopted, Access, Nothing, ReadValue, WriteValue, ReadMark, SetMark, ReadDecision, WriteDecision, Process, Session, Counts, Step}
+use Rattle.model_laws.specs.Types.{Phase, Idle, Waiting, Write, Scan, Adopt, Compare, Flag, CheckMark, CheckValue, Commit, Exhausted}
+use Rattle.model_laws.specs.Types.{Crashed, Decided, HasCommitted, HasAdopted, Access, Nothing, ReadValue, WriteValue, ReadMark}
+use Rattle.model_laws.specs.Types.{SetMark, ReadDecision, WriteDecision, Process, Session, Counts, Step}
 use Rattle.model.specs.Board.{processAt, with, maxRounds}
 use Rattle.model.specs.Step.{phaseAccess, access, next, bit, found, stored, turn, counted}
 use Rattle.model.specs.Machine.{accessOf, becomes, after, countsAfter}
 use Rattle.model_laws.specs.Ranges.{InRange}
 use Rattle.model_laws.specs.WaitingRules.{waiting-cases}
 
--- The index of the register of round r, r - 1 for the rounds 1 to 256; for any other number, which no turn of a sound process has, some index.
+-- The index of the register of round r, r - 1 for the rounds 1 to 256; for any other number, which no turn of a sound process has, some
+-- index.
 abbrev pub slot : ℕ → ℕ
 slot r = (r % 256 + 255) % 256
 
@@ -142,7 +145,8 @@ module _ (s : Session) (p : ℕ) {i v x : ℕ} {a : Access} (b : Process → Acc
 -- ---- a work turn of a session
 
 -- What the code counts, and what it leaves, are what the machine counts and leaves after a work turn of a sound session.
-module _ (s : Session) (p : ℕ) (leader : Bool) {i v x : ℕ} {a : Access} (ok : InRange maxRounds (accessOf (s .limit) (processAt s p) (Step p leader)))
+module _ (s : Session) (p : ℕ) (leader : Bool) {i v x : ℕ} {a : Access}
+    (ok : InRange maxRounds (accessOf (s .limit) (processAt s p) (Step p leader)))
     (ei : i ≡ p) (ea : a ≡ access (s .limit) (processAt s i) leader) (er : v ≡ valueIn (s .values) a) (ex : x ≡ markIn v (s .marks) a) where
   abbrev accessed : Process → Access
   accessed q = access (s .limit) q leader

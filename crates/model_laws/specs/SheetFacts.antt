@@ -7,8 +7,8 @@ use Rattle.model.specs.Sheet.{processCount, runCount, roundLimit, runs, headerE
 use Rattle.model.specs.Sound.{every}
 use Rattle.model_laws.specs.Accepted.{NoneHolds, none-holds}
 
--- It has the four bytes of its header and those of its pairs, 16 pairs and 65,535 bytes at most; a session opens; its runs are in order, and of
--- whole entries.
+-- It has the four bytes of its header and those of its pairs, 16 pairs and 65,535 bytes at most; a session opens; its runs are in order,
+-- and of whole entries.
 pub record SheetFacts (most : Limits) (s : List ℕ) : Type 0 where
   pub some : 4 ≤ length s
   pub few : length s ≤ 65535

@@ -1,5 +1,6 @@
 -- The test of a record, by its phase and the clause that the phase has. Assumes nothing.
-use Rattle.base.specs.Prelude.{ℕ, min, _≡_, refl, sym, ap, _∙_, Bool, true, false, _&&_, _||_, and-assoc, and-true, or-false, or-true, arith, ltb-true, ltb-false, lt-ltb, le-ltb, leb, ltb, eqb}
+use Rattle.base.specs.Prelude.{ℕ, min, _≡_, refl, sym, ap, _∙_, Bool, true, false, _&&_, _||_, and-assoc, and-true, or-false, or-true}
+use Rattle.base.specs.Prelude.{arith, ltb-true, ltb-false, lt-ltb, le-ltb, leb, ltb, eqb}
 use Rattle.model_laws.specs.Types.{Phase, Idle, Process}
 use Rattle.model.specs.Refusal.{status, isOutside}
 use Rattle.model.specs.Sound.{soundPhaseAs, soundProcessAs}

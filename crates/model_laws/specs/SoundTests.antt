@@ -1,5 +1,7 @@
--- The clauses of a session's test, or a poll's: where one fails the test does, and where the first ones hold the records are left. Assumes nothing.
-use Rattle.base.specs.Prelude.{ℕ, _≤_, _≡_, sym, _∙_, Bool, true, false, not, _&&_, and-assoc, and-false, leb-true, not-true, not-false, leb, eqb, drop}
+-- The clauses of a session's test, or a poll's: where one fails the test does, and where the first ones hold the records are left. Assumes
+-- nothing.
+use Rattle.base.specs.Prelude.{ℕ, _≤_, _≡_, sym, _∙_, Bool, true, false, not, _&&_, and-assoc, and-false, leb-true, not-true, not-false}
+use Rattle.base.specs.Prelude.{leb, eqb, drop}
 use Rattle.base.specs.Bools.{and-right}
 use Rattle.model_laws.specs.Types.{Process, Session}
 use Rattle.model.specs.Window.{window}

@@ -1,6 +1,7 @@
 -- What soundness says, clause by clause, and what keeps it.
 use Rattle.base.specs.Prelude.{ℕ, _-_, _≤_, _<_, arith, _≡_, refl, Bool, true, false, not, drop, drop-set-lt, eqb, leb-true, le-leb}
-use Rattle.model_laws.specs.Types.{Access, Nothing, ReadValue, WriteValue, ReadMark, SetMark, ReadDecision, WriteDecision, Process, Session}
+use Rattle.model_laws.specs.Types.{Access, Nothing, ReadValue, WriteValue, ReadMark, SetMark, ReadDecision, WriteDecision, Process}
+use Rattle.model_laws.specs.Types.{Session}
 use Rattle.model.specs.Board.{processAt, withProcess, idle, maxProcesses, maxRounds}
 use Rattle.model.specs.Step.{stored}
 use Rattle.model.specs.Refusal.{status, isOutside}
@@ -49,7 +50,8 @@ module _ (poll : Bool) where
   set-sound W s p q f low one = search (drop-set-lt (s .n) (s .processes) p q low, every-set (soundProcessAs poll W (s .limit)))
 
   -- A register 1 to L is written, or a round 1 to L is marked; a poll's D stays blank.
-  pub stored-sound : (W : ℕ) (s : Session) (a : Access) (e : ℕ) → InRange (s .limit) a → pollRegisters poll W (stored s a e) ≡ true → Sound poll W s →
+  pub stored-sound : (W : ℕ) (s : Session) (a : Access) (e : ℕ) → InRange (s .limit) a → pollRegisters poll W (stored s a e) ≡ true →
+      Sound poll W s →
       Sound poll W (stored s a e)
   unfolding stored
   stored-sound W s Nothing e ok only f = f

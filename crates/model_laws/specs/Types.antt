@@ -15,7 +15,8 @@ pub use Rattle.model.specs.declared.Limits.{Limits}
 pub use Rattle.model.specs.declared.Operation.{Operation}
 pub use Rattle.model.specs.declared.Operation.the-variants.{Crash, Learn, Propose, Step}
 pub use Rattle.model.specs.declared.Phase.{Phase}
-pub use Rattle.model.specs.declared.Phase.the-variants.{Adopt, HasAdopted, CheckMark, CheckValue, Commit, HasCommitted, Compare, Crashed, Decided, Exhausted, Flag, Idle, Scan, Waiting, Write}
+pub use Rattle.model.specs.declared.Phase.the-variants.{Adopt, HasAdopted, CheckMark, CheckValue, Commit, HasCommitted, Compare, Crashed}
+pub use Rattle.model.specs.declared.Phase.the-variants.{Decided, Exhausted, Flag, Idle, Scan, Waiting, Write}
 pub use Rattle.model.specs.declared.Process.{Process}
 pub use Rattle.model.specs.declared.ProcessAnswer.{ProcessAnswer}
 pub use Rattle.model.specs.declared.Ran.{Ran}

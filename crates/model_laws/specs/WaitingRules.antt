@@ -15,4 +15,5 @@ waiting-both P L r leader exhausted stays leads =
 -- Of one.
 pub waiting-cases : {A : Type 0} (P : A → Type 0) (L r : ℕ) (leader : Bool) {a b c : A} →
     (L ≤ r → P a) → P b → (r < L → P c) → P (waitingRule L r leader a b c)
-waiting-cases P L r leader exhausted stays leads = waiting-both (λ a x. P a) L r leader {x = leader} {y = leader} {z = leader} exhausted stays leads
+waiting-cases P L r leader exhausted stays leads = waiting-both
+    (λ a x. P a) L r leader {x = leader} {y = leader} {z = leader} exhausted stays leads

@@ -20,9 +20,11 @@ root-square n = root-from-square n 0 n (omega (arith, le-square n))
 root-from-smallest : (fuel m k n : ℕ) → n ≤ (m + k) * (m + k) → rootFrom fuel m n ≤ m + k
 unfolding rootFrom
 root-from-smallest zero m k n h = omega arith
-root-from-smallest (suc fuel) m zero n h = cond-cases (λ x. x ≤ m + 0) (leb n (m * m)) (λ t. omega arith) (λ t. absurd (omega (arith, leb-false n (m * m) t)))
+root-from-smallest (suc fuel) m zero n h = cond-cases (λ x. x ≤ m + 0) (leb n (m * m)) (λ t. omega arith)
+    (λ t. absurd (omega (arith, leb-false n (m * m) t)))
 root-from-smallest (suc fuel) m (suc k) n h =
-    cond-cases (λ x. x ≤ m + suc k) (leb n (m * m)) (λ t. omega arith) (λ t. omega (arith, root-from-smallest fuel (suc m) k n (omega arith)))
+    cond-cases (λ x. x ≤ m + suc k) (leb n (m * m)) (λ t. omega arith)
+    (λ t. omega (arith, root-from-smallest fuel (suc m) k n (omega arith)))
 
 -- No smaller number than the rounded-up root of n has a square of at least n.
 pub root-smallest : (m n : ℕ) → n ≤ m * m → rootUp n ≤ m

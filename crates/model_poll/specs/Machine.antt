@@ -1,4 +1,5 @@
--- The machine of polls (document 02, wish 6). It is fed proposals, turns and crashes, and never a poll; proposals and crashes are those of a session.
+-- The machine of polls (document 02, wish 6). It is fed proposals, turns and crashes, and never a poll; proposals and crashes are those of
+-- a session.
 use Prim.Native.Nat.{ℕ, suc, zero}
 use mathlib.Core.List.{List, _∷_}
 use mathlib.Core.Bool.{true}
@@ -20,20 +21,20 @@ use Rattle.model_poll.specs.declared.Answer.the-variants.{Pending}
 use Rattle.model_poll.specs.declared.PollStepped.{PollStepped}
 use Rattle.model_poll.specs.Turn.{pollAccess, pollNext, answerOf}
 
--- "A poll has L = W": the session's opening with that limit, within a caller's limits, at window W (02, wish 7: "the window a parameter of the machine ..
--- Polls are covered too").
+-- "A poll has L = W": the session's opening with that limit, within a caller's limits, at window W (02, wish 7: "the window a parameter of
+-- the machine .. Polls are covered too").
 unfoldable pub pollOpeningFor : Limits → (W n : ℕ) → Changed
 pollOpeningFor most W n = openingFor most W n W
 
--- In service: within the caller's limits (02, wish 9: "Opening, of polls too .. take the caller's limits"), at the window of n. (So 1 alone can refuse it:
--- `model_poll_laws`, `poll-opening-code`.)
+-- In service: within the caller's limits (02, wish 9: "Opening, of polls too .. take the caller's limits"), at the window of n. (So 1 alone
+-- can refuse it: `model_poll_laws`, `poll-opening-code`.)
 abbrev pub pollOpening : Caller → (n : ℕ) → Changed
 pollOpening caller n = pollOpeningFor (limitsOf caller) (window n) n
 
 -- ---- a turn
 
--- "Numbers 1, 3 to 8 and 16 in the sessions' order; a turn or crash of an answered seat gives 8": after 3, those of a turn are 4, 7, 8, 16, which are a
--- look's. No poll has a spent process, and no turn gives 9.
+-- "Numbers 1, 3 to 8 and 16 in the sessions' order; a turn or crash of an answered seat gives 8": after 3, those of a turn are 4, 7, 8, 16,
+-- which are a look's. No poll has a spent process, and no turn gives 9.
 abbrev pub turnTests : Session → Counts → (p : ℕ) → List Test
 turnTests s c p = processTests s p (λ φ. learnTests φ c)
 

@@ -1,5 +1,5 @@
--- The public operations on any poll at all, damaged ones included: the machine with one test more, 3 (`soundPoll` of `model`). At any window W (02, wish
--- 7), and in service, at the window of the poll's n.
+-- The public operations on any poll at all, damaged ones included: the machine with one test more, 3 (`soundPoll` of `model`). At any
+-- window W (02, wish 7), and in service, at the window of the poll's n.
 -- (Opening takes no poll: `Machine.pollOpening`.)
 use Prim.Native.Nat.{ℕ}
 use mathlib.Core.Bool.{true, not}

@@ -1,5 +1,5 @@
--- Document 02, wish 6: a turn of a poll. "Each worker walks the same steps, ending with round W": the turn is that of a session (`Step` of `model`) with
--- hint yes ("without leader hints"), and differs from it in two places alone, the turn at commit and a check that fails.
+-- Document 02, wish 6: a turn of a poll. "Each worker walks the same steps, ending with round W": the turn is that of a session (`Step` of
+-- `model`) with hint yes ("without leader hints"), and differs from it in two places alone, the turn at commit and a check that fails.
 use Prim.Native.Nat.{ℕ, _+_, _*_}
 use mathlib.Core.Path.{_≡_}
 use mathlib.Core.Bool.{Bool, true, false, cond}
@@ -49,8 +49,9 @@ isWaiting Decided = false
 isWaiting HasCommitted = false
 isWaiting HasAdopted = false
 
--- The phase after a turn, by the phase before it and the one that a session's turn leaves. In a session a check that fails and the turn at commit lead
--- back to gate; here "its turn at commit answers committed with its value ..; where a check of that round fails it answers adopted with its value".
+-- The phase after a turn, by the phase before it and the one that a session's turn leaves. In a session a check that fails and the turn at
+-- commit lead back to gate; here "its turn at commit answers committed with its value ..; where a check of that round fails it answers
+-- adopted with its value".
 unfoldable pub ending : (before left : Phase) → Phase
 ending Idle left = left
 ending Waiting left = left

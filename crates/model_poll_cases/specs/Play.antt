@@ -42,8 +42,8 @@ unfolding answerEq
 keptFrom s p [] = true
 keptFrom s p (a ∷ rest) = answerEq (answerOf (processAt s p)) a && keptFrom s (suc p) rest
 
--- A row of the table: the opening, the operations, the answer that the last of them gives, the answers that the records then keep, from process 0
--- on, and what else the state shows, as in the cases of sessions.
+-- A row of the table: the opening, the operations, the answer that the last of them gives, the answers that the records then keep, from
+-- process 0 on, and what else the state shows, as in the cases of sessions.
 pub record PollCase : Type 0 where
   pub n : ℕ
   pub operations : List PollOperation

@@ -1,6 +1,8 @@
 -- The answer of a turn, by the number of its first refusal and by what is left where it is 0.
-use Rattle.base.specs.Prelude.{ℕ, suc, zero, _<_, _%_, arith, _≡_, refl, sym, _∙_, ap, Bool, true, false, true≢false, cond, not, List, _∷_, leb, leb-false, length, set, getD-set-same}
-use Rattle.model_laws.specs.Types.{Process, Session, Counts, Access, Nothing, ReadValue, WriteValue, ReadMark, SetMark, ReadDecision, WriteDecision}
+use Rattle.base.specs.Prelude.{ℕ, suc, zero, _<_, _%_, arith, _≡_, refl, sym, _∙_, ap, Bool, true, false, true≢false, cond, not, List, _∷_}
+use Rattle.base.specs.Prelude.{leb, leb-false, length, set, getD-set-same}
+use Rattle.model_laws.specs.Types.{Process, Session, Counts, Access, Nothing, ReadValue, WriteValue, ReadMark, SetMark, ReadDecision}
+use Rattle.model_laws.specs.Types.{WriteDecision}
 use Rattle.model.specs.Window.{window}
 use Rattle.model.specs.Board.{processAt, idle, with, maxRounds}
 use Rattle.model.specs.Step.{access, phaseAccess, counted, found}

@@ -1,7 +1,9 @@
--- How a pass ends (document 02, wish 6): what its sentences say of the machine of polls, at any window, of any poll and counts; and that sessions and polls
--- with such an end are apart.
-use Rattle.base.specs.Prelude.{ℕ, _+_, _-_, _<_, _≤_, arith, _≡_, refl, sym, ⊎-elim, Bool, true, false, true≢false, length, getD-set-same, ne-eqb, lt-leb, ltb-true}
-use Rattle.model_laws.specs.Types.{Phase, Waiting, CheckMark, CheckValue, Commit, Exhausted, Decided, HasCommitted, HasAdopted, Process, Session, Counts, Operation}
+-- How a pass ends (document 02, wish 6): what its sentences say of the machine of polls, at any window, of any poll and counts; and that
+-- sessions and polls with such an end are apart.
+use Rattle.base.specs.Prelude.{ℕ, _+_, _-_, _<_, _≤_, arith, _≡_, refl, sym, ⊎-elim, Bool, true, false, true≢false, length, getD-set-same}
+use Rattle.base.specs.Prelude.{ne-eqb, lt-leb, ltb-true}
+use Rattle.model_laws.specs.Types.{Phase, Waiting, CheckMark, CheckValue, Commit, Exhausted, Decided, HasCommitted, HasAdopted, Process}
+use Rattle.model_laws.specs.Types.{Session, Counts, Operation}
 use Rattle.model.specs.declared.Status.the-variants.{Active, Gone}
 use Rattle.model.specs.Window.{window}
 use Rattle.model.specs.Board.{valueAt, markAt, processAt, withProcess, idle}
@@ -31,7 +33,12 @@ module _ (W : ℕ) (s : Session) (c : Counts) (p : ℕ) (below : p < s .n) where
     -- 02: "its turn at commit answers committed with its value and writes no D": the record alone changes, and nothing is counted.
     pub commit-answers : q .phase ≡ Commit →
         pollPerform W s c (turns p)
-        ≡ record { code = 0; session = withProcess s p (process HasCommitted (q .round) (q .estimate)); counts = c; answer = Commits (q .estimate) }
+        ≡ record {
+          code = 0;
+          session = withProcess s p (process HasCommitted (q .round) (q .estimate));
+          counts = c;
+          answer = Commits (q .estimate);
+        }
     unfolding pollPerform turned turnAfter turnCounts turn pollAccess pollNext access next phaseAccess phaseNext withoutDecision ending stored found counted answerOf
     commit-answers at =
         rw (lt-leb (s .n) p below, at, room, getD-set-same (s .processes) p (process HasCommitted (q .round) (q .estimate)) idle long) refl
@@ -39,15 +46,32 @@ module _ (W : ℕ) (s : Session) (c : Counts) (p : ℕ) (below : p < s .n) where
     -- 02: "where a check of that round fails it answers adopted with its value": at a marked round,
     pub marked-adopts : (i : ℕ) → q .phase ≡ CheckMark i → markAt s (q .round - i) ≡ true →
         pollPerform W s c (turns p)
-        ≡ record { code = 0; session = withProcess s p (process HasAdopted (q .round) (q .estimate)); counts = read; answer = Adopts (q .estimate) }
+        ≡ record {
+          code = 0;
+          session = withProcess s p (process HasAdopted (q .round) (q .estimate));
+          counts = read;
+          answer = Adopts (q .estimate);
+        }
     unfolding pollPerform turned turnAfter turnCounts turn pollAccess pollNext access next phaseAccess phaseNext withoutDecision ending stored found counted answerOf
     marked-adopts i at marked =
-        rw (lt-leb (s .n) p below, at, room, marked, getD-set-same (s .processes) p (process HasAdopted (q .round) (q .estimate)) idle long) refl
+        rw (
+          lt-leb (s .n) p below,
+          at,
+          room,
+          marked,
+          getD-set-same (s .processes) p
+              (process HasAdopted (q .round) (q .estimate)) idle long,
+        ) refl
 
     -- and at another value.
     pub other-adopts : (i : ℕ) → q .phase ≡ CheckValue i → (valueAt s (q .round - i) ≡ q .estimate → ⊥) →
         pollPerform W s c (turns p)
-        ≡ record { code = 0; session = withProcess s p (process HasAdopted (q .round) (q .estimate)); counts = read; answer = Adopts (q .estimate) }
+        ≡ record {
+          code = 0;
+          session = withProcess s p (process HasAdopted (q .round) (q .estimate));
+          counts = read;
+          answer = Adopts (q .estimate);
+        }
     unfolding pollPerform turned turnAfter turnCounts turn pollAccess pollNext access next phaseAccess phaseNext withoutDecision ending stored found counted answerOf
     other-adopts i at other =
         rw (
@@ -119,7 +143,8 @@ module _ (s : Session) where
     pub waiting-no-poll : processAt s p .phase ≡ Waiting → window (s .n) ≤ processAt s p .round → soundPoll s ≡ false
     unfolding soundAs soundPhaseAs
     waiting-no-poll e high =
-        false-if (soundForAs true (window (s .n)) s) (λ t. omega (arith, ltb-true (processAt s p .round) (window (s .n)) (rule Waiting e t)))
+        false-if (soundForAs true (window (s .n)) s) (λ t. omega
+        (arith, ltb-true (processAt s p .round) (window (s .n)) (rule Waiting e t)))
 
 -- What is not sound is refused with 3, by each operation that sessions and polls share.
 pub unsound-refused : (poll : Bool) (s : Session) (c : Counts) (o : Operation) → soundAs poll s ≡ false → codeAs poll s c o ≡ unsound

@@ -1,5 +1,6 @@
 -- The opening of a poll: 1 alone refuses it, and what it opens is a poll.
-use Rattle.base.specs.Prelude.{ℕ, suc, zero, _*_, _+_, _≤_, arith, _≡_, refl, _⊎_, inl, inr, Bool, true, false, cond, not, _&&_, true≢false, leb, leb-true, le-leb, eq-eqb, not-false}
+use Rattle.base.specs.Prelude.{ℕ, suc, zero, _*_, _+_, _≤_, arith, _≡_, refl, _⊎_, inl, inr, Bool, true, false, cond, not, _&&_, true≢false}
+use Rattle.base.specs.Prelude.{leb, leb-true, le-leb, eq-eqb, not-false}
 use Rattle.base.specs.Bools.{and-left, and-right, and-both}
 use Rattle.model.specs.Window.{window}
 use Rattle.model_laws.specs.Types.{Caller, Server, Cart, Limits}
@@ -24,13 +25,15 @@ open-first : (caller : Caller) (n : ℕ) →
     _≡_ {A = ℕ} (refusal (openTests (limitsOf caller) n (window n))) (cond (not (leb 1 n && leb n (limitsOf caller .processes))) 1 0)
 open-first caller n = go (leb 1 n && leb n (limitsOf caller .processes)) refl
   where
-    fits : (leb 1 n && leb n (limitsOf caller .processes)) ≡ true → (leb (window n) (window n) && leb (window n) (limitsOf caller .rounds)) ≡ true
+    fits : (leb 1 n && leb n (limitsOf caller .processes)) ≡ true →
+        (leb (window n) (window n) && leb (window n) (limitsOf caller .rounds)) ≡ true
     fits t =
         let few = leb-true n (limitsOf caller .processes) (and-right (leb 1 n) _ t) in
         and-both (le-leb (window n) (window n) (omega arith)) (le-leb (window n) (limitsOf caller .rounds) (window-held caller n few))
 
     go : (b : Bool) → (leb 1 n && leb n (limitsOf caller .processes)) ≡ b →
-        _≡_ {A = ℕ} (cond (not b) 1 (cond (not (leb (window n) (window n) && leb (window n) (limitsOf caller .rounds))) 2 0)) (cond (not b) 1 0)
+        _≡_ {A = ℕ} (cond (not b) 1 (cond (not (leb (window n) (window n) && leb (window n) (limitsOf caller .rounds))) 2 0))
+        (cond (not b) 1 0)
     go true t = rw (fits t) refl
     go false t = refl
 

@@ -1,8 +1,11 @@
--- One pass: how many turns a process of a poll can have taken, by where it stands. From the definition of a turn alone: whatever the others do.
-use Rattle.base.specs.Prelude.{ℕ, suc, zero, _+_, _*_, _-_, _≤_, _<_, min, arith, _≡_, refl, sym, Bool, true, false, true≢false, leb, ltb, eqb, leb-true, leb-false, ltb-true, ltb-false}
+-- One pass: how many turns a process of a poll can have taken, by where it stands. From the definition of a turn alone: whatever the others
+-- do.
+use Rattle.base.specs.Prelude.{ℕ, suc, zero, _+_, _*_, _-_, _≤_, _<_, min, arith, _≡_, refl, sym, Bool, true, false, true≢false, leb, ltb}
+use Rattle.base.specs.Prelude.{eqb, leb-true, leb-false, ltb-true, ltb-false}
 use Rattle.base.specs.Bools.{cond-cases}
 use Rattle.base.specs.Squares.{square-le}
-use Rattle.model_laws.specs.Types.{Phase, Idle, Waiting, Write, Scan, Adopt, Compare, Flag, CheckMark, CheckValue, Commit, Exhausted, Crashed, Decided, HasCommitted, HasAdopted, Process}
+use Rattle.model_laws.specs.Types.{Phase, Idle, Waiting, Write, Scan, Adopt, Compare, Flag, CheckMark, CheckValue, Commit, Exhausted}
+use Rattle.model_laws.specs.Types.{Crashed, Decided, HasCommitted, HasAdopted, Process}
 use Rattle.model.specs.declared.Status.the-variants.{Active}
 use Rattle.model.specs.Step.{waitingRule, goOn, phaseNext, next, process}
 use Rattle.model.specs.Refusal.{status, isOutside, isGone}
@@ -77,13 +80,15 @@ module _ (W : ℕ) where
       (λ more.
       cond-cases (λ φ. Taken W (r + 1) (suc t) φ) (eqb x 0)
       (λ b. omega arith)
-      (λ b. cond-cases (λ φ. Taken W (r + 1) (suc t) φ) (ltb (r + 1) W) (λ c. omega arith) (λ c. let same : W ≡ r + 1 = omega (arith, ltb-false (r + 1) W c) in rw same (omega arith))))
+      (λ b. cond-cases (λ φ. Taken W (r + 1) (suc t) φ) (ltb (r + 1) W) (λ c. omega arith)
+      (λ c. let same : W ≡ r + 1 = omega (arith, ltb-false (r + 1) W c) in rw same (omega arith))))
       (λ high. absurd (omega (arith, ltb-false r W high)))
   taken-next r e t Write x o g low s w z k = omega arith
   taken-next r e t (Scan k) x o g low s w z h =
       cond-cases (λ φ. Taken W r (suc t) φ) (eqb x 0)
       (λ b. scan-back k t (omega arith) h)
-      (λ b. cond-cases (λ φ. Taken W r (suc t) φ) (ltb k W) (λ c. omega arith) (λ c. let same : W ≡ k = omega (arith, ltb-false k W c) in rw same (omega arith)))
+      (λ b. cond-cases (λ φ. Taken W r (suc t) φ) (ltb k W) (λ c. omega arith)
+      (λ c. let same : W ≡ k = omega (arith, ltb-false k W c) in rw same (omega arith)))
   taken-next r e t (Adopt k) x o g low s w z h = omega arith
   taken-next r e t (Compare i) x o g low s w z h =
       cond-cases (λ φ. Taken W r (suc t) φ) (eqb x e) (λ b. taken-go-on r (suc t) i low (s .1) (omega arith)) (λ b. omega arith)
@@ -92,7 +97,8 @@ module _ (W : ℕ) where
       cond-cases (λ φ. Taken W r (suc t) (ending (CheckMark i) φ)) (eqb x 0) (λ b. omega arith) (λ b. omega arith)
   taken-next r e t (CheckValue i) x o g low s w z h =
       cond-cases (λ φ. Taken W r (suc t) (ending (CheckValue i) φ)) (eqb x e)
-      (λ b. cond-cases (λ φ. Taken W r (suc t) (ending (CheckValue i) φ)) (ltb (i + 1) W) (λ c. omega arith) (λ c. omega (arith, ltb-false (i + 1) W c)))
+      (λ b. cond-cases (λ φ. Taken W r (suc t) (ending (CheckValue i) φ)) (ltb (i + 1) W) (λ c. omega arith)
+      (λ c. omega (arith, ltb-false (i + 1) W c)))
       (λ b. omega arith)
   taken-next r e t Commit x o g low s w z h = omega arith
   taken-next r e t Exhausted x o g low s w z h = absurd (z refl)

@@ -1,6 +1,9 @@
--- What the machine of polls does in one operation: an accepted one has the session after it, a refused one leaves the poll; and which records change.
-use Rattle.base.specs.Prelude.{ℕ, suc, zero, _≡_, refl, sym, _∙_, _⊎_, inl, inr, Bool, true, false, true≢false, ℕ-discrete, _<_, length, getD-set-same, getD-set-other, not-false, ⊎-elim}
-use Rattle.model_laws.specs.Types.{Phase, Idle, Waiting, Write, Scan, Adopt, Compare, Flag, CheckMark, CheckValue, Commit, Exhausted, Crashed, Decided, HasCommitted, HasAdopted, Process, Session, Access, Counts, Operation, Propose, Crash}
+-- What the machine of polls does in one operation: an accepted one has the session after it, a refused one leaves the poll; and which
+-- records change.
+use Rattle.base.specs.Prelude.{ℕ, suc, zero, _≡_, refl, sym, _∙_, _⊎_, inl, inr, Bool, true, false, true≢false, ℕ-discrete, _<_, length}
+use Rattle.base.specs.Prelude.{getD-set-same, getD-set-other, not-false, ⊎-elim}
+use Rattle.model_laws.specs.Types.{Phase, Idle, Waiting, Write, Scan, Adopt, Compare, Flag, CheckMark, CheckValue, Commit, Exhausted}
+use Rattle.model_laws.specs.Types.{Crashed, Decided, HasCommitted, HasAdopted, Process, Session, Access, Counts, Operation, Propose, Crash}
 use Rattle.model.specs.declared.Status.{Status}
 use Rattle.model.specs.declared.Status.the-variants.{Gone}
 use Rattle.model.specs.Board.{processAt, idle}
@@ -14,7 +17,8 @@ use Rattle.model_poll.specs.declared.Answer.{Answer}
 use Rattle.model_poll.specs.declared.Answer.the-variants.{Pending, Commits, Adopts}
 use Rattle.model_poll.specs.declared.PollStepped.{PollStepped}
 use Rattle.model_poll.specs.Turn.{pollAccess, pollNext, phaseAnswer, answerOf, Carries}
-use Rattle.model_poll.specs.Machine.{PollOperation, proposes, turns, crashes, turnTests, turnAfter, turnCounts, given, polled, turned, unanswered, pollPerform}
+use Rattle.model_poll.specs.Machine.{PollOperation, proposes, turns, crashes, turnTests, turnAfter, turnCounts, given, polled, turned}
+use Rattle.model_poll.specs.Machine.{unanswered, pollPerform}
 use Rattle.model_poll_laws.specs.Answers.{TurnAccepted, turn-accepted}
 
 -- The process of an operation.
@@ -46,7 +50,8 @@ poll-accepted s c (turns p) e = turn-accepted s c p e
 poll-accepted s c (crashes p) e = accepted s c (Crash p) e
 
 -- The number and the poll that the machine answers with are by the first refusal.
-stepped-session : {k : ℕ} (P : ℕ → Session → Type 0) (m : ℕ) (s t : Session) (c d : Counts) → m ≡ k → (k ≡ 0 → P 0 t) → ((j : ℕ) → P (suc j) s) →
+stepped-session : {k : ℕ} (P : ℕ → Session → Type 0) (m : ℕ) (s t : Session) (c d : Counts) → m ≡ k → (k ≡ 0 → P 0 t) →
+    ((j : ℕ) → P (suc j) s) →
     P (stepped m s t c d .code) (stepped m s t c d .session)
 stepped-session P zero s t c d e done left = done (sym e)
 stepped-session P (suc j) s t c d e done left = left j
@@ -88,7 +93,8 @@ pollBecomes W s (proposes p v) = process Waiting (processAt s p .round) v
 pollBecomes W s (turns p) = pollNext W (s .limit) (processAt s p) (found s (pollAccess (s .limit) (processAt s p)))
 pollBecomes W s (crashes p) = process Crashed (processAt s p .round) (processAt s p .estimate)
 
-pub others-stay : (W : ℕ) (s : Session) (o : PollOperation) (p : ℕ) → (p ≡ pollProcessOf o → ⊥) → processAt (pollAfter W s o) p ≡ processAt s p
+pub others-stay : (W : ℕ) (s : Session) (o : PollOperation) (p : ℕ) → (p ≡ pollProcessOf o → ⊥) →
+    processAt (pollAfter W s o) p ≡ processAt s p
 unfolding after turnAfter
 others-stay W s (proposes m v) p other = turn-others s m _ _ p other
 others-stay W s (turns m) p other = turn-others s m _ _ p other
@@ -127,8 +133,10 @@ unfolding answerOf
 answer-gone q v has = ⊎-elim (λ e. rw e refl) (λ e. rw e refl) (answer-cases (q .phase) (q .estimate) v has .0)
 
 -- No accepted operation is of a process that is gone.
-pub accepted-here : (s : Session) (c : Counts) (o : PollOperation) → PollAccepted s c o → isGone (status (processAt s (pollProcessOf o) .phase)) ≡ false
-accepted-here s c (proposes p v) a = outside-here (status (processAt s p .phase)) (not-false (isOutside (status (processAt s p .phase))) (a .own .1 .0))
+pub accepted-here : (s : Session) (c : Counts) (o : PollOperation) → PollAccepted s c o →
+    isGone (status (processAt s (pollProcessOf o) .phase)) ≡ false
+accepted-here s c (proposes p v) a = outside-here (status (processAt s p .phase))
+    (not-false (isOutside (status (processAt s p .phase))) (a .own .1 .0))
 accepted-here s c (turns p) a = a .here
 accepted-here s c (crashes p) a = a .own .1 .0
 
@@ -144,7 +152,8 @@ answered-stays W s c o p v has =
 
 -- A proposal and a crash give no answer, and a turn that gives one is accepted, and gives the one that its process then has.
 pub gives : (W : ℕ) (s : Session) (c : Counts) (o : PollOperation) (v : ℕ) → Carries (pollPerform W s c o .answer) v →
-    (p : ℕ) × (o ≡ turns p) × (pollPerform W s c o .code ≡ 0) × (pollPerform W s c o .answer ≡ answerOf (processAt (pollPerform W s c o .session) p))
+    (p : ℕ) × (o ≡ turns p) × (pollPerform W s c o .code ≡ 0)
+    × (pollPerform W s c o .answer ≡ answerOf (processAt (pollPerform W s c o .session) p))
 unfolding pollPerform turned
 gives W s c (proposes p v) u has = absurd has
 gives W s c (turns p) u has = let a = go (refusal (turnTests s c p)) has in (p, refl, a .0, a .1)

@@ -1,7 +1,10 @@
 -- What keeps a poll sound: proposals, turns and crashes of its processes.
-use Rattle.base.specs.Prelude.{ℕ, _+_, min, _≤_, _<_, arith, _≡_, refl, sym, Bool, true, false, true≢false, cond, _&&_, leb, ltb, eqb, leb-true, leb-false, ltb-true, eqb-true, lt-ltb, le-leb, eq-eqb, eqb-false, not-false}
+use Rattle.base.specs.Prelude.{ℕ, _+_, min, _≤_, _<_, arith, _≡_, refl, sym, Bool, true, false, true≢false, cond, _&&_, leb, ltb, eqb}
+use Rattle.base.specs.Prelude.{leb-true, leb-false, ltb-true, eqb-true, lt-ltb, le-leb, eq-eqb, eqb-false, not-false}
 use Rattle.base.specs.Bools.{cond-cases, and-left, and-right, and-both}
-use Rattle.model_laws.specs.Types.{Phase, Idle, Waiting, Write, Scan, Adopt, Compare, Flag, CheckMark, CheckValue, Commit, Exhausted, Crashed, Decided, HasCommitted, HasAdopted, Process, Access, Nothing, ReadValue, WriteValue, ReadMark, SetMark, ReadDecision, WriteDecision, Session, Counts, Operation, Propose, Step, Crash}
+use Rattle.model_laws.specs.Types.{Phase, Idle, Waiting, Write, Scan, Adopt, Compare, Flag, CheckMark, CheckValue, Commit, Exhausted}
+use Rattle.model_laws.specs.Types.{Crashed, Decided, HasCommitted, HasAdopted, Process, Access, Nothing, ReadValue, WriteValue, ReadMark}
+use Rattle.model_laws.specs.Types.{SetMark, ReadDecision, WriteDecision, Session, Counts, Operation, Propose, Step, Crash}
 use Rattle.model.specs.Board.{processAt, idle, maxRounds}
 use Rattle.model.specs.Step.{goOn, phaseNext, next, stored, turn, found, process, access}
 use Rattle.model.specs.Refusal.{status, isOutside, isGone}
@@ -56,12 +59,14 @@ phase-rule W L q t = and-right (held L q) (soundPhaseAs true W L (q .round) (q .
 pub round-rule : (W L : ℕ) (q : Process) → soundProcessAs true W L q ≡ true → q .round ≤ L
 unfolding soundProcessAs
 round-rule W L q t =
-    leb-true (q .round) L (and-right (cond (isOutside (status (q .phase))) (eqb (q .estimate) 0) (ltb 0 (q .estimate))) _ (and-left (held L q) _ t))
+    leb-true (q .round) L (and-right (cond (isOutside (status (q .phase))) (eqb (q .estimate) 0) (ltb 0 (q .estimate))) _
+    (and-left (held L q) _ t))
 
 -- ---- a turn
 
 module _ (W : ℕ) where
-  -- A phase that a session's turn leaves in round r, and the phase that a poll's leaves: the second keeps a poll's rule where the first keeps a session's.
+  -- A phase that a session's turn leaves in round r, and the phase that a poll's leaves: the second keeps a poll's rule where the first
+  -- keeps a session's.
   abbrev Ends : (r : ℕ) (left φ : Phase) → Type 0
   Ends r left φ =
       (isOutside (status φ) ≡ isOutside (status left)) × (soundPhase W W r left ≡ true → soundPhaseAs true W W r φ ≡ true)
@@ -84,7 +89,8 @@ module _ (W : ℕ) where
       (λ t. cond-cases (λ φ. Ends r φ φ) (leb W r) (λ u. (refl, λ v. v)) (λ u. ends-waiting (leb-false W r u)))
 
   -- From each phase that a turn is taken in.
-  ends-next : (r e : ℕ) (φ : Phase) (x : ℕ) → isOutside (status φ) ≡ false → isGone (status φ) ≡ false → r ≤ W → soundPhaseAs true W W r φ ≡ true →
+  ends-next : (r e : ℕ) (φ : Phase) (x : ℕ) → isOutside (status φ) ≡ false → isGone (status φ) ≡ false → r ≤ W →
+      soundPhaseAs true W W r φ ≡ true →
       let q = phaseNext W W r e φ true x in Ends (q .round) (q .phase) (ending φ (q .phase))
   unfolding phaseNext ending soundPhaseAs
   ends-next r e Idle x o g low t = absurd (true≢false o)
@@ -193,7 +199,8 @@ module _ (W : ℕ) (s : Session) (t : soundForAs true W s ≡ true) where
   pub poll-process : (p : ℕ) → isGone (status (processAt s p .phase)) ≡ false → soundProcess W (s .limit) (processAt s p) ≡ true
   poll-process p g = as-session W (s .limit) (processAt s p) g (sound-process true W s p t)
 
-  pub turn-after-sound : 1 ≤ W → (p : ℕ) → p < s .n → isOutside (status (processAt s p .phase)) ≡ false → isGone (status (processAt s p .phase)) ≡ false →
+  pub turn-after-sound : 1 ≤ W → (p : ℕ) → p < s .n → isOutside (status (processAt s p .phase)) ≡ false →
+      isGone (status (processAt s p .phase)) ≡ false →
       soundForAs true W (turnAfter W s p) ≡ true
   unfolding turnAfter
   turn-after-sound wide p below o g =

@@ -50,7 +50,8 @@ pollPromised s c o = pollPromisedFor (window (s .n)) s c o
 -- A list of calls, where w n is the window of n processes: "each call of a run or order gets the .. poll .. that the one before left".
 abbrev pub PollRunWith : (w : ℕ → ℕ) → Session → List PollCall → Session → Type 0
 PollRunWith w =
-    Run (λ (a : PollStepped). a .session) (λ (s : Session) (f : Input PollOperation). pollPromisedFor (w (s .n)) s (f .counts) (f .operation))
+    Run (λ (a : PollStepped). a .session)
+    (λ (s : Session) (f : Input PollOperation). pollPromisedFor (w (s .n)) s (f .counts) (f .operation))
 
 -- How many of the calls are accepted turns of process p.
 abbrev pub isTurnOf : (p : ℕ) → PollOperation → Bool

@@ -1,5 +1,5 @@
--- The rule of polls (document 02, wish 6): "Show for any order of proposals, turns and crashes from an opening: each answer was proposed; if one answer is
--- committed v, every answer carries v; if all proposals are v, every answer is committed v."
+-- The rule of polls (document 02, wish 6): "Show for any order of proposals, turns and crashes from an opening: each answer was proposed;
+-- if one answer is committed v, every answer carries v; if all proposals are v, every answer is committed v."
 use Prim.Native.Nat.{ℕ, _*_, _≤_, _<_}
 use mathlib.Core.Path.{_≡_}
 use mathlib.Core.List.{List, _∷_}
@@ -40,7 +40,8 @@ pub record PollRule (W : ℕ) (start : Session) (cs : List PollCall) (s : Sessio
   -- the record of an answered process shows the answer that its turn gave, and no record shows another
   pub kept : {p : ℕ} {a : Answer} (v : ℕ) → Gave p a cs → Carries a v → answerOf (processAt s p) ≡ a
   pub shown : (p v : ℕ) → Carries (answerOf (processAt s p)) v → Gave p (answerOf (processAt s p)) cs
-  -- no process takes more turns than that; one that still works, and so has no answer, has taken fewer, and its next turn is refused by 16 alone
+  -- no process takes more turns than that; one that still works, and so has no answer, has taken fewer, and its next turn is refused by 16
+  -- alone
   pub onePass : (p : ℕ) → turnsOf p cs ≤ passTurns W
   pub working : (p : ℕ) → status (processAt s p .phase) ≡ Active → turnsOf p cs < passTurns W
 

@@ -61,9 +61,9 @@ AgreementWithin most w n L =
 abbrev pub AgreementWith : (w : ℕ → ℕ) → (n L : ℕ) → Type 0
 AgreementWith w n L = (most : Limits) → UpToServer most → AgreementWithin most w n L
 
--- 02, wish 7: "Show the agreement rule for every window W of at least 2 with W times W at least 4n, the window a parameter of the machine, for all n at
--- once." (An opening accepts 1 or more processes, so that a window with W times W at least 4n is at least 2.) A window that is one number for every n
--- is `λ m. W`.
+-- 02, wish 7: "Show the agreement rule for every window W of at least 2 with W times W at least 4n, the window a parameter of the machine,
+-- for all n at once." (An opening accepts 1 or more processes, so that a window with W times W at least 4n is at least 2.) A window that is
+-- one number for every n is `λ m. W`.
 abbrev pub EveryWindow : Type 0
 EveryWindow = (w : ℕ → ℕ) (n L : ℕ) → 4 * n ≤ w n * w n → AgreementWith w n L
 

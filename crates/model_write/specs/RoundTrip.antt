@@ -32,8 +32,8 @@ runBytes s (x ∷ xs) = take (x .size) (drop (x .offset) s) ++ runBytes s xs
 abbrev pub entryBytes : List ℕ → List ℕ
 entryBytes s = runBytes s (runs s)
 
--- 02: "no gaps and no trailing bytes": the first run starts where the pairs end, each next one where the run before it ends, and the sheet ends with
--- the last run; a sheet of no runs ends with its pairs.
+-- 02: "no gaps and no trailing bytes": the first run starts where the pairs end, each next one where the run before it ends, and the sheet
+-- ends with the last run; a sheet of no runs ends with its pairs.
 abbrev pub follow : (from size : ℕ) → List EntryRun → Bool
 follow from size [] = eqb from size
 follow from size (x ∷ xs) = eqb (x .offset) from && follow (x .offset + x .size) size xs
@@ -55,8 +55,8 @@ pub record ReadsAs (most : Limits) (n L : ℕ) (es ms sheet : List ℕ) : Type 0
   -- Running it is running the entries.
   pub runs : (budget : ℕ) → runWithin most sheet budget ≡ runFrom (window n) budget 0 (opened n L) noCounts (bufferEntries es)
 
--- Of every accepted call: the sheet is the first bytes of the output, as many as the call answers. L has 16 bits in a sheet, and so the limits'
--- rounds have in `Limits`.
+-- Of every accepted call: the sheet is the first bytes of the output, as many as the call answers. L has 16 bits in a sheet, and so the
+-- limits' rounds have in `Limits`.
 abbrev pub WrittenReads : Type 0
 WrittenReads =
     (most : Limits) (n L : ℕ) (es ms out : List ℕ)
@@ -67,8 +67,8 @@ WrittenReads =
 
 -- ---- read, then written
 
--- "A sheet with an accepted header, well-formed entries, no gaps and no trailing bytes, read and written again, comes back byte for byte", to every
--- output that is long enough.
+-- "A sheet with an accepted header, well-formed entries, no gaps and no trailing bytes, read and written again, comes back byte for byte",
+-- to every output that is long enough.
 abbrev pub ReadWrites : Type 0
 ReadWrites =
     (most : Limits) (s out : List ℕ)

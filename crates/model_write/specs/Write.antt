@@ -1,5 +1,5 @@
--- Document 02, wish 3, "Write the sheet too": "given n, L, entries of 6 bytes in a lent buffer and a list of run lengths in entries, it writes,
--- and returns the size of, a sheet whose first run starts at 4 + 4p and whose runs follow without gaps."
+-- Document 02, wish 3, "Write the sheet too": "given n, L, entries of 6 bytes in a lent buffer and a list of run lengths in entries, it
+-- writes, and returns the size of, a sheet whose first run starts at 4 + 4p and whose runs follow without gaps."
 use Prim.Native.Nat.{ℕ, _+_, _*_, _/_, _%_}
 use mathlib.Core.Bool.{Bool, not, _&&_}
 use mathlib.Core.List.{List, [], _∷_, _++_}
@@ -55,7 +55,8 @@ wellFormed xs = every (λ x. not (isMalformed x)) xs
 abbrev pub bufferEntries : (entries : List ℕ) → List Entry
 bufferEntries es = entriesAt es 0 (length es / 6)
 
--- "Order: 1, 2, 12 for the entry buffer, 17, 13, then 15 if the output is too short", within a caller's limits; room is the output's length.
+-- "Order: 1, 2, 12 for the entry buffer, 17, 13, then 15 if the output is too short", within a caller's limits; room is the output's
+-- length.
 abbrev pub writeTests : Limits → (n L : ℕ) (entries lengths : List ℕ) (room : ℕ) → List Test
 writeTests most n L es ms room =
     openTests most n L

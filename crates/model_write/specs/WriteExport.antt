@@ -1,4 +1,5 @@
--- The writer for callers in C (document 02, wish 3): the refusal or 0; the size goes to a lent number, which a refused call leaves as it was.
+-- The writer for callers in C (document 02, wish 3): the refusal or 0; the size goes to a lent number, which a refused call leaves as it
+-- was.
 use Prim.Native.Nat.{ℕ}
 use mathlib.Core.Bool.{cond}
 use mathlib.Core.List.{List}

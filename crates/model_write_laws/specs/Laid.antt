@@ -1,5 +1,6 @@
 -- Runs laid out without gaps: one run more.
-use Rattle.base.specs.Prelude.{ℕ, suc, zero, _+_, _*_, _≤_, _<_, arith, add-one, le-of-lt, _≡_, refl, ap, _∙_, List, [], _∷_, _++_, append-assoc, length, length-append, getD, take, take-suc, length-take-le, sets}
+use Rattle.base.specs.Prelude.{ℕ, suc, zero, _+_, _*_, _≤_, _<_, arith, add-one, le-of-lt, _≡_, refl, ap, _∙_, List, [], _∷_, _++_}
+use Rattle.base.specs.Prelude.{append-assoc, length, length-append, getD, take, take-suc, length-take-le, sets}
 use Rattle.base.specs.Arrays.{sets-append}
 use Rattle.model.specs.Bytes.{bytes16}
 use Rattle.model.specs.Sheet.{EntryRun}
@@ -36,7 +37,8 @@ module _ (ms : List ℕ) (i : ℕ) (h : i < length ms) where
       sets (sets (sets s 4 (pairBytes (laidOut from (take i ms)))) (4 + 4 * i) (bytes16 (x .offset))) (6 + 4 * i) (bytes16 (x .size))
       ≡ sets s 4 (pairBytes (laidOut from (take (i + 1) ms)))
   pairs-more s from =
-      let e : length (pairBytes (laidOut from (take i ms))) ≡ 4 * i = simp (length-pairBytes, length-laidOut, length-take-le i ms (le-of-lt h)) in
+      let e : length (pairBytes (laidOut from (take i ms))) ≡ 4 * i = simp
+      (length-pairBytes, length-laidOut, length-take-le i ms (le-of-lt h)) in
       let size : 6 + 4 * i ≡ suc (suc (4 + 4 * i)) = omega arith in
       rw (taken-more, pairs-behind, sets-append, e, size)
 

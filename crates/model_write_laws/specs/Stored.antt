@@ -1,5 +1,6 @@
 -- A sheet that is stored part by part, and what the call then gives.
-use Rattle.base.specs.Prelude.{ℕ, zero, suc, _+_, _*_, _≤_, arith, zero-add, _≡_, refl, sym, _∙_, ap, List, _∷_, _++_, length, drop, set, sets, sets-eq}
+use Rattle.base.specs.Prelude.{ℕ, zero, suc, _+_, _*_, _≤_, arith, zero-add, _≡_, refl, sym, _∙_, ap, List, _∷_, _++_, length, drop, set}
+use Rattle.base.specs.Prelude.{sets, sets-eq}
 use Rattle.base.specs.Arrays.{sets-append}
 use Rattle.model_laws.specs.Types.{Caller, Limits}
 use Rattle.model.specs.Bytes.{bytes16}
@@ -12,7 +13,8 @@ use Rattle.model_write_laws.specs.Sizes.{length-laidOut, length-pairByte
 module _ (n L : ℕ) (es ms out : List ℕ) where
   -- The header, the pairs and the entries stored one behind another: the sheet, and the rest of the output as it was.
   pub sheet-stored : length (sheetOf n L es ms) ≤ length out →
-      sets (sets (sets (set (set out 0 n) 1 (length ms)) 2 (bytes16 L)) 4 (pairBytes (laidOut (4 + 4 * length ms) ms))) (4 + 4 * length ms) es
+      sets (sets (sets (set (set out 0 n) 1 (length ms)) 2 (bytes16 L)) 4 (pairBytes (laidOut (4 + 4 * length ms) ms)))
+      (4 + 4 * length ms) es
       ≡ sheetOf n L es ms ++ drop (length (sheetOf n L es ms)) out
   unfolding sheetOf
   sheet-stored fits =
@@ -43,4 +45,5 @@ pub exported : (caller : Caller) (n L : ℕ) (es ms out : List ℕ) (before : �
     → wrote a after ≡ writeResult (limitsOf caller) n L es ms out → size ≡ sizeLeft a before
     → exportOf (a .code) after size ≡ writeExport caller n L es ms out before
 unfolding writeExport
-exported caller n L es ms out before e s = rw s (ap (λ (w : WriteResult). exportOf (w .answer .code) (w .buffer) (sizeLeft (w .answer) before)) e)
+exported caller n L es ms out before e s = rw s (ap (λ (w : WriteResult). exportOf (w .answer .code) (w .buffer)
+    (sizeLeft (w .answer) before)) e)

@@ -13,8 +13,8 @@ fn minus(a: usize, b: usize) -> usize
     if b < a { a - b } else { 0 }
 }
 
-// 01, "One turn at a time", gate: a process that is told to lead reads the register of the next round, if there is one. The limit is read first, as in
-// 02, wish 5; where no round is left, no register is read, whatever the hint.
+// 01, "One turn at a time", gate: a process that is told to lead reads the register of the next round, if there is one. The limit is read
+// first, as in 02, wish 5; where no round is left, no register is read, whatever the hint.
 fn waiting_access(limit: usize, round: usize, leader: bool) -> Access
     ensures { λ r. ⌜ r ≡ phaseAccess limit round Phase.Waiting leader ⌝ }
 {

@@ -1,4 +1,5 @@
--- Document 01, "Turn sheets": "Kinds: 0 propose (any value), 1 work (value 0 is hint no, 1 is yes), 2 look (0), 3 crash (0)", as the largest value of each.
+-- Document 01, "Turn sheets": "Kinds: 0 propose (any value), 1 work (value 0 is hint no, 1 is yes), 2 look (0), 3 crash (0)", as the
+-- largest value of each.
 use Rattle.base.specs.Prelude.{ℕ, zero, suc, _<_, _≤_, arith, _≡_, refl, false, not, List, [], _∷_, getD, leb, le-leb, lt-leb, eqb, ne-eqb}
 use Rattle.model.specs.declared.Operation.the-variants.{Step}
 use Rattle.model.specs.declared.Entry.the-variants.{WellFormed, Malformed}
@@ -32,4 +33,9 @@ formed-largest (suc (suc (suc (suc k)))) p v known low = absurd (omega arith)
 -- There is no other kind.
 pub formed-unknown : (kind p v : ℕ) → (kind < 4 → ⊥) → not (isMalformed (entryOf kind p v)) ≡ false
 formed-unknown kind p v other =
-    rw (ne-eqb kind 0 (λ e. omega arith), ne-eqb kind 1 (λ e. omega arith), ne-eqb kind 2 (λ e. omega arith), ne-eqb kind 3 (λ e. omega arith))
+    rw (
+      ne-eqb kind 0 (λ e. omega arith),
+      ne-eqb kind 1 (λ e. omega arith),
+      ne-eqb kind 2 (λ e. omega arith),
+      ne-eqb kind 3 (λ e. omega arith),
+    )

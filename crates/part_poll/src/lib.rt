@@ -39,7 +39,8 @@ fn failed(left: Phase) -> Phase
     }
 }
 
-// The phase after a turn, by the phase before it and the one that a session's turn leaves. 02, wish 6: "its turn at commit answers committed".
+// The phase after a turn, by the phase before it and the one that a session's turn leaves. 02, wish 6: "its turn at commit answers
+// committed".
 fn ending(before: Phase, left: Phase) -> Phase
     ensures { λ r. ⌜ r ≡ endingOf before left ⌝ }
 {

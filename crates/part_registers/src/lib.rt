@@ -4,8 +4,8 @@ ghost use Rattle.model.specs.Step.{bit as bitOf};
 ghost use Rattle.model_laws.specs.Registers.{slot as slotOf, valueIn, markIn, valuesAfter, marksAfter};
 use model::Access;
 
-// The index of the register of round r: r - 1 for the rounds 1 to 256. For any other number it is some index, so that no caller is asked for
-// anything; it compiles to two instructions.
+// The index of the register of round r: r - 1 for the rounds 1 to 256. For any other number it is some index, so that no caller is asked
+// for anything; it compiles to two instructions.
 fn slot(r: usize) -> usize
     ensures { λ i. ⌜ i ≡ slotOf r ⌝ }
 {

@@ -1,4 +1,5 @@
--- The search for the rounded-up root of n, by the sum s of the first m odd numbers: for the loop of `window`, with any n as its end. Assumes nothing.
+-- The search for the rounded-up root of n, by the sum s of the first m odd numbers: for the loop of `window`, with any n as its end.
+-- Assumes nothing.
 use Rattle.base.specs.Prelude.{ℕ, suc, zero, _+_, _*_, _-_, _≤_, _<_, _≡_, refl, add-one, arith, le-leb, lt-leb}
 use Rattle.base.specs.Squares.{oddSum, odd-sum-square, le-square}
 use Rattle.model.specs.Window.{rootFrom}

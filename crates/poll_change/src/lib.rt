@@ -1,4 +1,5 @@
-// The operations on a poll that are those of a session, with a poll's soundness for 3 (02, wish 6: "Numbers 1, 3 to 8 and 16 in the sessions' order").
+// The operations on a poll that are those of a session, with a poll's soundness for 3 (02, wish 6: "Numbers 1, 3 to 8 and 16 in the
+// sessions' order").
 ghost use mathlib.Core.Path.{_≡_};
 ghost use Rattle.model_poll.specs.Public.{pollPropose, pollCrash, pollRecord};
 use model::Changed;

@@ -4,8 +4,8 @@ ghost use Rattle.model_poll.specs.Machine.{pollOpening};
 use model::Caller;
 use model::Changed;
 
-// 02, wish 6: "A poll has L = W." A session with that limit; 1 alone refuses it. More processes than the caller's limit (02, wish 9) are refused whatever
-// the round limit.
+// 02, wish 6: "A poll has L = W." A session with that limit; 1 alone refuses it. More processes than the caller's limit (02, wish 9) are
+// refused whatever the round limit.
 pub fn open(caller: Caller, n: usize) -> Changed
     ensures { λ r. ⌜ r ≡ pollOpening caller n ⌝ }
 {

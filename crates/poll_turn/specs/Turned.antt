@@ -1,13 +1,15 @@
 -- What the code leaves after a turn of a sound poll is what the machine leaves; i is the index of process p. Assumes nothing.
 use Rattle.base.specs.Prelude.{ℕ, _<_, _≡_, refl, sym, _∙_, ap, Bool, true, List, set, length, getD, getD-set-same}
-use Rattle.model_laws.specs.Types.{Access, Nothing, ReadValue, WriteValue, ReadMark, SetMark, ReadDecision, WriteDecision, Process, Session, Counts}
+use Rattle.model_laws.specs.Types.{Access, Nothing, ReadValue, WriteValue, ReadMark, SetMark, ReadDecision, WriteDecision, Process, Session}
+use Rattle.model_laws.specs.Types.{Counts}
 use Rattle.model.specs.Board.{processAt, idle, with, maxRounds}
 use Rattle.model.specs.Step.{access, counted}
 use Rattle.model_laws.specs.Ranges.{InRange}
 use Rattle.model_poll.specs.Turn.{withoutDecision, pollAccess, pollNext, answerOf}
 use Rattle.model_poll.specs.Machine.{turnAfter, turnCounts}
 use Rattle.model_poll.specs.declared.Answer.{Answer}
-use Rattle.model_laws.specs.Registers.{valueIn, markIn, valuesAfter, marksAfter, decisionAfter, NoLook, step-no-look, turn-counts, turn-leaves}
+use Rattle.model_laws.specs.Registers.{valueIn, markIn, valuesAfter, marksAfter, decisionAfter, NoLook, step-no-look, turn-counts}
+use Rattle.model_laws.specs.Registers.{turn-leaves}
 
 -- No turn reads D, and none writes it.
 quiet-look : (a : Access) → NoLook a → NoLook (withoutDecision a)
@@ -44,7 +46,8 @@ module _ (s : Session) (p : ℕ) {i v x : ℕ} {a : Access} (ok : InRange maxRou
   unfolding turnCounts
   turned-counts c = turn-counts s p (pollAccess (s .limit)) (no-look (s .limit) (processAt s p)) ok ei ea er ex c
 
-  pub turned-poll : (W : ℕ) {values : List ℕ} {marks : List Bool} {q : Process} → values ≡ valuesAfter (s .values) a (processAt s i .estimate) →
+  pub turned-poll : (W : ℕ) {values : List ℕ} {marks : List Bool} {q : Process} →
+      values ≡ valuesAfter (s .values) a (processAt s i .estimate) →
       marks ≡ marksAfter (s .marks) a → q ≡ pollNext W (s .limit) (processAt s i) x →
       with s values marks (s .decision) (set (s .processes) i q) ≡ turnAfter W s p
   unfolding turnAfter

@@ -9,8 +9,8 @@ use model_poll::PollStepped;
 use part_registers::mark;
 use part_registers::value;
 
-// 02, wish 6: "Each worker walks the same steps, ending with round W": one register operation, what the process becomes by the value read, and the
-// answer that it then has. i is p wherever the call is accepted: where it is not, the tests refuse.
+// 02, wish 6: "Each worker walks the same steps, ending with round W": one register operation, what the process becomes by the value read,
+// and the answer that it then has. i is p wherever the call is accepted: where it is not, the tests refuse.
 pub fn turn(s: Session, p: usize, c: Counts) -> PollStepped
     ensures { λ r. ⌜ r ≡ pollTurn s p c ⌝ }
 {

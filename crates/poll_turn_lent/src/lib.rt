@@ -1,5 +1,5 @@
-// A turn of a poll (02, wish 6), with the counts lent (01: "The caller lends its tally, which a turn updates where it stands"). A refused call leaves
-// the counts as they were, by the same equation.
+// A turn of a poll (02, wish 6), with the counts lent (01: "The caller lends its tally, which a turn updates where it stands"). A refused
+// call leaves the counts as they were, by the same equation.
 ghost use mathlib.Core.Path.{_≡_};
 ghost use Rattle.model_poll.specs.Public.{pollTurn, withLent};
 use model::Counts;

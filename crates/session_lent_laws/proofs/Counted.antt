@@ -35,11 +35,14 @@ abbrev pub lent : Row 1
 lent = reference Ct.the-type Ct′.the-laws
 
 -- what is known of an answer is known of its counts, and of the rest of it
-pub counts-of : (x : Stepped) → Is St.the-row x (LL.vals St.the-type St′.the-laws x) → Is Ct.the-row (x .counts) (LL.vals Ct.the-type Ct′.the-laws (x .counts))
+pub counts-of : (x : Stepped) → Is St.the-row x (LL.vals St.the-type St′.the-laws x) →
+    Is Ct.the-row (x .counts) (LL.vals Ct.the-type Ct′.the-laws (x .counts))
 counts-of x is = LL.owed St.the-type St′.the-laws x _ is .1 .1 .0
 
-pub rest-of : (x : Stepped) → Is St.the-row x (LL.vals St.the-type St′.the-laws x) → Is Ch.the-row (withoutCounts x) (LL.vals Ch.the-type Ch′.the-laws (withoutCounts x))
-rest-of x is = let known = LL.owed St.the-type St′.the-laws x _ is in LL.owes Ch.the-type Ch′.the-laws (withoutCounts x) (known .0, (known .1 .0, tt))
+pub rest-of : (x : Stepped) → Is St.the-row x (LL.vals St.the-type St′.the-laws x) →
+    Is Ch.the-row (withoutCounts x) (LL.vals Ch.the-type Ch′.the-laws (withoutCounts x))
+rest-of x is = let known = LL.owed St.the-type St′.the-laws x _ is in LL.owes Ch.the-type Ch′.the-laws (withoutCounts x)
+    (known .0, (known .1 .0, tt))
 
 -- an operation on a process that takes the counts: its answer; and one that is lent them: its answer, and the counts that it leaves
 abbrev pub takes-counts : (gives : Row 0) → ((κs : Lfts 0) → Session → ℕ → Counts → gives .row κs .Denot) → Promise 0
@@ -50,7 +53,8 @@ takes-counts gives answer = record {
   ends = λ κs a. (tt, (tt, (tt, tt)));
 }
 
-abbrev pub lent-counts : (gives : Row 1) → ((κs : Lfts 1) → Session → ℕ → Counts → gives .row κs .Denot) → (Session → ℕ → Counts → Counts) → Promise 1
+abbrev pub lent-counts : (gives : Row 1) → ((κs : Lfts 1) → Session → ℕ → Counts → gives .row κs .Denot) →
+    (Session → ℕ → Counts → Counts) → Promise 1
 lent-counts gives answer leaves = record {
   takes = session ∷ uint w64 ∷ lent ∷ [];
   gives = gives;

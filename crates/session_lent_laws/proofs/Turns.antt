@@ -21,11 +21,14 @@ module _ {n : ℕ} where
   polled = struct (λ κs. Po.the-type) (λ κs. Po′.the-laws) (λ κs x w. refl)
 
 -- what is known of an answer is known of its counts, and of the rest of it
-pub counts-of : (x : PollStepped) → Is St.the-row x (LL.vals St.the-type St′.the-laws x) → Is Ct.the-row (x .counts) (LL.vals Ct.the-type Ct′.the-laws (x .counts))
+pub counts-of : (x : PollStepped) → Is St.the-row x (LL.vals St.the-type St′.the-laws x) →
+    Is Ct.the-row (x .counts) (LL.vals Ct.the-type Ct′.the-laws (x .counts))
 counts-of x is = LL.owed St.the-type St′.the-laws x _ is .1 .1 .0
 
-pub rest-of : (x : PollStepped) → Is St.the-row x (LL.vals St.the-type St′.the-laws x) → Is Po.the-row (withoutLent x) (LL.vals Po.the-type Po′.the-laws (withoutLent x))
-rest-of x is = let known = LL.owed St.the-type St′.the-laws x _ is in LL.owes Po.the-type Po′.the-laws (withoutLent x) (known .0, (known .1 .0, (known .1 .1 .1 .0, tt)))
+pub rest-of : (x : PollStepped) → Is St.the-row x (LL.vals St.the-type St′.the-laws x) →
+    Is Po.the-row (withoutLent x) (LL.vals Po.the-type Po′.the-laws (withoutLent x))
+rest-of x is = let known = LL.owed St.the-type St′.the-laws x _ is in LL.owes Po.the-type Po′.the-laws (withoutLent x)
+    (known .0, (known .1 .0, (known .1 .1 .1 .0, tt)))
 
 abbrev pub turns : Promise 0
 turns = takes-counts stepped (λ κs. pollTurn)

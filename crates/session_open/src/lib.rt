@@ -8,8 +8,8 @@ use model::Changed;
 use model::numbers::BAD_PROCESS_COUNT;
 use model::numbers::BAD_ROUND_LIMIT;
 
-// 01, "Numbers returned", opening: 1, 2, within the caller's limits (02, wish 9: "1 and 2 speak of the caller's limits"); 0 for no refusal, here and
-// below.
+// 01, "Numbers returned", opening: 1, 2, within the caller's limits (02, wish 9: "1 and 2 speak of the caller's limits"); 0 for no refusal,
+// here and below.
 pub fn open_refusal(caller: Caller, n: usize, limit: usize) -> u32
     ensures { λ r. ⌜ r ≡ refusal (openTests (limitsOf caller) n limit) ⌝ }
 {

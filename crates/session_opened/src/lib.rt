@@ -29,8 +29,9 @@ pub fn opened(n: usize, limit: usize) -> Session
     }
 }
 
-// 01, "The board and the seats": "Seats n: 1 to 64", "Round limit L: W to 256". 02, wish 9: "A cart runs the same library with at most 16 seats and 64
-// rounds; the server stays at 64 and 256." The one place of the code where a caller's limits stand. (Soundness tests what a session holds.)
+// 01, "The board and the seats": "Seats n: 1 to 64", "Round limit L: W to 256". 02, wish 9: "A cart runs the same library with at most 16
+// seats and 64 rounds; the server stays at 64 and 256." The one place of the code where a caller's limits stand. (Soundness tests what a
+// session holds.)
 pub fn limits_of(caller: Caller) -> Limits
     ensures { λ r. ⌜ r ≡ limitsOf caller ⌝ }
 {

@@ -23,8 +23,8 @@ fn no_record(code: u32) -> ProcessAnswer
     }
 }
 
-// "Standing values": ".. a seat's record". 3, then 4 for a process n or above. 02, wish 6: "Seats are read out as in sessions", of polls, where 3
-// is by a poll's soundness.
+// "Standing values": ".. a seat's record". 3, then 4 for a process n or above. 02, wish 6: "Seats are read out as in sessions", of polls,
+// where 3 is by a poll's soundness.
 pub fn process_record_as(poll: bool, s: Session, p: usize) -> ProcessAnswer
     ensures { λ r. ⌜ r ≡ processRecordAs poll s p ⌝ }
 {

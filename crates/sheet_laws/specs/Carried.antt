@@ -1,7 +1,9 @@
 -- What the runner's loop keeps, and the laws of its turns.
-use Rattle.base.specs.Prelude.{ℕ, suc, zero, _+_, _-_, _≤_, _<_, arith, add-one, _≡_, refl, sym, _∙_, subst₃, Bool, true, false, cond, _||_, true≢false, List, _∷_, length, leb, ne-eqb, leb-true, leb-false, lt-leb}
+use Rattle.base.specs.Prelude.{ℕ, suc, zero, _+_, _-_, _≤_, _<_, arith, add-one, _≡_, refl, sym, _∙_, subst₃, Bool, true, false, cond, _||_}
+use Rattle.base.specs.Prelude.{true≢false, List, _∷_, length, leb, ne-eqb, leb-true, leb-false, lt-leb}
 use Rattle.base.specs.Bools.{cond-cases}
-use Rattle.model_laws.specs.Types.{Caller, Limits, Access, Session, Counts, Operation, Entry, WellFormed, Malformed, Finished, Refused, BudgetEnded, Rejected, Ran}
+use Rattle.model_laws.specs.Types.{Caller, Limits, Access, Session, Counts, Operation, Entry, WellFormed, Malformed, Finished, Refused}
+use Rattle.model_laws.specs.Types.{BudgetEnded, Rejected, Ran}
 use Rattle.model.specs.Window.{window}
 use Rattle.model.specs.Board.{limitsOf, UpToServer, processAt, opened, noCounts}
 use Rattle.model.specs.Step.{found, counted}
@@ -37,7 +39,8 @@ pub record Begun (t : List ℕ) (W : ℕ) (s : Session) : Type 0 where
 -- ---- the start of a run
 
 -- An accepted sheet opens a sound session, within limits up to the server's.
-pub sheet-opens : (most : Limits) → UpToServer most → (t : List ℕ) {W : ℕ} {s : Session} → sheetRefusal most t ≡ 0 → W ≡ window (processCount t) →
+pub sheet-opens : (most : Limits) → UpToServer most → (t : List ℕ) {W : ℕ} {s : Session} → sheetRefusal most t ≡ 0 →
+    W ≡ window (processCount t) →
     s ≡ opened (processCount t) (roundLimit t) → Begun t W s
 unfolding opened
 sheet-opens most up t e ew es =
@@ -61,7 +64,8 @@ run-rejected caller t budget zero e some = absurd (some refl)
 run-rejected caller t budget (suc r) e some = rw (← e)
 
 -- An accepted one.
-pub run-accepted : (caller : Caller) (t : List ℕ) (budget : ℕ) {W : ℕ} → W ≡ window (processCount t) → sheetRefusal (limitsOf caller) t ≡ 0 →
+pub run-accepted : (caller : Caller) (t : List ℕ) (budget : ℕ) {W : ℕ} → W ≡ window (processCount t) →
+    sheetRefusal (limitsOf caller) t ≡ 0 →
     runFrom W budget 0 (opened (processCount t) (roundLimit t)) noCounts (entries t) ≡ run caller t budget
 unfolding run runWithin
 run-accepted caller t budget ew e = rw (e, ew)
@@ -150,7 +154,8 @@ module _ {answer : Ran} {t : List ℕ} {budget W : ℕ} {s : Session} {c : Count
 
     -- "that next one is not tried", or it is refused with this number.
     ended : (code : ℕ) → (k < budget → answer ≡ ran k s c (Refused code k)) → answer ≡ ran k s c (haltOf budget k code)
-    ended code refused = cond-cases (λ x. answer ≡ ran k s c x) (leb budget k) (λ b. spent (leb-true budget k b)) (λ b. refused (leb-false budget k b))
+    ended code refused = cond-cases (λ x. answer ≡ ran k s c x) (leb budget k) (λ b. spent (leb-true budget k b))
+        (λ b. refused (leb-false budget k b))
 
   -- An entry that says nothing.
   pub malformed : handed t place ≡ Next Malformed → answer ≡ ran k s c (haltOf budget k badEntry)

@@ -1,8 +1,10 @@
--- One entry as the runner's code takes it: a work turn has a path of its own, and of the others each is a refusal, a register operation and,
--- where the record changes, what the process becomes. The laws say that this is what the machine does.
-use Rattle.base.specs.Prelude.{ℕ, _<_, _≤_, arith, _≡_, refl, sym, _∙_, ap, Bool, true, false, cond, not, true≢false, List, set, leb, eqb, le-leb, lt-leb, not-false}
+-- One entry as the runner's code takes it: a work turn has a path of its own, and of the others each is a refusal, a register operation
+-- and, where the record changes, what the process becomes. The laws say that this is what the machine does.
+use Rattle.base.specs.Prelude.{ℕ, _<_, _≤_, arith, _≡_, refl, sym, _∙_, ap, Bool, true, false, cond, not, true≢false, List, set, leb, eqb}
+use Rattle.base.specs.Prelude.{le-leb, lt-leb, not-false}
 use lib.Seq.{set-getD}
-use Rattle.model_laws.specs.Types.{Phase, Waiting, Crashed, Access, Nothing, ReadDecision, Process, Session, Counts, Operation, Propose, Step, Learn, Crash, Ending, BudgetEnded, Refused}
+use Rattle.model_laws.specs.Types.{Phase, Waiting, Crashed, Access, Nothing, ReadDecision, Process, Session, Counts, Operation, Propose}
+use Rattle.model_laws.specs.Types.{Step, Learn, Crash, Ending, BudgetEnded, Refused}
 use Rattle.model.specs.Board.{processAt, with, withProcess, idle}
 use Rattle.model.specs.Step.{access, next, learnt, found, stored, turn, counted, process}
 use Rattle.model.specs.Numbers.{noSuchProcess}
@@ -59,11 +61,13 @@ module _ (s : Session) (c : Counts) (o : Operation) where
   number-refusal high = rw (tests-are s c o, le-leb (s .n) (processOf o) high)
 
 -- The refusal of a work turn.
-pub step-refusal : (φ : Phase) (c : Counts) {o : Operation} {p : ℕ} {leader : Bool} → o ≡ Step p leader → refusal (stepTests φ c) ≡ refusal (ownTests φ c o)
+pub step-refusal : (φ : Phase) (c : Counts) {o : Operation} {p : ℕ} {leader : Bool} → o ≡ Step p leader →
+    refusal (stepTests φ c) ≡ refusal (ownTests φ c o)
 step-refusal φ c told = rw told
 
 -- What the code leaves after a work turn of a sound session, register by register.
-pub step-leaves : (W : ℕ) (s : Session) (p : ℕ) (leader : Bool) {o : Operation} {m v x y : ℕ} {a : Access} {values : List ℕ} {marks : List Bool} {q : Process} →
+pub step-leaves : (W : ℕ) (s : Session) (p : ℕ)
+    (leader : Bool) {o : Operation} {m v x y : ℕ} {a : Access} {values : List ℕ} {marks : List Bool} {q : Process} →
     soundFor W s ≡ true →
     o ≡ Step m leader →
     p ≡ processOf o →

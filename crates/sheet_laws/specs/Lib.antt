@@ -1,4 +1,5 @@
--- Places in a sheet, and laws about them; what is said of a reader; one entry as the runner's code takes it, and what the runner's loop keeps.
+-- Places in a sheet, and laws about them; what is said of a reader; one entry as the runner's code takes it, and what the runner's loop
+-- keeps.
 pub mod Places
 pub mod PlaceLaws
 pub mod Ordered

@@ -1,5 +1,6 @@
 -- Document 01, "Turn sheets": the reader hands out the sheet's entries, each once and in their order.
-use Rattle.base.specs.Prelude.{ℕ, suc, zero, _+_, _-_, _*_, _/_, _%_, _≤_, _<_, add-one, suc-sub-suc, sub-zero, arith, _≡_, refl, sym, subst, _∙_, Bool, true, false, cond, true≢false, List, [], _∷_, leb, leb-true, leb-false}
+use Rattle.base.specs.Prelude.{ℕ, suc, zero, _+_, _-_, _*_, _/_, _%_, _≤_, _<_, add-one, suc-sub-suc, sub-zero, arith, _≡_, refl, sym}
+use Rattle.base.specs.Prelude.{subst, _∙_, Bool, true, false, cond, true≢false, List, [], _∷_, leb, leb-true, leb-false}
 use Rattle.base.specs.Bools.{cond-cases}
 use Rattle.model.specs.declared.Entry.{Entry}
 use Rattle.model.specs.Sheet.{runAt, runCount, runsFrom, entryAt, entriesAt, entriesOf, entries}

@@ -29,4 +29,5 @@ module _ (s : List ℕ) (p : ℕ) where
   next-run h =
       let q = decode p in
       let f : q .left - 1 < 1 = omega arith in
-      cond-cases (λ r. encode (settled s r) ≡ encode (openFrom s (q .run) (runCount s - q .run))) (hasEntry q) (λ e. rw (lt-leb 1 _ f)) (λ e. rw e)
+      cond-cases (λ r. encode (settled s r) ≡ encode (openFrom s (q .run) (runCount s - q .run))) (hasEntry q) (λ e. rw (lt-leb 1 _ f))
+      (λ e. rw e)

@@ -37,8 +37,8 @@ fn put_entries(entries: &[u8], at: usize, sheet: &mut [u8])
     }
 }
 
-// Writes a sheet of the given entries, cut into runs of the given lengths, from the first byte of the output on, within the caller's limits (02, wish
-// 9); answers its size. Refused, the output is as it was.
+// Writes a sheet of the given entries, cut into runs of the given lengths, from the first byte of the output on, within the caller's limits
+// (02, wish 9); answers its size. Refused, the output is as it was.
 pub fn write(
     caller: Caller,
     n: usize,

@@ -1,4 +1,5 @@
-// The refusal of what is to be written as a sheet. 02, wish 3: "Order: 1, 2, 12 for the entry buffer, 17, 13, then 15 if the output is too short."
+// The refusal of what is to be written as a sheet. 02, wish 3: "Order: 1, 2, 12 for the entry buffer, 17, 13, then 15 if the output is too
+// short."
 ghost use mathlib.Core.Path.{_≡_};
 ghost use mathlib.Core.Bool.{_&&_};
 ghost use Prim.Native.Nat.{_+_, _*_, _/_, min};

@@ -47,8 +47,8 @@ fn learn(s: Session, p: usize, c: Counts) -> Session
     answer.session
 }
 
-// Operations 0 to 5, whose answers hold a session: each is kept, as a caller keeps it. The calls are made on the same session, so that each is
-// accepted; here and below one register is filled before each call, so that no call is the same as the one before.
+// Operations 0 to 5, whose answers hold a session: each is kept, as a caller keeps it. The calls are made on the same session, so that each
+// is accepted; here and below one register is filled before each call, so that no call is the same as the one before.
 fn changed(operation: u8, count: u32, start: Session) -> u32 {
     let mut s = start;
     let mut after = start;

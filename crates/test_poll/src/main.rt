@@ -1,8 +1,8 @@
-// Polls (02, wish 6) run from a list of operations, and what each call answers. Standard input: polls one after another. Each is a byte that names the
-// caller (02, wish 9), 0 the server and any other the cart; a byte, n; 16 bits, the number of its operations, low byte first; and its operations of six
-// bytes, kind, seat and a number of 32 bits. Kinds: 0 proposal of the number, 1 turn, 2 crash; any other is the read-out of the seat's record as a
-// session's. Each poll has a tally of its own. Standard output: a line for the opening and for each operation, with its refusal's number or 0 and a turn's
-// answer; then the tally, the registers and the seats.
+// Polls (02, wish 6) run from a list of operations, and what each call answers. Standard input: polls one after another. Each is a byte
+// that names the caller (02, wish 9), 0 the server and any other the cart; a byte, n; 16 bits, the number of its operations, low byte
+// first; and its operations of six bytes, kind, seat and a number of 32 bits. Kinds: 0 proposal of the number, 1 turn, 2 crash; any other
+// is the read-out of the seat's record as a session's. Each poll has a tally of its own. Standard output: a line for the opening and for
+// each operation, with its refusal's number or 0 and a turn's answer; then the tally, the registers and the seats.
 ghost use mathlib.Core.Path.{_≡_};
 ghost use Prim.Native.Nat.{_+_, _*_, _≤_, _<_};
 use io::write_all;

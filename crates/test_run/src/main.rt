@@ -1,8 +1,7 @@
-// A sheet run under a budget (01, "Turn sheets": the runner), and the standing values of the session that it leaves. Standard input: a byte that
-// names the caller (02, wish 9), 0 the server and any other the cart, the budget, 32 bits, and the buffer's places, 16 bits, low byte first, and
-// then the sheet. Standard output, two lines: the C entry's number,
-// the entries carried out, and the reads, the writes and the contested writes; then the read-out's number, its count, and the numbers in
-// the buffer's places after it.
+// A sheet run under a budget (01, "Turn sheets": the runner), and the standing values of the session that it leaves. Standard input: a byte
+// that names the caller (02, wish 9), 0 the server and any other the cart, the budget, 32 bits, and the buffer's places, 16 bits, low byte
+// first, and then the sheet. Standard output, two lines: the C entry's number, the entries carried out, and the reads, the writes and the
+// contested writes; then the read-out's number, its count, and the numbers in the buffer's places after it.
 ghost use mathlib.Core.Path.{_≡_};
 ghost use Prim.Native.Nat.{_≤_};
 ghost use Rattle.model.specs.Export.{endingCode};

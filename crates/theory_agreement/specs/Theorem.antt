@@ -41,7 +41,8 @@ never-unsound {m = m} i f e = never-three m (f .counts) (f .operation) (sym (ste
 
 -- A list of calls follows the machine: each is answered as the machine answers, and the session at the end is the machine's.
 pub sessions-followed : (w : ℕ → ℕ) {n L : ℕ} {start : Session} {cs : List SessionCall} {s : Session} → 1 ≤ w n →
-    Reached false (w n) n L start [] → RunWith w start cs s → EachAsTheMachine (sessions (w n)) start cs × (s ≡ machine (sessions (w n)) start (inputs cs))
+    Reached false (w n) n L start [] → RunWith w start cs s →
+    EachAsTheMachine (sessions (w n)) start cs × (s ≡ machine (sessions (w n)) start (inputs cs))
 sessions-followed w {n} {L} wide =
     followed (sessions (w n)) (Reached false (w n) n L) (λ s h f. operation-reached wide f)
     (λ s h f i. (promised-operate (w (s .n)) s (f .counts) (f .operation) ∙ operates-as w i f, never-unsound i f))

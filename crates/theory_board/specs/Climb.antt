@@ -1,5 +1,6 @@
 -- The way up to the round that a process takes part in: from waiting, through the scan, to a write or an adoption.
-use Rattle.base.specs.Prelude.{ℕ, _+_, _-_, _≤_, _<_, _≡_, _∙_, sym, cond, List, ltb, eqb, ltb-false, eqb-true, eqb-false, by-cases, add-assoc, decLe, arith}
+use Rattle.base.specs.Prelude.{ℕ, _+_, _-_, _≤_, _<_, _≡_, _∙_, sym, cond, List, ltb, eqb, ltb-false, eqb-true, eqb-false, by-cases}
+use Rattle.base.specs.Prelude.{add-assoc, decLe, arith}
 use Rattle.model_laws.specs.Types.{Phase, Write, Scan, Adopt, Compare, Waiting}
 use Rattle.model.specs.Step.{process}
 use Rattle.model_rule.specs.Event.{Event, Proposed, Written}
@@ -15,7 +16,8 @@ walked-passed : {W p r v : ℕ} {h : List Event} → Walked W p r v h → top h 
 walked-passed x e = record { written = written-fresh (x .written) (omega arith); compared = x .compared e }
 
 -- The next register is blank: the process will write to it.
-write-placed : {W n : ℕ} (p r v : ℕ) {h : List Event} → Lawful W n h → Placed W p r v Waiting h → last h (r + 1) ≡ 0 → Placed W p (r + 1) v Write h
+write-placed : {W n : ℕ} (p r v : ℕ) {h : List Event} → Lawful W n h → Placed W p r v Waiting h → last h (r + 1) ≡ 0 →
+    Placed W p (r + 1) v Write h
 write-placed p r v {h} l a z =
     let low : top h < r + 1 = blank-above l (r + 1) (omega arith) z in
     let reached : r ≤ top h = by-cases (decLe 1 r) (λ y. wrote-round (a y .written .1)) (λ y. omega arith) in (

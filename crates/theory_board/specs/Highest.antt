@@ -1,5 +1,6 @@
 -- The highest filled round of a session is the highest written round of its past, and no mark stands above it.
-use Rattle.base.specs.Prelude.{ℕ, suc, _+_, min, _≤_, _<_, arith, unary-clauses, _≡_, refl, sym, _∙_, true, List, [], _∷_, getD, eqb, eqb-true, eqb-false}
+use Rattle.base.specs.Prelude.{ℕ, suc, _+_, min, _≤_, _<_, arith, unary-clauses, _≡_, refl, sym, _∙_, true, List, [], _∷_, getD, eqb}
+use Rattle.base.specs.Prelude.{eqb-true, eqb-false}
 use Rattle.base.specs.Bools.{cond-cases}
 use Rattle.model.specs.declared.Session.{Session}
 use Rattle.model.specs.Board.{markAt, highestFrom, highestFilled}

@@ -1,5 +1,5 @@
--- The invariant of a session and its past, and the one lemma by which every operation keeps it. Nothing here says that the session is sound:
--- that stands beside it (`perform-sound`).
+-- The invariant of a session and its past, and the one lemma by which every operation keeps it. Nothing here says that the session is
+-- sound: that stands beside it (`perform-sound`).
 use Rattle.base.specs.Prelude.{ℕ, _<_, arith, ℕ-discrete, _≡_, List, _++_, length-set, getD-set-same, getD-set-other}
 use Rattle.model_laws.specs.Types.{Access, Process, Session}
 use Rattle.model.specs.Board.{processAt, idle}

@@ -1,5 +1,5 @@
--- The past of the machine, by epochs, and what is true of it; what a process' place in its walk tells of the past; what a session and the past
--- of the machine that came to it have in common; that each operation keeps it, and each list of them; contested and the marked rounds.
+-- The past of the machine, by epochs, and what is true of it; what a process' place in its walk tells of the past; what a session and the
+-- past of the machine that came to it have in common; that each operation keeps it, and each list of them; contested and the marked rounds.
 pub mod Epoch
 pub mod Past
 pub mod Registers

@@ -1,6 +1,8 @@
 -- Contested and the number of marked rounds: mark by mark, in one operation of a session or a poll, and in a list of calls on one tally.
-use Rattle.base.specs.Prelude.{ℕ, suc, zero, _+_, _-_, _≤_, _<_, arith, _≡_, refl, Bool, true, false, List, [], _∷_, ℕ-discrete, length, getD, set, getD-set-same, getD-set-other}
-use Rattle.model_laws.specs.Types.{Access, Nothing, ReadValue, WriteValue, ReadMark, SetMark, ReadDecision, WriteDecision, Session, Counts, Operation, Process}
+use Rattle.base.specs.Prelude.{ℕ, suc, zero, _+_, _-_, _≤_, _<_, arith, _≡_, refl, Bool, true, false, List, [], _∷_, ℕ-discrete, length}
+use Rattle.base.specs.Prelude.{getD, set, getD-set-same, getD-set-other}
+use Rattle.model_laws.specs.Types.{Access, Nothing, ReadValue, WriteValue, ReadMark, SetMark, ReadDecision, WriteDecision, Session, Counts}
+use Rattle.model_laws.specs.Types.{Operation, Process}
 use Rattle.model.specs.Board.{processAt, opened, maxRounds}
 use Rattle.model.specs.Step.{bit, found, stored, turn, newlyMarked, counted}
 use Rattle.model.specs.Refusal.{refusal, tests, stepped}
@@ -24,7 +26,8 @@ module _ (marks : List Bool) (i : ℕ) where
       rw (marked-above m (omega arith), getD-set-other marks i m true false (λ e. omega arith))
 
   -- It is one of them: one more, if it stood unmarked.
-  pub marked-set : (m : ℕ) → i < length marks → i < m → markedTo (set marks i true) m ≡ markedTo marks m + newlyMarked (bit (getD marks i false))
+  pub marked-set : (m : ℕ) → i < length marks → i < m → markedTo (set marks i true) m
+      ≡ markedTo marks m + newlyMarked (bit (getD marks i false))
   marked-set zero low h = absurd (omega arith)
   marked-set (suc m) low h =
       elim (ℕ-discrete m i) [

@@ -1,5 +1,6 @@
 -- The registers of a session are what the past wrote; one register operation with its event keeps this.
-use Rattle.base.specs.Prelude.{ℕ, _-_, _≤_, arith, ℕ-discrete, _≡_, refl, sym, _∙_, ap, Bool, true, false, cond, List, _∷_, length, getD, set, length-set, getD-set-same, getD-set-other, eqb, eqb-true, eqb-false, eq-eqb, ne-eqb}
+use Rattle.base.specs.Prelude.{ℕ, _-_, _≤_, arith, ℕ-discrete, _≡_, refl, sym, _∙_, ap, Bool, true, false, cond, List, _∷_, length, getD}
+use Rattle.base.specs.Prelude.{set, length-set, getD-set-same, getD-set-other, eqb, eqb-true, eqb-false, eq-eqb, ne-eqb}
 use Rattle.base.specs.Bools.{cond-cases}
 use Rattle.model_laws.specs.Types.{Access, Nothing, ReadValue, WriteValue, ReadMark, SetMark, ReadDecision, WriteDecision, Session}
 use Rattle.model.specs.Board.{valueAt, markAt}

@@ -1,6 +1,8 @@
 -- Each accepted operation of the machine, at any window, keeps the invariant: the one lemma, applied.
-use Rattle.base.specs.Prelude.{ℕ, zero, suc, _-_, _≡_, refl, sym, _∙_, Bool, true, false, true≢false, List, [], _∷_, _++_, not, not-false, arith}
-use Rattle.model_laws.specs.Types.{Phase, Idle, Waiting, Write, Scan, Adopt, Compare, Flag, CheckMark, CheckValue, Commit, Exhausted, Crashed, Decided, HasCommitted, HasAdopted, Session, Counts, Operation, Propose, Step, Learn, Crash}
+use Rattle.base.specs.Prelude.{ℕ, zero, suc, _-_, _≡_, refl, sym, _∙_, Bool, true, false, true≢false, List, [], _∷_, _++_, not, not-false}
+use Rattle.base.specs.Prelude.{arith}
+use Rattle.model_laws.specs.Types.{Phase, Idle, Waiting, Write, Scan, Adopt, Compare, Flag, CheckMark, CheckValue, Commit, Exhausted}
+use Rattle.model_laws.specs.Types.{Crashed, Decided, HasCommitted, HasAdopted, Session, Counts, Operation, Propose, Step, Learn, Crash}
 use Rattle.model.specs.Board.{processAt}
 use Rattle.model.specs.Step.{phaseAccess, access, found, stored}
 use Rattle.model.specs.Refusal.{status, isOutside, isGone}
@@ -80,8 +82,10 @@ module _ {W : ℕ} {s : Session} {h : List Event} (i : Invariant W s h) (c : Cou
       (i .stands p) (found-matches s (access (s .limit) q leader) h range (i .matches)))
   operation-invariant (Learn p) one a =
       let look =
-      learnt-stands (not-decided (λ φ. isGone (status φ)) refl (a .own .1 .0)) (i .stands p) (i .lawful) (s .decision) (i .matches .decision) in
-      turn-invariant i p _ _ (lookEvents p (s .decision)) (a .below) (i .long, look-matches p (s .decision) (i .matches)) (look .0) (look .1)
+      learnt-stands (not-decided (λ φ. isGone (status φ)) refl (a .own .1 .0)) (i .stands p) (i .lawful) (s .decision)
+      (i .matches .decision) in
+      turn-invariant i p _ _ (lookEvents p (s .decision)) (a .below) (i .long, look-matches p (s .decision) (i .matches)) (look .0)
+      (look .1)
       (look .2)
   operation-invariant (Crash p) one a =
       turn-invariant i p _ _ [] (a .below) (i .long, i .matches) (i .lawful) (λ o ne. tt)

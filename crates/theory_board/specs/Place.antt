@@ -1,6 +1,8 @@
 -- What the phase, round and estimate of a process tell of the past.
 use Rattle.base.specs.Prelude.{ℕ, suc, _+_, _≤_, _<_, _≡_, false, List}
-use Rattle.model_laws.specs.Types.{Phase, Idle, Waiting, Write, Scan, Adopt, Compare, Flag, CheckMark, CheckValue, Commit, Exhausted, Crashed, Decided, HasCommitted, HasAdopted, Process, Access, Nothing, ReadValue, WriteValue, ReadMark, SetMark, ReadDecision, WriteDecision}
+use Rattle.model_laws.specs.Types.{Phase, Idle, Waiting, Write, Scan, Adopt, Compare, Flag, CheckMark, CheckValue, Commit, Exhausted}
+use Rattle.model_laws.specs.Types.{Crashed, Decided, HasCommitted, HasAdopted, Process, Access, Nothing, ReadValue, WriteValue, ReadMark}
+use Rattle.model_laws.specs.Types.{SetMark, ReadDecision, WriteDecision}
 use Rattle.model.specs.Refusal.{status, isOutside}
 use Rattle.model_rule.specs.Event.{Event, commit, Happened, Proposed, Written, DecidedOn}
 use Rattle.theory_board.specs.Epoch.{top, last, Wrote, Flagged, ComparedBy, PassedBy}

@@ -1,4 +1,5 @@
--- What is known of a session, or a poll, that the machine came to, and that one operation keeps it. (An operation of a poll: `theory_poll`.)
+-- What is known of a session, or a poll, that the machine came to, and that one operation keeps it. (An operation of a poll:
+-- `theory_poll`.)
 use Rattle.base.specs.Prelude.{ℕ, suc, zero, _≤_, _≡_, refl, _∙_, Bool, true, false, List, [], _++_}
 use Rattle.model_laws.specs.Types.{Session, Counts, Operation}
 use Rattle.model.specs.Board.{processAt, opened, maxProcesses, maxRounds}

@@ -1,5 +1,6 @@
 -- The walk of a round: the comparisons and the flags, and what they come to.
-use Rattle.base.specs.Prelude.{ℕ, _+_, _-_, _≤_, min, _≡_, _∙_, refl, sym, cond, List, _∷_, inl, inr, by-cases, ltb, leb, eqb, ltb-false, eqb-true, decLt, arith}
+use Rattle.base.specs.Prelude.{ℕ, _+_, _-_, _≤_, min, _≡_, _∙_, refl, sym, cond, List, _∷_, inl, inr, by-cases, ltb, leb, eqb, ltb-false}
+use Rattle.base.specs.Prelude.{eqb-true, decLt, arith}
 use Rattle.model_laws.specs.Types.{Phase, Compare, Flag}
 use Rattle.model.specs.Step.{goOn}
 use Rattle.model_rule.specs.Event.{Event, flag}
@@ -47,4 +48,5 @@ compare-placed W p r v i x h a e =
 pub flag-placed : (W p r v i : ℕ) (h : List Event) → Placed W p r v (Flag i) h → Placed W p r v (goOn W r i) (flag (r - i) ∷ h)
 flag-placed W p r v i h a =
     go-on-placed W p r v i (flag (r - i) ∷ h)
-    (walked-more (walked-event (λ r′ w e. let z : _≡_ {A = ℕ} 0 1 = cc in omega arith) a) (λ e. inl (top h, omega arith, record { before = h; past = here; epoch = refl })))
+    (walked-more (walked-event (λ r′ w e. let z : _≡_ {A = ℕ} 0 1 = cc in omega arith) a)
+    (λ e. inl (top h, omega arith, record { before = h; past = here; epoch = refl })))

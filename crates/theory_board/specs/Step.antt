@@ -1,6 +1,7 @@
 -- A step of a process: what it adds to the past is lawful, and the process stands where its new phase tells.
 use Rattle.base.specs.Prelude.{ℕ, _-_, _<_, _≡_, Bool, false, List, [], _∷_, _++_, arith}
-use Rattle.model_laws.specs.Types.{Phase, Idle, Waiting, Write, Scan, Adopt, Compare, Flag, CheckMark, CheckValue, Commit, Exhausted, Crashed, Decided, HasCommitted, HasAdopted, Process}
+use Rattle.model_laws.specs.Types.{Phase, Idle, Waiting, Write, Scan, Adopt, Compare, Flag, CheckMark, CheckValue, Commit, Exhausted}
+use Rattle.model_laws.specs.Types.{Crashed, Decided, HasCommitted, HasAdopted, Process}
 use Rattle.model.specs.Step.{phaseAccess, access, phaseNext, next, process}
 use Rattle.model.specs.Refusal.{status, isOutside}
 use Rattle.model_laws.specs.Phases.{PhaseSound}
@@ -35,7 +36,10 @@ step-placed {W} L p r v (Compare i) leader x {h} s l b a f = (b, compare-placed 
 step-placed {W} L p r v (Flag i) leader x {h} s l b a f = (happened-past (there here) b, flag-placed W p r v i h a)
 step-placed {W} L p r v (CheckMark i) leader x {h} s l b a f = (b, check-mark-placed W p r v i x h a f)
 step-placed {W} L p r v (CheckValue i) leader x {h} s l b a f = (b, check-value-placed W p r v i x h a)
-step-placed L p r v Commit leader x s l b a f = (happened-past (there here) b, λ c. walked-event (λ r′ w e. let z : _≡_ {A = ℕ} 0 1 = cc in omega arith) (a .0))
+step-placed L p r v Commit leader x s l b a f = (
+  happened-past (there here) b,
+  λ c. walked-event (λ r′ w e. let z : _≡_ {A = ℕ} 0 1 = cc in omega arith) (a .0),
+)
 step-placed L p r v Exhausted leader x s l b a f = (b, tt)
 step-placed L p r v Crashed leader x s l b a f = (b, tt)
 step-placed L p r v Decided leader x s l b a f = (b, a)
@@ -98,7 +102,8 @@ step-older x p r v φ {h} other =
 
 -- A process that is not decided stands, after its step, where it should.
 pub step-stands : {W n : ℕ} (L p : ℕ) (q : Process) (leader : Bool) (x : ℕ) {h : List Event} → (q .phase ≡ Decided → ⊥) →
-    isOutside (status (q .phase)) ≡ false → PhaseSound W L (q .round) (q .phase) → Lawful W n h → Stands W p q h → Found h (access L q leader) x →
+    isOutside (status (q .phase)) ≡ false → PhaseSound W L (q .round) (q .phase) → Lawful W n h → Stands W p q h →
+    Found h (access L q leader) x →
     Stands W p (next W L q leader x) (stepEvents p (q .round) (q .estimate) (q .phase) ++ h)
 unfolding access next
 step-stands L p q leader x {h} not inside s l a f =

@@ -25,7 +25,8 @@ same-write lawful a b low low′ =
       | inr older ↦ let same = not-newer lawful b a older low in (cc, cc, cc)
     ]
 
--- A grid with s rows, the registers down from m, and the epochs up from m for its columns: a process made the write at one place of it only.
+-- A grid with s rows, the registers down from m, and the epochs up from m for its columns: a process made the write at one place of it
+-- only.
 pub grid-once : {W n p w w′ : ℕ} {h : List Event} → Lawful W n h → (s m : ℕ) → 0 < s → s ≤ m → (t t′ : ℕ) →
     Wrote p (m - t % s) w (m + t / s) h → Wrote p (m - t′ % s) w′ (m + t′ / s) h → t ≡ t′
 grid-once lawful s m some low t t′ a b =

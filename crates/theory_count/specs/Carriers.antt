@@ -1,5 +1,5 @@
--- The processes that carry a value to the register above the middle of the window, and the last writers of the epoch before: of two values, one is
--- carried by none of these.
+-- The processes that carry a value to the register above the middle of the window, and the last writers of the epoch before: of two values,
+-- one is carried by none of these.
 use Rattle.base.specs.Prelude.{ℕ, suc, zero, _+_, _*_, _≤_, _<_, arith, _≡_, refl, sym, _∙_, subst, List, _∷_, inl, inr, ⊎-elim}
 use Rattle.model_rule.specs.Event.{Event, write, Past, Written}
 use Rattle.theory_board.specs.Epoch.{top, last, Wrote, HeldBy}
@@ -22,7 +22,11 @@ carried-twice {h = h} i j rivals written other differ inside low below =
           (λ same. absurd (differ (sym (a .holds) ∙ same ∙ b .holds)))
           (λ s.
           let e = top (write (s .0) j (last (a .moment) j) ∷ s .1) in
-          let wrote : Wrote (s .0) j (last (a .moment) j) e h = record { before = s .1; past = past-trans (s .3) (a .past); epoch = refl } in (
+          let wrote : Wrote (s .0) j (last (a .moment) j) e h = record {
+            before = s .1;
+            past = past-trans (s .3) (a .past);
+            epoch = refl;
+          } in (
             s .0,
             e,
             omega (arith, b .epoch, top-le (s .2)),
@@ -82,7 +86,11 @@ module _
         elim (pass .compared i (omega arith) (row .1) (omega arith)) [
           | inl contested ↦
               let late = rivals .committed .unflagged i (contested .0) (omega arith) (row .0)
-              (record { before = contested .2 .before; past = past-trans (contested .2 .past) (past-before (w .past)); epoch = contested .2 .epoch }) in
+              (record {
+                before = contested .2 .before;
+                past = past-trans (contested .2 .past) (past-before (w .past));
+                epoch = contested .2 .epoch;
+              }) in
               absurd (omega arith)
           | inr held ↦ (
             held .moment,

@@ -1,5 +1,6 @@
 -- The end of an epoch: the longest older part of a past in which no higher round is written, and the newest write to a register in a past.
-use Rattle.base.specs.Prelude.{ℕ, _≤_, arith, ℕ-discrete, _≡_, refl, sym, _∙_, ap, cond, List, [], _∷_, _⊎_, inl, inr, ⊎-elim, leb, eqb, leb-true, leb-false, le-leb, eq-eqb}
+use Rattle.base.specs.Prelude.{ℕ, _≤_, arith, ℕ-discrete, _≡_, refl, sym, _∙_, ap, cond, List, [], _∷_, _⊎_, inl, inr, ⊎-elim, leb, eqb}
+use Rattle.base.specs.Prelude.{leb-true, leb-false, le-leb, eq-eqb}
 use Rattle.base.specs.Bools.{cond-cases}
 use Rattle.model_rule.specs.Event.{Event, proposal, write, flag, commit, decision, Past}
 use Rattle.model_rule.specs.Event.Past.{here, there}
@@ -68,7 +69,8 @@ newest-write (there {e = commit r v} q) = newest-event (λ q w e. let z : _≡_ 
 newest-write (there {e = decision o v} q) = newest-event (λ q w e. let z : _≡_ {A = ℕ} 0 1 = cc in omega arith) (newest-write q)
 
 -- From the newest write on the register holds its value.
-pub newest-holds : {j : ℕ} {g : List Event} (n : Newest j g) {a : List Event} → Past (write (n .process) j (n .value) ∷ n .before) a → Past a g →
+pub newest-holds : {j : ℕ} {g : List Event} (n : Newest j g) {a : List Event} → Past (write (n .process) j (n .value) ∷ n .before) a →
+    Past a g →
     last a j ≡ n .value
 newest-holds {j} n since until =
     ⊎-elim

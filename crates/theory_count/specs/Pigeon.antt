@@ -37,7 +37,8 @@ spare-hole n (suc m) q In low place once never =
     omega arith
 
 -- As many holes as numbers, at least: where each of m numbers has a hole below n of its own.
-pub holes : (n m : ℕ) (In : ℕ → ℕ → Type 0) → ((t : ℕ) → t < m → (p : ℕ) × (p < n) × In t p) → ((t u p : ℕ) → In t p → In u p → t ≡ u) → m ≤ n
+pub holes : (n m : ℕ) (In : ℕ → ℕ → Type 0) → ((t : ℕ) → t < m → (p : ℕ) × (p < n) × In t p) → ((t u p : ℕ) → In t p → In u p → t ≡ u) →
+    m ≤ n
 holes n zero In place once = omega arith
 holes n (suc m) In place once =
     let last = place m (omega arith) in

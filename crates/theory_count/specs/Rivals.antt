@@ -29,8 +29,8 @@ pub record Rivals (W n R u v : ℕ) (h : List Event) : Type 0 where
 abbrev pub Cell : (v : ℕ) (h : List Event) (i j p : ℕ) → Type 0
 Cell v h i j p = (w : ℕ) × Wrote p j w i h × (i ≡ j → w ≡ v → ⊥)
 
--- A value written to register R was held by each register of the window in each epoch from its own up to R, since no round of the window was flagged
--- before epoch R.
+-- A value written to register R was held by each register of the window in each epoch from its own up to R, since no round of the window
+-- was flagged before epoch R.
 pub held-at : {W n R u v w : ℕ} {h : List Event} (i j : ℕ) → Rivals W n R u v h → Written R w h → R < j + W → j ≤ i → i < R → Held i j w h
 held-at i j rivals written inside low below =
     let window = rivals .committed .window in
@@ -46,9 +46,11 @@ pub cell : {W n R u v : ℕ} {h : List Event} (i j : ℕ) → Rivals W n R u v h
 cell {u = u} i j rivals inside low below =
     let window = rivals .committed .window in
     elim (ℕ-discrete i j) [
-      | yes same ↦ let w = walked {i = i} (rivals .lawful) (rivals .written) (omega arith) below .written in rw (← same) (w .0, (u, w .1, λ e. rivals .differ))
+      | yes same ↦ let w = walked {i = i} (rivals .lawful) (rivals .written) (omega arith) below .written in rw (← same)
+          (w .0, (u, w .1, λ e. rivals .differ))
       | no apart ↦
           let w =
-          two-values (held-at i j rivals (rivals .written) inside low below) (held-at i j rivals (rivals .committed .written) inside low below) (rivals .differ) in
+          two-values (held-at i j rivals (rivals .written) inside low below)
+          (held-at i j rivals (rivals .committed .written) inside low below) (rivals .differ) in
           (w .0, (w .1, w .2, λ e. absurd (apart e)))
     ]

@@ -1,5 +1,6 @@
 -- The sharp count: beside the writes of the grid, the processes that carry one of the two values to the register above it.
-use Rattle.base.specs.Prelude.{ℕ, suc, zero, _+_, _*_, _-_, _/_, _%_, _≤_, _<_, arith, ℕ-discrete, decLe, decLt, mod-lt, div-lt-iff-lt-mul, _≡_, refl, sym, List, _⊎_, inl, inr}
+use Rattle.base.specs.Prelude.{ℕ, suc, zero, _+_, _*_, _-_, _/_, _%_, _≤_, _<_, arith, ℕ-discrete, decLe, decLt, mod-lt, div-lt-iff-lt-mul}
+use Rattle.base.specs.Prelude.{_≡_, refl, sym, List, _⊎_, inl, inr}
 use Rattle.model_rule.specs.Event.{Event, Written}
 use Rattle.theory_board.specs.Epoch.{Wrote}
 use Rattle.theory_board.specs.Lawful.{lawful-at}

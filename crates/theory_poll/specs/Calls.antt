@@ -16,7 +16,8 @@ use Rattle.model_poll.specs.Machine.{PollOperation, proposes, turns, crashes, t
 use Rattle.model_poll.specs.Public.{pollTurnFor}
 use Rattle.model_rule.specs.PollCalls.{polls, PollCall, pollPromisedFor, PollRunWith}
 use Rattle.model_rule.specs.PollRule.{Gave}
-use Rattle.model_poll_laws.specs.Performs.{pollProcessOf, pollBecomes, perform-cases, others-stay, own-becomes, accepted-below, answered-stays, gives, turn-gives}
+use Rattle.model_poll_laws.specs.Performs.{pollProcessOf, pollBecomes, perform-cases, others-stay, own-becomes, accepted-below}
+use Rattle.model_poll_laws.specs.Performs.{answered-stays, gives, turn-gives}
 use Rattle.theory_board.specs.Step.{step-older}
 use Rattle.theory_board.specs.Lists.{followed}
 use Rattle.theory_board.specs.Reached.{Reached}
@@ -25,7 +26,8 @@ use Rattle.theory_poll.specs.Machine.{poll-operation-reached, poll-reach
 -- ---- the calls follow the machine
 
 -- What a call on a sound poll answers is what the machine answers.
-promised-performs : (W : ℕ) (s : Session) (c : Counts) (o : PollOperation) → soundForAs true W s ≡ true → pollPromisedFor W s c o ≡ pollPerform W s c o
+promised-performs : (W : ℕ) (s : Session) (c : Counts) (o : PollOperation) → soundForAs true W s ≡ true →
+    pollPromisedFor W s c o ≡ pollPerform W s c o
 unfolding pollPerform pollTurnFor turned
 promised-performs W s c (proposes p v) ok = ap unanswered (propose-counts true W s c p v ∙ operate-sound true W s c (Propose p v) ok)
 promised-performs W s c (turns p) ok = rw ok refl
@@ -46,7 +48,8 @@ never-unsound W s c (turns p) e =
     omega (arith, returned 3 (turnTests s c p) (omega arith) (sym (stepped-code _ s _ _ _) ∙ e) .0)
 never-unsound W s c (crashes p) e = never-three s c (Crash p) (sym (stepped-code _ s _ _ _) ∙ e)
 
-pub polls-followed : (w : ℕ → ℕ) {n : ℕ} {start : Session} {cs : List PollCall} {s : Session} → 1 ≤ w n → Reached true (w n) n (w n) start [] →
+pub polls-followed : (w : ℕ → ℕ) {n : ℕ} {start : Session} {cs : List PollCall} {s : Session} → 1 ≤ w n →
+    Reached true (w n) n (w n) start [] →
     PollRunWith w start cs s → EachAsTheMachine (polls (w n)) start cs × (s ≡ machine (polls (w n)) start (inputs cs))
 polls-followed w {n} wide =
     followed (polls (w n)) (Reached true (w n) n (w n)) (λ s h f. poll-operation-reached wide f)
@@ -55,8 +58,10 @@ polls-followed w {n} wide =
 -- ---- the answers
 
 -- A call of the list that gave an answer is a turn, and its process has that answer still.
-pub held : (W : ℕ) (start : Session) {c : PollCall} {older cs : List PollCall} (v : ℕ) → EachAsTheMachine (polls W) start cs → Past (c ∷ older) cs →
-    Carries (c .answer .answer) v → (p : ℕ) × (c .input .operation ≡ turns p) × (answerOf (processAt (machine (polls W) start (inputs cs)) p) ≡ c .answer .answer)
+pub held : (W : ℕ) (start : Session) {c : PollCall} {older cs : List PollCall} (v : ℕ) → EachAsTheMachine (polls W) start cs →
+    Past (c ∷ older) cs →
+    Carries (c .answer .answer) v → (p : ℕ) × (c .input .operation ≡ turns p)
+    × (answerOf (processAt (machine (polls W) start (inputs cs)) p) ≡ c .answer .answer)
 held W start {c} {older} v each here has =
     let m = machine (polls W) start (inputs older) in
     let same = ap (λ (x : PollStepped). x .answer) (each .0) in
@@ -65,16 +70,19 @@ held W start {c} {older} v each here has =
 held W start v each (there {e = d} {h = cs} stood) has =
     let m = machine (polls W) start (inputs cs) in
     let h = held W start v (each .2) stood has in
-    let still = answered-stays W m (d .input .counts) (d .input .operation) (h .0) v (subst (λ (a : Answer). Carries a v) (sym (h .2)) has) in
+    let still = answered-stays W m (d .input .counts) (d .input .operation) (h .0) v
+    (subst (λ (a : Answer). Carries a v) (sym (h .2)) has) in
     (h .0, h .1, ap answerOf still ∙ h .2)
 
 -- The events of an accepted turn.
-turn-events : (W : ℕ) (m : Session) (f : Input PollOperation) (p : ℕ) → f .operation ≡ turns p → pollPerform W m (f .counts) (f .operation) .code ≡ 0 →
+turn-events : (W : ℕ) (m : Session) (f : Input PollOperation) (p : ℕ) → f .operation ≡ turns p →
+    pollPerform W m (f .counts) (f .operation) .code ≡ 0 →
     let q = processAt m p in events (polls W) m f ≡ stepEvents p (q .round) (q .estimate) (q .phase)
 turn-events W m f p own accepted = rw (accepted, own) refl
 
 -- The answer of the newest call is of a value that was proposed before it.
-newest-proposed : {W n : ℕ} {start : Session} → 1 ≤ W → Reached true W n W start [] → (f : Input PollOperation) (fs : List (Input PollOperation)) (v : ℕ) →
+newest-proposed : {W n : ℕ} {start : Session} → 1 ≤ W → Reached true W n W start [] →
+    (f : Input PollOperation) (fs : List (Input PollOperation)) (v : ℕ) →
     Carries (pollPerform W (machine (polls W) start fs) (f .counts) (f .operation) .answer) v → Proposed v (past (polls W) start fs)
 newest-proposed {W} {n} {start} wide i f fs v has =
     let m = machine (polls W) start fs in
@@ -85,8 +93,10 @@ newest-proposed {W} {n} {start} wide i f fs v has =
     (subst (λ (es : List Event). Proposed v (es ++ past (polls W) start fs)) (turn-events W m f (g .0) (g .1) (g .2)) known)
 
 -- "Each answer was proposed", by an accepted call before it.
-pub answers-proposed : {W n : ℕ} {start : Session} {c : PollCall} {older cs : List PollCall} → 1 ≤ W → Reached true W n W start [] → (v : ℕ) →
-    EachAsTheMachine (polls W) start cs → Past (c ∷ older) cs → Carries (c .answer .answer) v → Proposed v (past (polls W) start (inputs older))
+pub answers-proposed : {W n : ℕ} {start : Session} {c : PollCall} {older cs : List PollCall} → 1 ≤ W → Reached true W n W start [] →
+    (v : ℕ) →
+    EachAsTheMachine (polls W) start cs → Past (c ∷ older) cs → Carries (c .answer .answer) v →
+    Proposed v (past (polls W) start (inputs older))
 answers-proposed {c = c} {older = older} wide i v each here has =
     newest-proposed wide i (c .input) (inputs older) v
     (subst (λ (a : Answer). Carries a v) (ap (λ (x : PollStepped). x .answer) (each .0)) has)
@@ -100,7 +110,8 @@ new-answer : {W n : ℕ} {m : Session} {h : List Event} → Reached true W n W m
     (answerOf (processAt m p) ≡ answerOf (processAt (pollPerform W m c o .session) p)) ⊎ ((o ≡ turns p) × (pollPerform W m c o .code ≡ 0))
 unfolding answerOf
 new-answer {W} {n} {m} i c o p v =
-    perform-cases (λ k t. Carries (answerOf (processAt t p)) v → (answerOf (processAt m p) ≡ answerOf (processAt t p)) ⊎ ((o ≡ turns p) × (k ≡ 0))) W m c o
+    perform-cases (λ k t. Carries (answerOf (processAt t p)) v →
+    (answerOf (processAt m p) ≡ answerOf (processAt t p)) ⊎ ((o ≡ turns p) × (k ≡ 0))) W m c o
     (λ a has.
     elim (ℕ-discrete p (pollProcessOf o)) [
       | yes e ↦
@@ -126,7 +137,8 @@ abbrev pub Fresh : Session → Type 0
 Fresh start = (p : ℕ) → processAt start p ≡ idle
 
 -- A record shows an answer only if a turn of its process gave it.
-pub shown-given : {W n : ℕ} {start : Session} → 1 ≤ W → Reached true W n W start [] → Fresh start → (cs : List PollCall) → EachAsTheMachine (polls W) start cs →
+pub shown-given : {W n : ℕ} {start : Session} → 1 ≤ W → Reached true W n W start [] → Fresh start → (cs : List PollCall) →
+    EachAsTheMachine (polls W) start cs →
     (p v : ℕ) → let a = answerOf (processAt (machine (polls W) start (inputs cs)) p) in Carries a v → Gave p a cs
 unfolding answerOf
 shown-given {W} {n} {start} wide i fresh [] each p v has = absurd (rw (fresh p) at has)

@@ -24,10 +24,12 @@ use Rattle.theory_count.specs.Agreed.{agreed}
 use Rattle.theory_poll.specs.Turn.{turn-kept}
 
 -- An accepted operation.
-accepted-poll : {W n : ℕ} {s : Session} {h : List Event} → 1 ≤ W → (c : Counts) (o : PollOperation) → Reached true W n W s h → PollAccepted s c o →
+accepted-poll : {W n : ℕ} {s : Session} {h : List Event} → 1 ≤ W → (c : Counts) (o : PollOperation) → Reached true W n W s h →
+    PollAccepted s c o →
     Reached true W n W (pollAfter W s o) (pollEventsOf s o ++ h)
 accepted-poll {W} {n} {s} wide c (proposes p v) i a =
-    accepted-reached i c (Propose p v) a (poll-process W s (i .sound) p (accepted-here s c (proposes p v) a)) (proposed-sound W s (i .sound) wide c p v a)
+    accepted-reached i c (Propose p v) a (poll-process W s (i .sound) p (accepted-here s c (proposes p v) a))
+    (proposed-sound W s (i .sound) wide c p v a)
 accepted-poll {W} {n} {s} wide c (turns p) i a =
     let sound = turn-after-sound W s (i .sound) wide p (a .below) (a .inside) (a .here) in
     record {
@@ -63,7 +65,8 @@ module _ {W n : ℕ} {s : Session} {h : List Event} (i : Reached true W n W s h)
   q = processAt s p
 
   -- The phase is one of the two, the round is W, and the estimate is v.
-  phase-is : (φ : Phase) → q .phase ≡ φ → isOutside (status φ) ≡ false → (soundPhaseAs true W (s .limit) (q .round) φ ≡ true → q .round ≡ W) → q .estimate ≡ v →
+  phase-is : (φ : Phase) → q .phase ≡ φ → isOutside (status φ) ≡ false →
+      (soundPhaseAs true W (s .limit) (q .round) φ ≡ true → q .round ≡ W) → q .estimate ≡ v →
       Proposed v h × Placed W p W v φ h
   phase-is φ e o rule same =
       let inside : isOutside (status (q .phase)) ≡ false = rw e o in
@@ -77,7 +80,8 @@ module _ {W n : ℕ} {s : Session} {h : List Event} (i : Reached true W n W s h)
   answer-known =
       let a = answer-cases (q .phase) (q .estimate) v has in
       ⊎-elim
-      (λ e. let k = phase-is HasCommitted e refl (λ t. eqb-true (q .round) W t) (a .1) in (k .0, commit-lawful (i .invariant .lawful) (k .1) .written))
+      (λ e. let k = phase-is HasCommitted e refl (λ t. eqb-true (q .round) W t)
+      (a .1) in (k .0, commit-lawful (i .invariant .lawful) (k .1) .written))
       (λ e. phase-is HasAdopted e refl (λ t. eqb-true (q .round) W t) (a .1))
       (a .0)
 
@@ -95,4 +99,5 @@ module _ {W n : ℕ} {s : Session} {h : List Event} (i : Reached true W n W s h)
 pub answers-agree : {W n : ℕ} {s : Session} {h : List Event} → Reached true W n W s h → 2 ≤ W → n < threshold W → (p q u v : ℕ) →
     answerOf (processAt s p) ≡ Commits v → Carries (answerOf (processAt s q)) u → u ≡ v
 answers-agree {W} {n} {s} {h} i wide few p q u v e has =
-    agreed W (s .n) h wide (rw (i .size) few) (i .invariant .lawful) (answer-committed i p v (rw e refl) e) (answer-known i q u has .1) (omega arith)
+    agreed W (s .n) h wide (rw (i .size) few) (i .invariant .lawful) (answer-committed i p v (rw e refl) e) (answer-known i q u has .1)
+    (omega arith)

@@ -1,5 +1,6 @@
 -- One pass: the turns that each process took, by where it stands.
-use Rattle.base.specs.Prelude.{ℕ, suc, _≤_, _<_, arith, _≡_, refl, sym, ap, ℕ-discrete, true, false, cond, _&&_, List, [], _∷_, not-false, eqb, eq-eqb, ne-eqb}
+use Rattle.base.specs.Prelude.{ℕ, suc, _≤_, _<_, arith, _≡_, refl, sym, ap, ℕ-discrete, true, false, cond, _&&_, List, [], _∷_, not-false}
+use Rattle.base.specs.Prelude.{eqb, eq-eqb, ne-eqb}
 use Rattle.model_laws.specs.Types.{Session, Counts, Process}
 use Rattle.model.specs.declared.Status.the-variants.{Active}
 use Rattle.model.specs.Board.{processAt}
@@ -13,7 +14,8 @@ use Rattle.model_poll.specs.Machine.{PollOperation, proposes, turns, crashes, p
 use Rattle.model_rule.specs.System.{inputs, machine, EachAsTheMachine}
 use Rattle.model_rule.specs.PollCalls.{polls, PollCall, isTurnOf, turnsOf}
 use Rattle.model_poll_laws.specs.Sounds.{as-session, round-rule, poll-limit}
-use Rattle.model_poll_laws.specs.Performs.{PollAccepted, pollProcessOf, pollBecomes, perform-cases, others-stay, own-becomes, accepted-below}
+use Rattle.model_poll_laws.specs.Performs.{PollAccepted, pollProcessOf, pollBecomes, perform-cases, others-stay, own-becomes}
+use Rattle.model_poll_laws.specs.Performs.{accepted-below}
 use Rattle.model_poll_laws.specs.Pass.{Taken, taken-none, taken-low, taken-turn}
 use Rattle.theory_board.specs.Reached.{Reached}
 use Rattle.theory_poll.specs.Machine.{poll-reached}
@@ -66,9 +68,11 @@ module _ {W n : ℕ} {m : Session} {h : List Event} (i : Reached true W n W m h)
       (λ j. rw (ne-eqb (suc j) 0 (λ e. omega arith)) k)
 
 -- A list of calls.
-pub calls-taken : {W n : ℕ} {start : Session} → 1 ≤ W → Reached true W n W start [] → Fresh start → (cs : List PollCall) → EachAsTheMachine (polls W) start cs → (p : ℕ) →
+pub calls-taken : {W n : ℕ} {start : Session} → 1 ≤ W → Reached true W n W start [] → Fresh start → (cs : List PollCall) →
+    EachAsTheMachine (polls W) start cs → (p : ℕ) →
     TakenBy W (processAt (machine (polls W) start (inputs cs)) p) (turnsOf p cs)
 calls-taken wide i fresh [] each p = rw (fresh p) refl
 calls-taken {W} {n} {start} wide i fresh (c ∷ cs) each p =
     rw (ap (λ (x : PollStepped). x .code) (each .0))
-    (operation-taken (poll-reached wide i (inputs cs)) (c .input .counts) (c .input .operation) p (turnsOf p cs) (calls-taken wide i fresh cs (each .2) p))
+    (operation-taken (poll-reached wide i (inputs cs)) (c .input .counts) (c .input .operation) p (turnsOf p cs)
+    (calls-taken wide i fresh cs (each .2) p))

@@ -35,7 +35,8 @@ turns-of e = cc
 
 -- ---- of the machine, at any window W with 2 ≤ W and a threshold above n
 
-module _ {W n : ℕ} {start : Session} (wide : 2 ≤ W) (few : n < threshold W) (i : Reached true W n W start []) (fresh : Fresh start) (calm : AllCalm start []) (cs : List PollCall)
+module _ {W n : ℕ} {start : Session} (wide : 2 ≤ W) (few : n < threshold W) (i : Reached true W n W start []) (fresh : Fresh start)
+    (calm : AllCalm start []) (cs : List PollCall)
     (each : EachAsTheMachine (polls W) start cs) where
   abbrev m : Session
   m = machine (polls W) start (inputs cs)
@@ -68,7 +69,8 @@ module _ {W n : ℕ} {start : Session} (wide : 2 ≤ W) (few : n < threshold W) 
         unanimity =
             λ u v only stood has.
             let a = still u stood has in
-            sym (a .2) ∙ calm-answer here v only (machine-calm some i calm v (inputs cs) only) (a .0) u (subst (λ (x : Answer). Carries x u) (sym (a .2)) has);
+            sym (a .2) ∙ calm-answer here v only (machine-calm some i calm v (inputs cs) only) (a .0) u
+            (subst (λ (x : Answer). Carries x u) (sym (a .2)) has);
         kept = λ v gave has. kept-answer v gave has;
         shown = λ p v has. shown-given some i fresh cs each p v has;
         onePass = λ p. taken-pass here p _ (calls-taken some i fresh cs each p) .0;
@@ -123,7 +125,8 @@ unfolding pollPerform turned turnAfter turnCounts accessOf
 poll-reached-adds {W} {s = s} c (proposes p v) i = perform-adds s c (i .invariant .long .marks) W (Propose p v) tt
 poll-reached-adds {W} {s = s} c (turns p) i =
     turn-adds s c (i .invariant .long .marks) (refusal (turnTests s c p)) p _ _
-    (λ e. poll-access-range W (s .limit) (s .limit) (processAt s p) (omega arith) (poll-process W s (i .sound) p (turn-accepted s c p e .here)))
+    (λ e. poll-access-range W (s .limit) (s .limit) (processAt s p) (omega arith)
+    (poll-process W s (i .sound) p (turn-accepted s c p e .here)))
 poll-reached-adds {W} {s = s} c (crashes p) i = perform-adds s c (i .invariant .long .marks) W (Crash p) tt
 
 pub poll-contested : PollContestedRule

@@ -1,7 +1,9 @@
 -- A turn of a poll keeps the board's invariant: by the facts of a session's turn, at the two places that differ.
 use Rattle.base.specs.Prelude.{ℕ, _+_, _≤_, arith, _≡_, refl, true, List, _++_, eqb, ltb}
 use Rattle.base.specs.Bools.{cond-cases}
-use Rattle.model_laws.specs.Types.{Phase, Idle, Waiting, Write, Scan, Adopt, Compare, Flag, CheckMark, CheckValue, Commit, Exhausted, Crashed, Decided, HasCommitted, HasAdopted, Access, Nothing, ReadValue, WriteValue, ReadMark, SetMark, ReadDecision, WriteDecision, Session, Counts, Step}
+use Rattle.model_laws.specs.Types.{Phase, Idle, Waiting, Write, Scan, Adopt, Compare, Flag, CheckMark, CheckValue, Commit, Exhausted}
+use Rattle.model_laws.specs.Types.{Crashed, Decided, HasCommitted, HasAdopted, Access, Nothing, ReadValue, WriteValue, ReadMark, SetMark}
+use Rattle.model_laws.specs.Types.{ReadDecision, WriteDecision, Session, Counts, Step}
 use Rattle.model.specs.Board.{processAt}
 use Rattle.model.specs.Step.{access, next, phaseNext, found, stored, process}
 use Rattle.model.specs.Refusal.{status, isGone}
@@ -55,7 +57,8 @@ quiet-found s WriteDecision h ok k = tt
 -- Where a session's turn leads back to gate from the checks or from commit, the round was walked: its value was written.
 ends-placed : (W L p r v : ℕ) (φ : Phase) (x : ℕ) (h : List Event) → 1 ≤ W → PhaseSound W L r φ →
     let q = phaseNext W L r v φ true x in
-    RecordPlaced W p q (stepEvents p r v φ ++ h) → RecordPlaced W p (process (ending φ (q .phase)) (q .round) (q .estimate)) (stepEvents p r v φ ++ h)
+    RecordPlaced W p q (stepEvents p r v φ ++ h) → RecordPlaced W p (process (ending φ (q .phase)) (q .round) (q .estimate))
+    (stepEvents p r v φ ++ h)
 unfolding phaseNext ending
 ends-placed W L p r v Idle x h wide s a = a
 ends-placed W L p r v Waiting x h wide s a = a
@@ -74,7 +77,8 @@ ends-placed W L p r v (CheckMark i) x h wide s a = (
 ends-placed W L p r v (CheckValue i) x h wide s a = (
   a .0,
   cond-cases (λ (φ : Phase). Placed W p r v φ h → Placed W p r v (ending (CheckValue i) φ) h) (eqb x v)
-      (λ t. cond-cases (λ (φ : Phase). Placed W p r v φ h → Placed W p r v (ending (CheckValue i) φ) h) (ltb (i + 1) W) (λ u b. b) (λ u b. b))
+      (λ t. cond-cases (λ (φ : Phase). Placed W p r v φ h → Placed W p r v (ending (CheckValue i) φ) h) (ltb (i + 1) W) (λ u b. b)
+      (λ u b. b))
       (λ t b. b (omega arith) .written)
       (a .1),
 )
@@ -87,7 +91,8 @@ ends-placed W L p r v HasAdopted x h wide s a = a
 
 -- ---- the turn
 
-pub turn-kept : {W : ℕ} {s : Session} {h : List Event} → Invariant W s h → 1 ≤ W → soundForAs true W s ≡ true → (c : Counts) (p : ℕ) → TurnAccepted s c p →
+pub turn-kept : {W : ℕ} {s : Session} {h : List Event} → Invariant W s h → 1 ≤ W → soundForAs true W s ≡ true → (c : Counts) (p : ℕ) →
+    TurnAccepted s c p →
     let q = processAt s p in Invariant W (turnAfter W s p) (stepEvents p (q .round) (q .estimate) (q .phase) ++ h)
 unfolding turnAfter pollAccess pollNext next accessOf access
 turn-kept {W} {s} {h} i wide sound c p a =
@@ -110,5 +115,6 @@ turn-kept {W} {s} {h} i wide sound c p a =
           (step-placed (s .limit) p (q .round) (q .estimate) (q .phase) true _ (facts .phase) (i .lawful) (placed .0) (placed .1) found-is);
       decided =
           λ v d.
-          absurd (not-decided (λ φ. isGone (status φ)) refl (a .here) (i .stands p .decided v (step-older (decision p v) p (q .round) (q .estimate) (q .phase) (λ z. z) d) .0));
+          absurd (not-decided (λ φ. isGone (status φ)) refl (a .here)
+          (i .stands p .decided v (step-older (decision p v) p (q .round) (q .estimate) (q .phase) (λ z. z) d) .0));
     })

@@ -1,8 +1,10 @@
--- "If all proposals are v, every answer is committed v": then every register holds v or is blank, no process finds another value, no round is flagged, and
--- no check fails.
-use Rattle.base.specs.Prelude.{ℕ, _+_, _-_, _≤_, arith, _≡_, refl, sym, _∙_, min, ℕ-discrete, Bool, true, false, List, [], _∷_, _++_, ⊎-elim, eqb, ltb, leb, eq-eqb}
+-- "If all proposals are v, every answer is committed v": then every register holds v or is blank, no process finds another value, no round
+-- is flagged, and no check fails.
+use Rattle.base.specs.Prelude.{ℕ, _+_, _-_, _≤_, arith, _≡_, refl, sym, _∙_, min, ℕ-discrete, Bool, true, false, List, [], _∷_, _++_}
+use Rattle.base.specs.Prelude.{⊎-elim, eqb, ltb, leb, eq-eqb}
 use Rattle.base.specs.Bools.{cond-cases}
-use Rattle.model_laws.specs.Types.{Phase, Idle, Waiting, Write, Scan, Adopt, Compare, Flag, CheckMark, CheckValue, Commit, Exhausted, Crashed, Decided, HasCommitted, HasAdopted, Process, Session, Counts}
+use Rattle.model_laws.specs.Types.{Phase, Idle, Waiting, Write, Scan, Adopt, Compare, Flag, CheckMark, CheckValue, Commit, Exhausted}
+use Rattle.model_laws.specs.Types.{Crashed, Decided, HasCommitted, HasAdopted, Process, Session, Counts}
 use Rattle.model.specs.Board.{processAt, markAt, valueAt, idle, opened, maxProcesses}
 use Rattle.model.specs.Step.{waitingRule, access, phaseAccess, goOn, next, phaseNext, found, bit}
 use Rattle.model_laws.specs.Phases.{PhaseSound, process-facts}
@@ -24,7 +26,8 @@ use Rattle.model_poll.specs.Machine.{PollOperation, proposes, turns, crashes}
 use Rattle.model_rule.specs.PollCalls.{pollEventsOf, polls}
 use Rattle.model_poll_laws.specs.Answers.{TurnAccepted}
 use Rattle.model_poll_laws.specs.Sounds.{poll-process}
-use Rattle.model_poll_laws.specs.Performs.{PollAccepted, pollProcessOf, pollAfter, pollBecomes, perform-cases, others-stay, own-becomes, accepted-below, answer-cases}
+use Rattle.model_poll_laws.specs.Performs.{PollAccepted, pollProcessOf, pollAfter, pollBecomes, perform-cases, others-stay, own-becomes}
+use Rattle.model_poll_laws.specs.Performs.{accepted-below, answer-cases}
 use Rattle.theory_board.specs.Reached.{Reached}
 use Rattle.theory_poll.specs.Machine.{poll-reached, answer-known}
 
@@ -132,21 +135,27 @@ pub record AllCalm (s : Session) (h : List Event) : Type 0 where
   pub none : NoFlag h
 
 -- A turn of a calm poll.
-turn-calm : {W n : ℕ} {s : Session} {h : List Event} → Reached true W n W s h → 1 ≤ W → (v : ℕ) → Only v h → (c : Counts) (p : ℕ) → TurnAccepted s c p → AllCalm s h →
+turn-calm : {W n : ℕ} {s : Session} {h : List Event} → Reached true W n W s h → 1 ≤ W → (v : ℕ) → Only v h → (c : Counts) (p : ℕ) →
+    TurnAccepted s c p → AllCalm s h →
     Calm (pollBecomes W s (turns p) .phase)
 unfolding pollNext pollAccess access next
 turn-calm {W} {n} {s} {h} i wide v only c p a k =
     let q = processAt s p in
     let one = poll-process W s (i .sound) p (a .here) in
     let placed = i .invariant .stands p .placed (a .inside) in
-    calm-next (i .invariant) v only (k .none) wide (s .limit) p (q .round) (q .estimate) (q .phase) (process-facts W (s .limit) q one .phase) (placed .0) (placed .1)
+    calm-next (i .invariant) v only (k .none) wide (s .limit) p (q .round) (q .estimate) (q .phase)
+    (process-facts W (s .limit) q one .phase) (placed .0) (placed .1)
     (k .calm p)
 
 -- One operation: its own process becomes calm, and the others stay so.
-accepted-calm : {W n : ℕ} {s : Session} {h : List Event} → Reached true W n W s h → 1 ≤ W → (v : ℕ) → Only v h → (c : Counts) (o : PollOperation) →
+accepted-calm : {W n : ℕ} {s : Session} {h : List Event} → Reached true W n W s h → 1 ≤ W → (v : ℕ) → Only v h →
+    (c : Counts) (o : PollOperation) →
     PollAccepted s c o → AllCalm s h → AllCalm (pollAfter W s o) (pollEventsOf s o ++ h)
 accepted-calm {W} {n} {s} {h} i wide v only c o a k =
-    record { calm = λ p. elim (ℕ-discrete p (pollProcessOf o)) [ yes e ↦ rw e own | no ne ↦ rw (others-stay W s o p ne) (k .calm p) ]; none = unflagged o }
+    record {
+      calm = λ p. elim (ℕ-discrete p (pollProcessOf o)) [ yes e ↦ rw e own | no ne ↦ rw (others-stay W s o p ne) (k .calm p) ];
+      none = unflagged o;
+    }
   where
     becomes : (o : PollOperation) → PollAccepted s c o → Calm (pollBecomes W s o .phase)
     becomes (proposes p v) a = tt
@@ -162,7 +171,8 @@ accepted-calm {W} {n} {s} {h} i wide v only c o a k =
     unflagged (crashes p) = k .none
 
 -- A list of operations.
-pub machine-calm : {W n : ℕ} {start : Session} → 1 ≤ W → Reached true W n W start [] → AllCalm start [] → (v : ℕ) (fs : List (Input PollOperation)) →
+pub machine-calm : {W n : ℕ} {start : Session} → 1 ≤ W → Reached true W n W start [] → AllCalm start [] →
+    (v : ℕ) (fs : List (Input PollOperation)) →
     Only v (past (polls W) start fs) → AllCalm (machine (polls W) start fs) (past (polls W) start fs)
 machine-calm wide i k v [] only = k
 machine-calm {W} {n} {start} wide i k v (f ∷ fs) only =

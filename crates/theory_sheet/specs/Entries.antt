@@ -1,5 +1,6 @@
 -- The proposals of a sheet: which entries they were, and that their numbers have 32 bits.
-use Rattle.base.specs.Prelude.{ℕ, suc, zero, _+_, _/_, _<_, arith, _≡_, refl, ap, Bool, true, cond, List, [], _∷_, _++_, _⊎_, inl, inr, ⊎-elim, getD, take, eqb, ltb, ltb-true, lt-ltb}
+use Rattle.base.specs.Prelude.{ℕ, suc, zero, _+_, _/_, _<_, arith, _≡_, refl, ap, Bool, true, cond, List, [], _∷_, _++_, _⊎_, inl, inr}
+use Rattle.base.specs.Prelude.{⊎-elim, getD, take, eqb, ltb, ltb-true, lt-ltb}
 use Rattle.base.specs.Bools.{cond-cases, and-both}
 use Rattle.model_laws.specs.Types.{Process, Session, Counts, Operation, Propose, Step, Learn, Crash, Entry, WellFormed, Malformed}
 use Rattle.model.specs.Board.{processAt}
@@ -78,7 +79,8 @@ low-entry : (kind p v : ℕ) → v < 4294967296 → isLowEntry (entryOf kind p v
 low-entry kind p v low =
     low-choice (eqb kind 0) _ _ (lt-ltb v 4294967296 low)
     (low-choice (eqb kind 1) _ _ (low-choice (eqb v 0) _ _ refl (low-choice (eqb v 1) _ _ refl refl))
-    (low-choice (eqb kind 2) _ _ (low-choice (eqb v 0) _ _ refl refl) (low-choice (eqb kind 3) _ _ (low-choice (eqb v 0) _ _ refl refl) refl)))
+    (low-choice (eqb kind 2) _ _ (low-choice (eqb v 0) _ _ refl refl)
+    (low-choice (eqb kind 3) _ _ (low-choice (eqb v 0) _ _ refl refl) refl)))
 
 module _ (t : List ℕ) (bytes : AreBytes t) where
   low-run : (offset count : ℕ) (es : List Entry) → every isLowEntry es ≡ true → every isLowEntry (entriesAt t offset count ++ es) ≡ true
@@ -93,4 +95,5 @@ module _ (t : List ℕ) (bytes : AreBytes t) where
   -- A number proposed by an entry of a sheet.
   pub entry-low : {v k : ℕ} → ProposedBy v k (entries t) → v < 4294967296
   unfolding entries
-  entry-low {v} a = ltb-true v 4294967296 (rw (a .3) at (every-get isLowEntry (entriesOf t (runs t)) (a .0) Malformed refl (low-runs (runs t))))
+  entry-low {v} a = ltb-true v 4294967296 (rw (a .3) at (every-get isLowEntry (entriesOf t (runs t)) (a .0) Malformed refl
+      (low-runs (runs t))))

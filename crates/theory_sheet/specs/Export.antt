@@ -1,6 +1,7 @@
 -- What the C entry writes to its buffer, in the words of the agreement rule.
 use Rattle.base.specs.Prelude.{ℕ, _*_, _<_, arith, ℕ-discrete, _≡_, refl, List, [], ⊎-elim, length}
-use Rattle.model_laws.specs.Types.{Server, Phase, Idle, Waiting, Write, Scan, Adopt, Compare, Flag, CheckMark, CheckValue, Commit, Exhausted, Crashed, Decided, HasCommitted, HasAdopted}
+use Rattle.model_laws.specs.Types.{Server, Phase, Idle, Waiting, Write, Scan, Adopt, Compare, Flag, CheckMark, CheckValue, Commit}
+use Rattle.model_laws.specs.Types.{Exhausted, Crashed, Decided, HasCommitted, HasAdopted}
 use Rattle.model.specs.Board.{limitsOf, processAt, noCounts, maxProcesses}
 use Rattle.model.specs.Bytes.{word32}
 use Rattle.model.specs.Sheet.{entries, sheetRefusal}
@@ -64,7 +65,8 @@ module _ (t : List ℕ) (budget : ℕ) (ok : sheetRefusal (limitsOf Server) t �
   valueOf p = decidedAt (runWithin (limitsOf Server) t budget .session .processes) p
 
   -- It was decided.
-  value-decided : (p : ℕ) → (valueOf p ≡ 0 → ⊥) → DecidedOn p (valueOf p) (past (sessions (windowOf t)) (openedBy t) (runInputs (limitsOf Server) t budget))
+  value-decided : (p : ℕ) → (valueOf p ≡ 0 → ⊥) → DecidedOn p (valueOf p)
+      (past (sessions (windowOf t)) (openedBy t) (runInputs (limitsOf Server) t budget))
   value-decided p some =
       let q = processAt (runWithin (limitsOf Server) t budget .session) p in
       run-rule (limitsOf Server) (caller-limits Server) t budget ok .looked p (valueOf p) (decided-phase (q .phase) (q .estimate) some)
@@ -78,7 +80,8 @@ module _ (t : List ℕ) (budget : ℕ) (ok : sheetRefusal (limitsOf Server) t �
       (happened-past (past-before (f .commits)) (f .proposed)))
 
   value-equal : (p q : ℕ) → (valueOf p ≡ 0 → ⊥) → (valueOf q ≡ 0 → ⊥) → valueOf p ≡ valueOf q
-  value-equal p q some other = run-rule (limitsOf Server) (caller-limits Server) t budget ok .agreement p q _ _ (value-decided p some) (value-decided q other)
+  value-equal p q some other = run-rule (limitsOf Server) (caller-limits Server) t budget ok .agreement p q _ _ (value-decided p some)
+      (value-decided q other)
 
   -- The buffer holds it.
   number-value : (b : List ℕ) → AreBytes t → length b ≡ 256 → (p : ℕ) → numberOf t budget b p ≡ valueOf p

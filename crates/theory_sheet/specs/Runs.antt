@@ -1,7 +1,9 @@
 -- A run of a sheet is the public operations, one after another, and the machine after the entries that were carried out.
-use Rattle.base.specs.Prelude.{ℕ, suc, zero, _+_, _≤_, arith, _≡_, refl, sym, _∙_, ap, cond, List, [], _∷_, length, take, eqb, eq-eqb, false}
+use Rattle.base.specs.Prelude.{ℕ, suc, zero, _+_, _≤_, arith, _≡_, refl, sym, _∙_, ap, cond, List, [], _∷_, length, take, eqb, eq-eqb}
+use Rattle.base.specs.Prelude.{false}
 use Rattle.base.specs.Bools.{cond-cases}
-use Rattle.model_laws.specs.Types.{Limits, Server, Session, Counts, Operation, Entry, WellFormed, Malformed, Ending, Finished, Refused, BudgetEnded, Process, Ran}
+use Rattle.model_laws.specs.Types.{Limits, Server, Session, Counts, Operation, Entry, WellFormed, Malformed, Ending, Finished, Refused}
+use Rattle.model_laws.specs.Types.{BudgetEnded, Process, Ran}
 use Rattle.model.specs.Window.{window}
 use Rattle.model.specs.Board.{limitsOf, UpToServer, opened, noCounts}
 use Rattle.model.specs.Numbers.{unsound, badEntry}
@@ -137,7 +139,8 @@ module _ (most : Limits) (up : UpToServer most) (t : List ℕ) (budget : ℕ) (o
   pub run-machine : runWithin most t budget .session ≡ machine (sessions (windowOf t)) (openedBy t) (runInputs most t budget)
   run-machine = rw carried-count (run-follows .session)
 
-  pub run-counts : runWithin most t budget .counts ≡ countsLeft (windowOf t) (openedBy t) noCounts (take (runWithin most t budget .carried) (entries t)) []
+  pub run-counts : runWithin most t budget .counts ≡ countsLeft (windowOf t) (openedBy t) noCounts
+      (take (runWithin most t budget .carried) (entries t)) []
   run-counts = rw carried-count (run-follows .counts)
 
   -- So the rule holds of it.

@@ -25,8 +25,8 @@ use Rattle.theory_write.specs.Read.{length-lengthsOf, read-writes}
 
 -- ---- a reader that goes from place to place
 
--- From a place on these entries are handed out, and then no more: `entry_at` answers the first of them, and the others are handed out from the
--- place on that `place_after` answers. Where there is none, `entry_at` answers that none is left.
+-- From a place on these entries are handed out, and then no more: `entry_at` answers the first of them, and the others are handed out from
+-- the place on that `place_after` answers. Where there is none, `entry_at` answers that none is left.
 abbrev pub HandsOut : (sheet : List ℕ) (place : ℕ) → List Entry → Type 0
 HandsOut sheet place [] = EntryAt sheet place End
 HandsOut sheet place (e ∷ es) = EntryAt sheet place (Next e) × ((next : ℕ) × (PlaceAfter sheet place next × HandsOut sheet next es))

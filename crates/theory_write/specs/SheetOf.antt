@@ -1,6 +1,7 @@
 -- A sheet as it is written: what is read of it.
 use lib.Seq.{drop-at}
-use Rattle.base.specs.Prelude.{ℕ, _+_, _*_, _/_, _≤_, _<_, arith, add-zero, _≡_, refl, sym, _∙_, ap, true, List, length, drop, drop-drop, take-all}
+use Rattle.base.specs.Prelude.{ℕ, _+_, _*_, _/_, _≤_, _<_, arith, add-zero, _≡_, refl, sym, _∙_, ap, true, List, length, drop, drop-drop}
+use Rattle.base.specs.Prelude.{take-all}
 use Rattle.model.specs.Sheet.{processCount, runCount, roundLimit, runs, wholeEntries, entriesOf, entries}
 use Rattle.model.specs.Sound.{every}
 use Rattle.model_laws.specs.ByteLaws.{word16-at}

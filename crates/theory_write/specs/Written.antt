@@ -1,5 +1,6 @@
 -- Document 02, wish 3: what is written is read again.
-use Rattle.base.specs.Prelude.{ℕ, zero, suc, _≤_, _<_, arith, _≡_, refl, sym, _∙_, true, List, length, take-append-seam, leb-true, le-leb, not-false}
+use Rattle.base.specs.Prelude.{ℕ, zero, suc, _≤_, _<_, arith, _≡_, refl, sym, _∙_, true, List, length, take-append-seam, leb-true, le-leb}
+use Rattle.base.specs.Prelude.{not-false}
 use Rattle.base.specs.Bools.{and-right, and-both}
 use Rattle.model_laws.specs.Types.{Limits}
 use Rattle.model.specs.ReadOut.{countAnswer}

@@ -1,9 +1,9 @@
 // How a program reads standard input: to its end, or until a buffer is full. A read that fails is never taken for the end of the input, so
 // that a sheet is not judged by its first part.
 //
-// A read that a signal interrupts (EINTR) counts as failed and is not tried again. These programs catch no signal, so the system itself goes
-// on with such a read, or ends the program. To tell EINTR from other failures a program needs errno, hence C code of the kit's `os`, and more
-// assumptions than those on `read` and `write`.
+// A read that a signal interrupts (EINTR) counts as failed and is not tried again. These programs catch no signal, so the system itself
+// goes on with such a read, or ends the program. To tell EINTR from other failures a program needs errno, hence C code of the kit's `os`,
+// and more assumptions than those on `read` and `write`.
 ghost use mathlib.Core.Path.{_≡_};
 ghost use Rattle.use_input.specs.Input.{InputHeld};
 

@@ -1,5 +1,7 @@
 -- The seats' lines, one after another.
-use Rattle.base.specs.Prelude.{ℕ, zero, suc, _+_, _≤_, _<_, zero-add, add-zero, add-suc, suc-add, not-suc-le-zero, le-of-suc-le-suc, add-one, arith, _≡_, sym, ap, _∙_, List, [], _∷_, _++_, append-assoc, append-nil, length, getD, take, take-all}
+use Rattle.base.specs.Prelude.{ℕ, zero, suc, _+_, _≤_, _<_, zero-add, add-zero, add-suc, suc-add, not-suc-le-zero, le-of-suc-le-suc}
+use Rattle.base.specs.Prelude.{add-one, arith, _≡_, sym, ap, _∙_, List, [], _∷_, _++_, append-assoc, append-nil, length, getD, take}
+use Rattle.base.specs.Prelude.{take-all}
 use Rattle.model.specs.declared.Process.{Process}
 use Rattle.model_report.specs.Report.{bytes, field, newline, statusWords, seatLine, seatLines}
 use Rattle.use_text.specs.Page.{Put, after, same}
@@ -13,7 +15,12 @@ seats-more k p [] d h = absurd (not-suc-le-zero h)
 seats-more k zero (q ∷ l) d h = cc (append-nil (seatLine k q), add-zero k)
 seats-more k (suc p) (q ∷ l) d h =
     let line = seatLine (suc (k + p)) (getD l p d) in
-    cc (seats-more (suc k) p l d (le-of-suc-le-suc h), append-assoc (seatLine k q) (seatLines (suc k) (take p l)) line, suc-add k p, add-suc k p)
+    cc (
+      seats-more (suc k) p l d (le-of-suc-le-suc h),
+      append-assoc (seatLine k q) (seatLines (suc k) (take p l)) line,
+      suc-add k p,
+      add-suc k p,
+    )
 
 -- One seat more: its number, and its status with the line's end.
 pub seat-put : (l : List Process) (d : Process) (p : ℕ) {a b m r : ℕ} {e x y z : List ℕ} → p < length l

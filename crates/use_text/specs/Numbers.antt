@@ -1,5 +1,6 @@
 -- Numbers in decimal, as the report has them (01, "The board report").
-use Rattle.base.specs.Prelude.{ℕ, zero, suc, _+_, _/_, _%_, _^_, _≤_, _<_, pow-suc, arith, _≡_, refl, sym, ap, cond, List, [], _∷_, _++_, length, length-append, ltb, lt-ltb, le-ltb}
+use Rattle.base.specs.Prelude.{ℕ, zero, suc, _+_, _/_, _%_, _^_, _≤_, _<_, pow-suc, arith, _≡_, refl, sym, ap, cond, List, [], _∷_, _++_}
+use Rattle.base.specs.Prelude.{length, length-append, ltb, lt-ltb, le-ltb}
 use Rattle.base.specs.Bools.{cond-cases}
 use Rattle.model_report.specs.Report.{digits, field}
 
@@ -20,7 +21,8 @@ pub digits-length : (k v : ℕ) → length (digits k v) ≤ k
 unfolding digits
 digits-length zero v = omega arith
 digits-length (suc k) v =
-    cond-cases (λ (d : List ℕ). length d ≤ suc k) (ltb v 10) (λ e. omega arith) (λ e. rw length-append (omega (arith, digits-length k (v / 10))))
+    cond-cases (λ (d : List ℕ). length d ≤ suc k) (ltb v 10) (λ e. omega arith)
+    (λ e. rw length-append (omega (arith, digits-length k (v / 10))))
 
 -- One digit more than enough changes nothing.
 enough : (k v : ℕ) → v < 10 ^ suc k → digits (suc (suc k)) v ≡ digits (suc k) v

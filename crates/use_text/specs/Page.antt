@@ -1,5 +1,7 @@
 -- A text put on a page, from a place on.
-use Rattle.base.specs.Prelude.{ℕ, zero, suc, _+_, _-_, _≤_, _<_, add-zero, add-suc, suc-add, zero-add, zero-sub, suc-sub-suc, sub-zero, add-one, arith, _≡_, refl, sym, ap, _∙_, cond, List, [], _∷_, _++_, length, set, drop, replicate, length-replicate, sets, sets-eq, ltb, lt-ltb}
+use Rattle.base.specs.Prelude.{ℕ, zero, suc, _+_, _-_, _≤_, _<_, add-zero, add-suc, suc-add, zero-add, zero-sub, suc-sub-suc, sub-zero}
+use Rattle.base.specs.Prelude.{add-one, arith, _≡_, refl, sym, ap, _∙_, cond, List, [], _∷_, _++_, length, set, drop, replicate}
+use Rattle.base.specs.Prelude.{length-replicate, sets, sets-eq, ltb, lt-ltb}
 
 -- How many bytes a page has.
 abbrev pub pageSize : ℕ

@@ -1,6 +1,7 @@
 -- `janus::janus_run` meets its contract: the test of the buffer's length and the run's ending say what is answered and written.
 -- Assumes nothing.
-use Rattle.base.specs.Prelude.{ℕ, _+_, arith, _≡_, _∙_, List, append-nil, ⊎-elim, needs, eq-eqb, ne-eqb, length, drop-of-length-le, sets, sets-eq}
+use Rattle.base.specs.Prelude.{ℕ, _+_, arith, _≡_, _∙_, List, append-nil, ⊎-elim, needs, eq-eqb, ne-eqb, length, drop-of-length-le, sets}
+use Rattle.base.specs.Prelude.{sets-eq}
 use Rattle.base.specs.Arrays.{length-mapped}
 use Rattle.model.specs.declared.Process.{Process}
 use Rattle.model.specs.Export.{decidedBytes, endingCode, endingBuffer, exportCode, exportBuffer}

@@ -14,10 +14,12 @@ loop-again : tie.Need-loop-again Inv-loop μ-loop
 loop-again c =
     let l = c .before .before in
     let a = l .before .args in
-    copied-more (a .from .now) (a .n) (a .buffer .now) (l .loop .buffer) (l .loop .i) (l .loop .inv) (omega arith) (omega arith) (omega arith)
+    copied-more (a .from .now) (a .n) (a .buffer .now) (l .loop .buffer) (l .loop .i) (l .loop .inv) (omega arith) (omega arith)
+    (omega arith)
 
 pub copy-spec : {M : Type 1} → statement M
 copy-spec =
     tie.close
-    (tie.spec Inv-loop μ-loop (λ c. (omega arith, refl, refl)) (λ c. search needs) (λ c. search needs) (λ c. search needs) (λ c. search needs) loop-again
+    (tie.spec Inv-loop μ-loop (λ c. (omega arith, refl, refl)) (λ c. search needs) (λ c. search needs) (λ c. search needs)
+    (λ c. search needs) loop-again
     (λ c. search needs) (λ c. copied-all _ _ _ _ (c .before .loop .i) (c .before .loop .inv) (omega arith)))

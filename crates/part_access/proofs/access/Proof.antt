@@ -16,7 +16,8 @@ access-spec =
     (search needs)  -- idle
     (search needs) (search needs)  -- waiting: told, waiting_access
     (search needs) (search needs) (search needs)  -- write, scan, adopt
-    (search needs) (search needs) (search needs) (search needs) (search needs) (search needs) (search needs) (search needs)  -- compare, flag, check-mark, check-value: told, minus
+    (search needs) (search needs) (search needs) (search needs) (search needs) (search needs) (search needs)
+    (search needs)  -- compare, flag, check-mark, check-value: told, minus
     (search needs) (search needs) (search needs) (search needs)  -- commit, exhausted, crashed, decided
     (search needs) (search needs)  -- committed, adopted
     idle waiting write scan adopt compare flag

@@ -16,5 +16,6 @@ returns-2 c = rw (c .word162 .ensures, c .before .word16 .ensures)
 pub word32-spec : {M : Type 1} → statement M
 word32-spec =
     tie.close
-    (tie.spec returns (λ c κs. search needs) (λ c. search needs) (λ c. search needs) (λ c κs. search needs) (λ c. search needs) (λ c. search needs)
+    (tie.spec returns (λ c κs. search needs) (λ c. search needs) (λ c. search needs) (λ c κs. search needs) (λ c. search needs)
+    (λ c. search needs)
     (λ c. search needs) returns-2)

@@ -14,4 +14,5 @@ returns-2 c =
 pub put16-spec : {M : Type 1} → statement M
 put16-spec =
     tie.close
-    (tie.spec (λ c. sym (sets-beyond _ _ (bytes16 (c .before .before .args .w)) (c .if1 .taken))) (λ c. search needs) (λ c κs. search needs) (λ c. search needs) (λ c. search needs) (λ c κs. search needs) (λ c. search needs) returns-2)
+    (tie.spec (λ c. sym (sets-beyond _ _ (bytes16 (c .before .before .args .w)) (c .if1 .taken))) (λ c. search needs)
+    (λ c κs. search needs) (λ c. search needs) (λ c. search needs) (λ c κs. search needs) (λ c. search needs) returns-2)

@@ -25,8 +25,10 @@ pub counted-spec : {M : Type 1} → statement M
 unfolding counted
 counted-spec =
     tie.close
-    (tie.spec (λ c κs. search needs) (λ c. simp (sym (c .before .full .ensures) ∙ c .if1 .taken)) (λ c. omega (arith, room _ (unfull (c .before))))
-    (λ c. omega (arith, room _ (unfull (c .before .before)))) (λ c. search needs) (λ c. search needs) (λ c κs. search needs) (λ c. search needs)
+    (tie.spec (λ c κs. search needs) (λ c. simp (sym (c .before .full .ensures) ∙ c .if1 .taken))
+    (λ c. omega (arith, room _ (unfull (c .before))))
+    (λ c. omega (arith, room _ (unfull (c .before .before)))) (λ c. search needs) (λ c. search needs) (λ c κs. search needs)
+    (λ c. search needs)
     (λ c κs. search needs) (λ c. search needs) (λ c κs. search needs) (λ c. search needs)
     (λ c κs. search needs) add-counts (λ c κs. search needs) (λ c. search needs)
     (λ c κs. search needs) (λ c. search needs) (λ c κs. search needs)

@@ -6,4 +6,5 @@ use Rattle.part_entry.proofs.number32.Tie as tie
 pub number32-spec : {M : Type 1} → statement M
 number32-spec =
     tie.close
-    (tie.spec (λ c. search needs) (λ c. search needs) (λ c. search needs) (λ c. search needs) (λ c. search needs) (λ c. search needs) (λ c. refl))
+    (tie.spec (λ c. search needs) (λ c. search needs) (λ c. search needs) (λ c. search needs) (λ c. search needs) (λ c. search needs)
+    (λ c. refl))

@@ -49,28 +49,35 @@ next-spec =
     idle c = answer (c .before .before .before) (c .before .enum-told .given .1) (c .process .ensures)
 
     waiting : tie.Need-returns-2
-    waiting c = answer (c .before .before .before) (c .before .enum-told2 .given .1) (c .waiting .ensures (c .before .before .before .args .window))
+    waiting c = answer (c .before .before .before) (c .before .enum-told2 .given .1)
+        (c .waiting .ensures (c .before .before .before .args .window))
 
     write : tie.Need-returns-3
     write c = answer (c .before .before .before) (c .before .enum-told3 .given .1) (c .process2 .ensures)
 
     scan : tie.Need-returns-4
-    scan c = answer (c .before .before .before .before .before) (c .before .before .before .phase .given .1) (made (c .process3 .ensures) (c .before .scan .ensures) refl)
+    scan c = answer (c .before .before .before .before .before) (c .before .before .before .phase .given .1)
+        (made (c .process3 .ensures) (c .before .scan .ensures) refl)
 
     adopt : tie.Need-returns-5
-    adopt c = answer (c .before .before .before .before .before) (c .before .before .before .phase2 .given .1) (made (c .process4 .ensures) refl (c .before .adopted .ensures))
+    adopt c = answer (c .before .before .before .before .before) (c .before .before .before .phase2 .given .1)
+        (made (c .process4 .ensures) refl (c .before .adopted .ensures))
 
     compare : tie.Need-returns-6
-    compare c = answer (c .before .before .before .before .before) (c .before .before .before .phase3 .given .1) (made (c .process5 .ensures) (c .before .compare .ensures) refl)
+    compare c = answer (c .before .before .before .before .before) (c .before .before .before .phase3 .given .1)
+        (made (c .process5 .ensures) (c .before .compare .ensures) refl)
 
     flag : tie.Need-returns-7
-    flag c = answer (c .before .before .before .before .before) (c .before .before .before .phase4 .given .1) (made (c .process6 .ensures) (c .before .go-on .ensures) refl)
+    flag c = answer (c .before .before .before .before .before) (c .before .before .before .phase4 .given .1)
+        (made (c .process6 .ensures) (c .before .go-on .ensures) refl)
 
     check-mark : tie.Need-returns-8
-    check-mark c = answer (c .before .before .before .before .before) (c .before .before .before .phase5 .given .1) (made (c .process7 .ensures) (c .before .check-mark .ensures) refl)
+    check-mark c = answer (c .before .before .before .before .before) (c .before .before .before .phase5 .given .1)
+        (made (c .process7 .ensures) (c .before .check-mark .ensures) refl)
 
     check-value : tie.Need-returns-9
-    check-value c = answer (c .before .before .before .before .before) (c .before .before .before .phase6 .given .1) (made (c .process8 .ensures) (c .before .check-value .ensures) refl)
+    check-value c = answer (c .before .before .before .before .before) (c .before .before .before .phase6 .given .1)
+        (made (c .process8 .ensures) (c .before .check-value .ensures) refl)
 
     commit : tie.Need-returns-10
     commit c = answer (c .before .before .before) (c .before .enum-told4 .given .1) (c .process9 .ensures)

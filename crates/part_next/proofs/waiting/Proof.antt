@@ -37,5 +37,7 @@ below c = let a = c .before .before .args in ltb-true (a .round) (a .limit) (sea
 pub waiting-spec : {M : Type 1} → statement M
 waiting-spec =
     tie.close
-    (tie.spec (λ c. search (needs, below (c .before))) (λ c κs. search needs) blank (λ c. search (needs, below (c .before))) (λ c κs. search needs)
-    (λ c. search (needs, below (c .before .before))) (λ c κs. search needs) filled (λ c κs. search needs) stays (λ c κs. search needs) spent)
+    (tie.spec (λ c. search (needs, below (c .before))) (λ c κs. search needs) blank (λ c. search (needs, below (c .before)))
+    (λ c κs. search needs)
+    (λ c. search (needs, below (c .before .before))) (λ c κs. search needs) filled (λ c κs. search needs) stays
+    (λ c κs. search needs) spent)

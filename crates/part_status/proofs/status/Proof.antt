@@ -7,7 +7,8 @@ pub status-spec : {M : Type 1} → statement M
 status-spec =
     tie.close
     (tie.spec (λ c. search needs) (λ c. search needs) (λ c. search needs) (λ c. search needs) (λ c. search needs) (λ c. search needs)
-    (λ c. search needs) (λ c. search needs) (λ c. search needs) (λ c. search needs) (λ c. search needs) (λ c. search needs) (λ c. search needs)
+    (λ c. search needs) (λ c. search needs) (λ c. search needs) (λ c. search needs) (λ c. search needs) (λ c. search needs)
+    (λ c. search needs)
     (λ c. search needs) (λ c. search needs)
     (λ c. rw (c .enum-told .given .1) refl) (λ c. rw (c .enum-told2 .given .1) refl) (λ c. rw (c .enum-told3 .given .1) refl)
     (λ c. rw (c .enum-told4 .given .1) refl) (λ c. rw (c .enum-told5 .given .1) refl) (λ c. rw (c .enum-told6 .given .1) refl)

@@ -1,5 +1,6 @@
--- `part_window::window` meets its contract. The invariant: `square` is the sum of the first `root` odd numbers, `odd` is the next one, and the search
--- from `root`, which is at most `end`, finds the root of `end`. The measure is what `square` lacks to be above `end`. Assumes nothing.
+-- `part_window::window` meets its contract. The invariant: `square` is the sum of the first `root` odd numbers, `odd` is the next one, and
+-- the search from `root`, which is at most `end`, finds the root of `end`. The measure is what `square` lacks to be above `end`. Assumes
+-- nothing.
 use Rattle.base.specs.Prelude.{_+_, _*_, _-_, _≤_, _≡_, _∙_, ap, ap₂, sub-zero, refl, arith}
 use Rattle.base.specs.Squares.{oddSum, odd-sum-next}
 use Rattle.model.specs.Window.{rootFrom, rootUp, window}

@@ -1,4 +1,5 @@
--- `poll_change::process_record` meets its contract: the answer is that of `session_read_process::process_record_as`, of a poll. Assumes nothing.
+-- `poll_change::process_record` meets its contract: the answer is that of `session_read_process::process_record_as`, of a poll. Assumes
+-- nothing.
 use borrow.Author.Needs.{needs}
 use Rattle.poll_change.proofs.process_record.Statement.{statement}
 use Rattle.poll_change.proofs.process_record.Tie as tie

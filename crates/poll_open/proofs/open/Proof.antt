@@ -26,5 +26,6 @@ opened c = c .open2 .ensures ∙ rw (c .before .window .ensures) refl
 pub open-spec : {M : Type 1} → statement M
 open-spec =
     tie.close
-    (tie.spec (λ c κs. search needs) (λ c. search needs) (λ c κs. search needs) refused (λ c. omega (arith, c .if1 .left)) (λ c κs. search needs)
+    (tie.spec (λ c κs. search needs) (λ c. search needs) (λ c κs. search needs) refused (λ c. omega (arith, c .if1 .left))
+    (λ c κs. search needs)
     (λ c κs. search needs) opened)

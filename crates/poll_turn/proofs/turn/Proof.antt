@@ -1,5 +1,5 @@
--- `poll_turn::turn` meets its contract: by the number of its first refusal, and by the registers, the record, the counts and the answer that it leaves.
--- Assumes nothing.
+-- `poll_turn::turn` meets its contract: by the number of its first refusal, and by the registers, the record, the counts and the answer
+-- that it leaves. Assumes nothing.
 use Rattle.base.specs.Prelude.{_≡_, _<_, refl, _∙_, ap, true, cond, not, _∷_, arith, needs, length}
 use Rattle.base.specs.Arrays.{length-mapped}
 use Rattle.model.specs.Window.{window}
@@ -59,7 +59,12 @@ returns c =
     let ranged =
     poll-access-range (window (s .n)) (s .limit) _ _ (sound-low true s (known .0))
     (poll-process (window (s .n)) s (known .0) (args .p) (known .1 .here)) in
-    let below : args .p < length (s .processes) = omega (arith, long (first .before .before .before .before), sound-few true s (known .0), known .1 .below) in
+    let below : args .p < length (s .processes) = omega (
+      arith,
+      long (first .before .before .before .before),
+      sound-few true s (known .0),
+      known .1 .below,
+    ) in
     turn-left s (args .c) (args .p) (code first) none
     (turned-poll s (args .p) ranged i (accessed .access .ensures) (valued .value .ensures .0) (marked .mark .ensures .0) (window (s .n))
     (valued .value .ensures .1) (marked .mark .ensures .1)
@@ -77,6 +82,7 @@ returns-2 c = turn-refused _ _ _ (code (c .before)) (c .if1 .left)
 pub turn-spec : {M : Type 1} → statement M
 turn-spec =
     tie.close
-    (tie.spec (λ c. search needs) (λ c. search needs) (λ c κs. search needs) (λ c κs. search needs) (λ c κs. search needs) (λ c κs. search needs)
+    (tie.spec (λ c. search needs) (λ c. search needs) (λ c κs. search needs) (λ c κs. search needs) (λ c κs. search needs)
+    (λ c κs. search needs)
     (λ c κs. search needs) (λ c κs. search needs) cast-window (λ c κs. search needs) (λ c κs. search needs) (λ c. search needs)
     (λ c. search needs) (λ c κs. search needs) (λ c κs. search needs) returns returns-2)

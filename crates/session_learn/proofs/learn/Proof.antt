@@ -1,4 +1,5 @@
--- `session_learn::learn` meets its contract: by the number of its first refusal, and by the record and the counts that it leaves. Assumes nothing.
+-- `session_learn::learn` meets its contract: by the number of its first refusal, and by the record and the counts that it leaves. Assumes
+-- nothing.
 use Rattle.base.specs.Prelude.{_≡_, refl, false, needs}
 use Rattle.model_laws.specs.Types.{Operation, Learn}
 use Rattle.model.specs.Public
@@ -25,7 +26,8 @@ returns c =
     let first = c .before .before .before in
     let none = c .before .before .if1 .taken in
     let o = operation (first .before .before .before .before) in
-    operate-accepted false _ _ o (code first) none (learnt-is _ _ _ (index-of false _ _ o (code first) none) (c .before .learnt .ensures)) (c .counted .ensures)
+    operate-accepted false _ _ o (code first) none (learnt-is _ _ _ (index-of false _ _ o (code first) none) (c .before .learnt .ensures))
+    (c .counted .ensures)
 
 returns-2 : tie.Need-returns-2
 unfolding Public.learnFor
@@ -35,5 +37,6 @@ returns-2 c = operate-refused false _ _ (operation (c .before .before .before .b
 pub learn-spec : {M : Type 1} → statement M
 learn-spec =
     tie.close
-    (tie.spec (λ c. search needs) (λ c. search needs) (λ c κs. search needs) (λ c κs. search needs) (λ c κs. search needs) (λ c κs. search needs)
+    (tie.spec (λ c. search needs) (λ c. search needs) (λ c κs. search needs) (λ c κs. search needs) (λ c κs. search needs)
+    (λ c κs. search needs)
     (λ c. search needs) (λ c. search needs) (λ c κs. search needs) returns returns-2)

@@ -10,12 +10,14 @@ use Rattle.session_open.proofs.open.Tie as tie
 
 -- The answer, where the number is not 0 and where it is.
 module _ (caller : Caller) (n L : ℕ) {t : Session} where
-  refused : (k : ℕ) → k ≡ refusal (openTests (limitsOf caller) n L) → (k ≡ 0 → ⊥) → t ≡ opened 0 0 → record { code = k; session = t } ≡ opening caller n L
+  refused : (k : ℕ) → k ≡ refusal (openTests (limitsOf caller) n L) → (k ≡ 0 → ⊥) → t ≡ opened 0 0 →
+      record { code = k; session = t } ≡ opening caller n L
   unfolding openingFor
   refused zero e some same = absurd (some refl)
   refused (suc k) e some same = rw (← e, same)
 
-  accepted : {k : ℕ} → k ≡ refusal (openTests (limitsOf caller) n L) → k ≡ 0 → t ≡ opened n L → record { code = k; session = t } ≡ opening caller n L
+  accepted : {k : ℕ} → k ≡ refusal (openTests (limitsOf caller) n L) → k ≡ 0 → t ≡ opened n L →
+      record { code = k; session = t } ≡ opening caller n L
   unfolding openingFor
   accepted e none same = rw (← e, none, same)
 

@@ -12,8 +12,10 @@ operation c = Propose (c .args .p) (c .args .v)
 
 -- The number of the first refusal.
 code : (c : tie.After-first-refusal) →
-    let start = c .before .before .before .before in c .first-refusal .result ≡ codeAs (start .args .poll) (start .args .t2) noCounts (operation start)
-code c = code-is _ _ noCounts (operation (c .before .before .before .before)) (c .before .sound-as .ensures) (c .before .before .propose-refusal .ensures) (c .first-refusal .ensures)
+    let start = c .before .before .before .before in c .first-refusal .result
+    ≡ codeAs (start .args .poll) (start .args .t2) noCounts (operation start)
+code c = code-is _ _ noCounts (operation (c .before .before .before .before)) (c .before .sound-as .ensures)
+    (c .before .before .propose-refusal .ensures) (c .first-refusal .ensures)
 
 -- Accepted, and refused.
 returns : tie.Need-returns
@@ -32,5 +34,6 @@ returns-2 c = uncounted-refused _ _ (operation (c .before .before .before .befor
 pub propose-as-spec : {M : Type 1} → statement M
 propose-as-spec =
     tie.close
-    (tie.spec (λ c. search needs) (λ c. search needs) (λ c κs. search needs) (λ c κs. search needs) (λ c κs. search needs) (λ c κs. search needs)
+    (tie.spec (λ c. search needs) (λ c. search needs) (λ c κs. search needs) (λ c κs. search needs) (λ c κs. search needs)
+    (λ c κs. search needs)
     (λ c. search needs) (λ c. search needs) returns returns-2)

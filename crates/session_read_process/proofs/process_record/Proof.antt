@@ -1,4 +1,5 @@
--- `session_read_process::process_record` meets its contract: the answer is that of `session_read_process::process_record_as`, of a session. Assumes nothing.
+-- `session_read_process::process_record` meets its contract: the answer is that of `session_read_process::process_record_as`, of a session.
+-- Assumes nothing.
 use borrow.Author.Needs.{needs}
 use Rattle.session_read_process.proofs.process_record.Statement.{statement}
 use Rattle.session_read_process.proofs.process_record.Tie as tie

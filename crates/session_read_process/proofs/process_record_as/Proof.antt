@@ -34,7 +34,8 @@ none c =
 damaged : tie.Need-returns
 damaged c =
     let d = c .before .before in
-    c .no-record .ensures ∙ answered (d .before .args .poll) (d .before .args .t2) (d .before .args .p) (d .sound-as .ensures) true _ (c .before .if1 .taken) refl
+    c .no-record .ensures ∙ answered (d .before .args .poll) (d .before .args .t2) (d .before .args .p) (d .sound-as .ensures) true _
+    (c .before .if1 .taken) refl
 
 -- Past both tests the process is one of the 64.
 index : (c : tie.Else2) → c .before .before .before .args .p < 64

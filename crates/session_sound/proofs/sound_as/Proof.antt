@@ -60,5 +60,6 @@ pub sound-as-spec : {M : Type 1} → statement M
 sound-as-spec =
     tie.close
     (tie.spec Inv-loop μ-loop returns (λ c. omega (arith, few (c .before .args .poll) (c .before .args .t2) (not-false _ (c .if1 .left))))
-    (λ c κs. search needs) (λ c κs. search needs) returns-2 loop-holds (λ c. omega arith) (λ c. omega arith) (λ c κs. search needs) returns-3
+    (λ c κs. search needs) (λ c κs. search needs) returns-2 loop-holds (λ c. omega arith) (λ c. omega arith)
+    (λ c κs. search needs) returns-3
     (λ c. omega arith) (λ c. omega arith) loop-again returns-4)

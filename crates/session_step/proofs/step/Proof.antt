@@ -1,4 +1,5 @@
--- `session_step::step` meets its contract: by the number of its first refusal, and by the registers, the record and the counts that it leaves. Assumes nothing.
+-- `session_step::step` meets its contract: by the number of its first refusal, and by the registers, the record and the counts that it
+-- leaves. Assumes nothing.
 use Rattle.base.specs.Prelude.{_≡_, refl, false, _∙_, ap, cond, arith, needs}
 use Rattle.model_laws.specs.Types.{Operation, Step}
 use Rattle.model.specs.Window.{window}
@@ -65,7 +66,8 @@ returns c =
     (rw (← c .before .before .window .ensures) (c .before .next .ensures)))
     (counts
     ∙ ap (cond (full (args .c)) (args .c))
-    (counted-is (args .t1) (args .p) (args .leader) ranged i (accessed .access .ensures) (valued .value .ensures .0) (marked .mark .ensures .0) (args .c)))
+    (counted-is (args .t1) (args .p) (args .leader) ranged i (accessed .access .ensures) (valued .value .ensures .0)
+    (marked .mark .ensures .0) (args .c)))
 
 returns-2 : tie.Need-returns-2
 unfolding Public.stepFor
@@ -76,6 +78,8 @@ returns-2 c = operate-refused false _ _ (operation (c .before .before .before .b
 pub step-spec : {M : Type 1} → statement M
 step-spec =
     tie.close
-    (tie.spec (λ c. search needs) (λ c. search needs) (λ c κs. search needs) (λ c κs. search needs) (λ c κs. search needs) (λ c κs. search needs)
-    (λ c κs. search needs) (λ c κs. search needs) (λ c κs. search needs) cast-window (λ c κs. search needs) (λ c κs. search needs) (λ c. search needs)
+    (tie.spec (λ c. search needs) (λ c. search needs) (λ c κs. search needs) (λ c κs. search needs) (λ c κs. search needs)
+    (λ c κs. search needs)
+    (λ c κs. search needs) (λ c κs. search needs) (λ c κs. search needs) cast-window (λ c κs. search needs) (λ c κs. search needs)
+    (λ c. search needs)
     (λ c. search needs) (λ c κs. search needs) returns returns-2)

@@ -1,4 +1,5 @@
--- `session_values::copy` meets its contract. The loop's invariant: i values are copied, and the other places are as they were. Assumes nothing.
+-- `session_values::copy` meets its contract. The loop's invariant: i values are copied, and the other places are as they were. Assumes
+-- nothing.
 use Rattle.base.specs.Prelude.{_-_, arith, refl}
 use Rattle.base.specs.Arrays.{Copied, copied-more, copied-all}
 use Rattle.session_values.proofs.copy.Statement.{statement}
@@ -14,7 +15,8 @@ abbrev μ-loop : tie.MeasureT-loop
 pub copy-spec : {M : Type 1} → statement M
 copy-spec =
     tie.close
-    (tie.spec Inv-loop μ-loop (λ c. (omega arith, refl, refl)) (λ c. omega arith) (λ c. omega arith) (λ c. omega arith) (λ c. omega arith) (λ c. omega arith)
+    (tie.spec Inv-loop μ-loop (λ c. (omega arith, refl, refl)) (λ c. omega arith) (λ c. omega arith) (λ c. omega arith) (λ c. omega arith)
+    (λ c. omega arith)
     (λ c. omega arith)
     (λ c.
     let l = c .before .before in

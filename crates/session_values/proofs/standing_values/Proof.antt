@@ -1,6 +1,7 @@
 -- `session_values::standing_values` meets its contract. The tests that led to an answer say which it is. Assumes nothing.
 use lib.Seq.{take-at}
-use Rattle.base.specs.Prelude.{false, ℕ, _≤_, min, _≡_, sym, _∙_, ap, true, arith, needs, not-true, not-false, List, _++_, length, take, drop, replicate, length-append}
+use Rattle.base.specs.Prelude.{false, ℕ, _≤_, min, _≡_, sym, _∙_, ap, true, arith, needs, not-true, not-false, List, _++_, length, take}
+use Rattle.base.specs.Prelude.{drop, replicate, length-append}
 use Rattle.model.specs.declared.Session.{Session}
 use Rattle.model.specs.Sound.{sound}
 use Rattle.model.specs.ReadOut.{standingValues}
@@ -57,4 +58,5 @@ pub standing-values-spec : {M : Type 1} → statement M
 standing-values-spec =
     tie.close
     (tie.spec (λ c κs. search needs) returns (λ c κs. search needs) returns-2
-    (λ c κs. (within (c .before .before .before .before .before), c .before .before .before .before .if2 .left)) (λ c. search needs) returns-3)
+    (λ c κs. (within (c .before .before .before .before .before), c .before .before .before .before .if2 .left))
+    (λ c. search needs) returns-3)

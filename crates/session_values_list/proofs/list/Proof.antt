@@ -1,7 +1,8 @@
 -- `session_values_list::list` meets its contract. The outer loop's invariant: the first `count` values are those of the first r rounds,
 -- and the places behind them are blank. The inner loop's: none of the first e rounds holds the value of round r. Assumes nothing.
 use lib.ListN.{take-append-drop}
-use Rattle.base.specs.Prelude.{ℕ, _+_, _-_, _≤_, min, _≡_, refl, sym, _∙_, ap, ap₂, false, List, _++_, arith, needs, length, getD, take, drop, replicate, length-set, length-take-le, drop-drop, drop-set-lt}
+use Rattle.base.specs.Prelude.{ℕ, _+_, _-_, _≤_, min, _≡_, refl, sym, _∙_, ap, ap₂, false, List, _++_, arith, needs, length, getD, take}
+use Rattle.base.specs.Prelude.{drop, replicate, length-set, length-take-le, drop-drop, drop-set-lt}
 use Rattle.model.specs.ReadOut.{holds, valuesTo}
 use Rattle.model_laws.specs.ListedRounds.{round-blank, round-earlier, not-earlier, round-new}
 use Rattle.session_values_list.proofs.list.Statement.{statement}
@@ -106,6 +107,8 @@ pub list-spec : {M : Type 1} → statement M
 list-spec =
     tie.close
     (tie.spec Inv-loop μ-loop Inv-rounds μ-rounds (λ c κs. search needs) rounds-holds (λ c. omega arith) (λ c. omega arith)
-    (λ c. omega arith) (λ c. omega arith) rounds-again (λ c. (refl, omega arith, refl)) (λ c. omega arith) (λ c. omega arith) (λ c. omega arith) (λ c. omega arith) rounds-again-2
-    (λ c. omega arith) (λ c. omega arith) loop-again (λ c. omega arith) (λ c. omega arith) (λ c. omega arith) (λ c. omega arith) (λ c. omega arith)
+    (λ c. omega arith) (λ c. omega arith) rounds-again (λ c. (refl, omega arith, refl)) (λ c. omega arith) (λ c. omega arith)
+    (λ c. omega arith) (λ c. omega arith) rounds-again-2
+    (λ c. omega arith) (λ c. omega arith) loop-again (λ c. omega arith) (λ c. omega arith) (λ c. omega arith) (λ c. omega arith)
+    (λ c. omega arith)
     rounds-again-3 returns)

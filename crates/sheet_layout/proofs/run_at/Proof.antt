@@ -15,5 +15,6 @@ returns c =
 pub run-at-spec : {M : Type 1} → statement M
 run-at-spec =
     tie.close
-    (tie.spec returns (λ c. search needs) (λ c. search needs) (λ c κs. search needs) (λ c. search needs) (λ c. search needs) (λ c κs. search needs)
+    (tie.spec returns (λ c. search needs) (λ c. search needs) (λ c κs. search needs) (λ c. search needs) (λ c. search needs)
+    (λ c κs. search needs)
     (λ c. search needs) (λ c. search needs))

@@ -23,7 +23,12 @@ loop-holds c = rw (sub-zero, c .byte .ensures)
 returns : tie.Need-returns Inv-loop μ-loop
 returns c =
     let at = c .before .before in
-    rw (at .before .before .loop .inv, left-next _ _ (at .before .loop-test .taken), ← at .run-at .ensures .offset-is, lt-leb _ _ (c .if1 .taken))
+    rw (
+      at .before .before .loop .inv,
+      left-next _ _ (at .before .loop-test .taken),
+      ← at .run-at .ensures .offset-is,
+      lt-leb _ _ (c .if1 .taken),
+    )
 
 returns-2 : tie.Need-returns-2 Inv-loop μ-loop
 returns-2 c =
@@ -47,5 +52,6 @@ returns-3 c = sym (c .before .loop .inv ∙ rw (runs-none _ _ _ (c .loop-test .l
 pub runs-refusal-spec : {M : Type 1} → statement M
 runs-refusal-spec =
     tie.close
-    (tie.spec Inv-loop μ-loop (λ c κs. search needs) (λ c. search needs) (λ c. search needs) (λ c. search needs) loop-holds (λ c κs. search needs)
+    (tie.spec Inv-loop μ-loop (λ c κs. search needs) (λ c. search needs) (λ c. search needs) (λ c. search needs) loop-holds
+    (λ c κs. search needs)
     returns (λ c. search needs) returns-2 (λ c. search needs) (λ c. search needs) loop-again returns-3)

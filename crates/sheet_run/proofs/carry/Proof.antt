@@ -177,13 +177,15 @@ loop-again c =
     ∙ step-leaves W (l .s) (process-of h) _ (l .inv .opened .sound) told (f .named) (w .5 .ensures) (w .7 .ensures .0) (w .9 .ensures .0)
     (w .7 .ensures .1) (w .9 .ensures .1) (w .10 .ensures) (w .11 .ensures))
     (w .13
-    ∙ tallied f (step-counts W (l .s) (process-of h) _ (l .c) (l .inv .opened .sound) told (f .named) (w .5 .ensures) (w .7 .ensures .0) (w .9 .ensures .0))
+    ∙ tallied f (step-counts W (l .s) (process-of h) _ (l .c) (l .inv .opened .sound) told (f .named) (w .5 .ensures) (w .7 .ensures .0)
+    (w .9 .ensures .0))
     (w .12 .ensures))
     (c .place-after .ensures))
     (λ w.
     let o = operation-of (h .before .before) in
     let other = other-tag o (w .0 .keys2) in
-    let f = entered-none (other-entered (record { before = record { before = j .before; match3 = w .0 }; refusal-of = w .1 })) (w .2 .left) in
+    let f = entered-none (other-entered (record { before = record { before = j .before; match3 = w .0 }; refusal-of = w .1 }))
+    (w .2 .left) in
     on f
     (w .8
     ∙ ⊎-elim
@@ -198,4 +200,12 @@ loop-again c =
 pub carry-spec : {M : Type 1} → statement M
 carry-spec =
     tie.close
-    (tie.spec Inv-loop μ-loop (λ c κs. search needs) loop-holds (λ c κs. search needs) (λ c. search needs) (λ c. search needs) (λ c κs. search needs) returns (λ c. search needs) (λ c. search needs) (λ c κs. search needs) (λ c κs. search needs) returns-2 (λ c κs. search needs) (λ c κs. search needs) (λ c κs. search needs) (λ c κs. search needs) returns-3 (λ c. omega (arith, low c)) low (λ c. search needs) (λ c κs. search needs) (λ c κs. search needs) returns-4 (λ c κs. search needs) (λ c κs. search needs) (λ c κs. search needs) (λ c κs. search needs) (λ c κs. search needs) (λ c. omega (arith, low (stored-at c))) (λ c. low (stored-at c)) (λ c κs. search needs) (λ c κs. search needs) (λ c κs. search needs) returns-5 (λ c κs. search needs) (λ c κs. search needs) (λ c. omega (arith, low (c .before .before .before .before .before .before .before))) (λ c. low (c .before .before .before .before .before .before .before)) (λ c κs. search needs) (λ c κs. search needs) add-k (λ c κs. search needs) loop-less loop-again)
+    (tie.spec Inv-loop μ-loop (λ c κs. search needs) loop-holds (λ c κs. search needs) (λ c. search needs) (λ c. search needs)
+    (λ c κs. search needs) returns (λ c. search needs) (λ c. search needs) (λ c κs. search needs) (λ c κs. search needs) returns-2
+    (λ c κs. search needs) (λ c κs. search needs) (λ c κs. search needs) (λ c κs. search needs) returns-3 (λ c. omega (arith, low c)) low
+    (λ c. search needs) (λ c κs. search needs) (λ c κs. search needs) returns-4 (λ c κs. search needs) (λ c κs. search needs)
+    (λ c κs. search needs) (λ c κs. search needs) (λ c κs. search needs) (λ c. omega (arith, low (stored-at c))) (λ c. low (stored-at c))
+    (λ c κs. search needs) (λ c κs. search needs) (λ c κs. search needs) returns-5 (λ c κs. search needs) (λ c κs. search needs)
+    (λ c. omega (arith, low (c .before .before .before .before .before .before .before)))
+    (λ c. low (c .before .before .before .before .before .before .before)) (λ c κs. search needs) (λ c κs. search needs) add-k
+    (λ c κs. search needs) loop-less loop-again)

@@ -14,8 +14,11 @@ abbrev μ-loop : tie.MeasureT-loop
 loop-again : tie.Need-loop-again Inv-loop μ-loop
 loop-again c =
     let l = c .before .before in
-    let a = l .before .args in
-    (omega arith, rw (l .loop .inv .1) (sets-more (a .sheet .now) (a .at) (a .entries .now) (l .loop .i) (omega arith)), rw length-set (l .loop .inv .2))
+    let a = l .before .args in (
+      omega arith,
+      rw (l .loop .inv .1) (sets-more (a .sheet .now) (a .at) (a .entries .now) (l .loop .i) (omega arith)),
+      rw length-set (l .loop .inv .2),
+    )
 
 returns : tie.Need-returns Inv-loop μ-loop
 returns c = let l = c .before in l .loop .inv .1 ∙ rw (take-all (l .loop .i) (l .before .args .entries .now) (omega arith))
@@ -23,5 +26,6 @@ returns c = let l = c .before in l .loop .inv .1 ∙ rw (take-all (l .loop .i) (
 pub put-entries-spec : {M : Type 1} → statement M
 put-entries-spec =
     tie.close
-    (tie.spec Inv-loop μ-loop (λ c. (omega arith, refl, refl)) (λ c. search needs) (λ c. search needs) (λ c. search needs) (λ c. search needs)
+    (tie.spec Inv-loop μ-loop (λ c. (omega arith, refl, refl)) (λ c. search needs) (λ c. search needs) (λ c. search needs)
+    (λ c. search needs)
     (λ c. search needs) loop-again (λ c. c .before .loop .inv .2) returns)

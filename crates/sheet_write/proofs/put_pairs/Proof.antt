@@ -1,5 +1,5 @@
--- `sheet_write::put_pairs` meets its contract. The loop's invariant: the pairs of the first i runs are stored, and `from` is where they end.
--- Assumes nothing.
+-- `sheet_write::put_pairs` meets its contract. The loop's invariant: the pairs of the first i runs are stored, and `from` is where they
+-- end. Assumes nothing.
 use Rattle.base.specs.Prelude.{_+_, _-_, _*_, _≤_, _<_, arith, _≡_, refl, _∙_, length, getD, take, take-all, sets, needs}
 use lib.Seq.{length-sets}
 use Rattle.model_write.specs.Write.{laidOut, pairBytes, total}
@@ -40,7 +40,8 @@ loop-again c =
     let i = l .loop .i in (
       omega arith,
       omega (arith, total-taken ms i (omega arith)),
-      rw (second .put162 .ensures, first .put16 .ensures, l .loop .inv .2, l .loop .inv .1) (pairs-more ms i (omega arith) (a .sheet .now) (4 + 4 * length ms)),
+      rw (second .put162 .ensures, first .put16 .ensures, l .loop .inv .2, l .loop .inv .1)
+          (pairs-more ms i (omega arith) (a .sheet .now) (4 + 4 * length ms)),
     )
 
 returns : tie.Need-returns Inv-loop μ-loop
@@ -49,7 +50,10 @@ returns c = let l = c .before in l .loop .inv .2 ∙ rw (take-all (l .loop .i) (
 pub put-pairs-spec : {M : Type 1} → statement M
 put-pairs-spec =
     tie.close
-    (tie.spec Inv-loop μ-loop (λ c. search needs) (λ c. search needs) loop-holds (λ c. search needs) (λ c. search needs) (λ c. omega (arith, low (c .before))) (λ c. search needs) (λ c. search needs) (λ c. omega (arith, low (c .before .before)))
-    (λ c κs. search needs) (λ c. search needs) (λ c. search needs) (λ c. omega (arith, low (c .before .before .before .before .before .before)))
-    (λ c κs. search needs) (λ c. omega (arith, low (c .before .before .before .before .before .before .before .before .before))) (λ c. search needs)
+    (tie.spec Inv-loop μ-loop (λ c. search needs) (λ c. search needs) loop-holds (λ c. search needs) (λ c. search needs)
+    (λ c. omega (arith, low (c .before))) (λ c. search needs) (λ c. search needs) (λ c. omega (arith, low (c .before .before)))
+    (λ c κs. search needs) (λ c. search needs) (λ c. search needs)
+    (λ c. omega (arith, low (c .before .before .before .before .before .before)))
+    (λ c κs. search needs) (λ c. omega (arith, low (c .before .before .before .before .before .before .before .before .before)))
+    (λ c. search needs)
     (λ c. search needs) loop-again (λ c. rw (c .before .loop .inv .2, length-sets)) returns)

@@ -1,4 +1,5 @@
--- `sheet_write::write` meets its contract: refused, the output is as it was; accepted, what is stored part by part is the sheet. Assumes nothing.
+-- `sheet_write::write` meets its contract: refused, the output is as it was; accepted, what is stored part by part is the sheet. Assumes
+-- nothing.
 use denote.Ref.{now}
 use Rattle.base.specs.Prelude.{_+_, _*_, _≤_, _<_, arith, _≡_, sym, _∙_, length, length-set, leb-true, not-false, needs}
 use lib.Seq.{length-sets}
@@ -21,7 +22,8 @@ facts : (c : tie.Else1) →
     WriteFacts (limitsOf (a .caller)) (a .n) (a .limit) (now (a .entries)) (now (a .lengths)) (length (now (a .sheet)))
 facts c =
     let a = start-of c .args in
-    write-facts (limitsOf (a .caller)) (a .n) (a .limit) (now (a .entries)) (now (a .lengths)) _ (sym (c .before .write-refusal .ensures) ∙ c .if1 .left)
+    write-facts (limitsOf (a .caller)) (a .n) (a .limit) (now (a .entries)) (now (a .lengths)) _
+    (sym (c .before .write-refusal .ensures) ∙ c .if1 .left)
 
 -- The sheet's size, which is 65,535 at most, fits in.
 size : (c : tie.Else1) →
@@ -49,7 +51,8 @@ rounds-low c =
 returns : tie.Need-returns
 returns c =
     let a = c .before .before .before .before .before .args in
-    written-refused (limitsOf (a .caller)) (a .n) (a .limit) (now (a .entries)) (now (a .lengths)) (now (a .sheet)) _ (c .before .write-refusal .ensures) (c .if1 .taken)
+    written-refused (limitsOf (a .caller)) (a .n) (a .limit) (now (a .entries)) (now (a .lengths)) (now (a .sheet)) _
+    (c .before .write-refusal .ensures) (c .if1 .taken)
 
 put-pairs-requires : tie.Need-put-pairs-requires
 put-pairs-requires c κs =
@@ -67,7 +70,8 @@ put-entries-requires c κs =
     rw (as-long pairs) (size (pairs .before .before .before .before .before .before) .1)
 
 same-length : tie.Need-same-length
-same-length c = let stored = c .before .before in rw (stored .put-entries .ensures, length-sets) (as-long (stored .before .before .before .before))
+same-length c = let stored = c .before .before in rw (stored .put-entries .ensures, length-sets)
+    (as-long (stored .before .before .before .before))
 
 returns-2 : tie.Need-returns-2
 returns-2 c =
@@ -80,13 +84,17 @@ returns-2 c =
     let ms = now (a .lengths) in
     let accepted : wrote (record { code = 0; count = 4 + 4 * length ms + length es }) (entries .put-entries .last .1 .1 .0)
     ≡ writeResult (limitsOf (a .caller)) (a .n) (a .limit) es ms (now (a .sheet)) =
-    written-accepted (limitsOf (a .caller)) (a .n) (a .limit) es ms (now (a .sheet)) (sym (e .before .write-refusal .ensures) ∙ e .if1 .left)
+    written-accepted (limitsOf (a .caller)) (a .n) (a .limit) es ms (now (a .sheet))
+    (sym (e .before .write-refusal .ensures) ∙ e .if1 .left)
     (sym (length-sheetOf (a .n) (a .limit) es ms))
-    (entries .put-entries .ensures ∙ rw (pairs .put-pairs .ensures, header .put16 .ensures) (sheet-stored (a .n) (a .limit) es ms (now (a .sheet)) (facts e .fits)))
+    (entries .put-entries .ensures ∙ rw (pairs .put-pairs .ensures, header .put16 .ensures)
+    (sheet-stored (a .n) (a .limit) es ms (now (a .sheet)) (facts e .fits)))
     in accepted
 
 pub write-spec : {M : Type 1} → statement M
 write-spec =
     tie.close
-    (tie.spec (λ c κs. search needs) returns (λ c. search needs) (λ c. search needs) (λ c. omega (arith, processes-low c)) (λ c. omega (arith, size c)) (λ c. omega (arith, facts c .count))
-    (λ c. rw length-set (omega (arith, size c))) (λ c. omega (arith, rounds-low (c .before))) (λ c κs. search needs) put-pairs-requires put-entries-requires (λ c. search needs) same-length returns-2)
+    (tie.spec (λ c κs. search needs) returns (λ c. search needs) (λ c. search needs) (λ c. omega (arith, processes-low c))
+    (λ c. omega (arith, size c)) (λ c. omega (arith, facts c .count))
+    (λ c. rw length-set (omega (arith, size c))) (λ c. omega (arith, rounds-low (c .before)))
+    (λ c κs. search needs) put-pairs-requires put-entries-requires (λ c. search needs) same-length returns-2)

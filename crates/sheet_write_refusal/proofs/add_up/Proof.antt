@@ -1,5 +1,7 @@
--- `sheet_write_refusal::add_up` meets its contract. The loop's invariant: what is left and the first i lengths are the entries. Assumes nothing.
-use Rattle.base.specs.Prelude.{ℕ, _+_, _-_, _≤_, _<_, arith, ℕ-discrete, _≡_, sym, _∙_, length, getD, take, take-all, eqb, eq-eqb, ne-eqb, needs}
+-- `sheet_write_refusal::add_up` meets its contract. The loop's invariant: what is left and the first i lengths are the entries. Assumes
+-- nothing.
+use Rattle.base.specs.Prelude.{ℕ, _+_, _-_, _≤_, _<_, arith, ℕ-discrete, _≡_, sym, _∙_, length, getD, take, take-all, eqb, eq-eqb, ne-eqb}
+use Rattle.base.specs.Prelude.{needs}
 use Rattle.model_write.specs.Write.{total}
 use Rattle.model_write_laws.specs.Laid.{total-taken, total-part}
 use Rattle.sheet_write_refusal.proofs.add_up.Statement.{statement}
@@ -25,7 +27,8 @@ returns c =
     let l = c .before .before .before in
     let ms = l .before .args .lengths .now in
     let above : l .loop .left < getD ms (l .loop .i) 0 = c .if1 .taken in
-    sym (ne-eqb (total ms) (l .before .args .entries) (λ e. omega (arith, total-taken ms (l .loop .i) (omega arith), total-part ms (l .loop .i + 1))))
+    sym (ne-eqb (total ms) (l .before .args .entries) (λ e. omega
+    (arith, total-taken ms (l .loop .i) (omega arith), total-part ms (l .loop .i + 1))))
 
 loop-again : tie.Need-loop-again Inv-loop μ-loop
 loop-again c =
@@ -41,5 +44,6 @@ returns-2 c =
 pub add-up-spec : {M : Type 1} → statement M
 add-up-spec =
     tie.close
-    (tie.spec Inv-loop μ-loop (λ c. search needs) (λ c. search needs) (λ c. search needs) returns (λ c. search needs) (λ c. search needs) loop-again
+    (tie.spec Inv-loop μ-loop (λ c. search needs) (λ c. search needs) (λ c. search needs) returns (λ c. search needs)
+    (λ c. search needs) loop-again
     returns-2)

@@ -1,5 +1,6 @@
 -- `sheet_write_refusal::well_formed` meets its contract. The loop's invariant: the entries from i on decide. Assumes nothing.
-use Rattle.base.specs.Prelude.{ℕ, suc, _+_, _-_, _*_, _/_, _≤_, min, arith, sub-zero, _≡_, sym, _∙_, ap, Bool, not, _&&_, List, ⊎-elim, length, not-true, not-false, needs}
+use Rattle.base.specs.Prelude.{ℕ, suc, _+_, _-_, _*_, _/_, _≤_, min, arith, sub-zero, _≡_, sym, _∙_, ap, Bool, not, _&&_, List, ⊎-elim}
+use Rattle.base.specs.Prelude.{length, not-true, not-false, needs}
 use Rattle.model.specs.Bytes.{byteAt}
 use Rattle.model.specs.Sheet.{entryOf, entryAt, entriesAt, isMalformed}
 use Rattle.model_write.specs.Write.{wellFormed}
@@ -63,6 +64,8 @@ returns-2 c =
 pub well-formed-spec : {M : Type 1} → statement M
 well-formed-spec =
     tie.close
-    (tie.spec Inv-loop μ-loop loop-holds (λ c. omega arith) (λ c. omega arith) (λ c. omega arith) (λ c. omega arith) (λ c. omega arith) (λ c. omega arith)
-    (λ c. omega arith) (λ c. omega arith) (λ c. omega arith) (λ c κs. search needs) (λ c. omega arith) (λ c κs. search needs) returns (λ c. omega arith)
+    (tie.spec Inv-loop μ-loop loop-holds (λ c. omega arith) (λ c. omega arith) (λ c. omega arith) (λ c. omega arith) (λ c. omega arith)
+    (λ c. omega arith)
+    (λ c. omega arith) (λ c. omega arith) (λ c. omega arith) (λ c κs. search needs) (λ c. omega arith) (λ c κs. search needs) returns
+    (λ c. omega arith)
     (λ c. omega arith) loop-again returns-2)

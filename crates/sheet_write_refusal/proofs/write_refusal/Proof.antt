@@ -1,6 +1,7 @@
 -- `sheet_write_refusal::write_refusal` meets its contract: each part is tested in its turn. Assumes nothing.
 use denote.Ref.{now}
-use Rattle.base.specs.Prelude.{ℕ, _+_, _*_, _/_, _%_, min, arith, _≡_, sym, _∙_, cond, not, true, List, length, leb, ltb, eq-eqb, ne-eqb, le-ltb, lt-ltb, leb-true, not-false, not-true, needs}
+use Rattle.base.specs.Prelude.{ℕ, _+_, _*_, _/_, _%_, min, arith, _≡_, sym, _∙_, cond, not, true, List, length, leb, ltb, eq-eqb, ne-eqb}
+use Rattle.base.specs.Prelude.{le-ltb, lt-ltb, leb-true, not-false, not-true, needs}
 use Rattle.base.specs.Bools.{and-left, and-right}
 use Rattle.model_laws.specs.Types.{Limits}
 use Rattle.model.specs.Board.{limitsOf}
@@ -28,7 +29,8 @@ module _ (most : Limits) (n L : ℕ) (es ms : List ℕ) (room : ℕ) {k : ℕ} (
 returns : tie.Need-returns
 returns c =
     let a = c .before .before .before .before .args in
-    opening-refused (limitsOf (a .caller)) (a .n) (a .limit) (now (a .entries)) (now (a .lengths)) (a .room) (c .before .open-refusal .ensures) (c .if1 .taken)
+    opening-refused (limitsOf (a .caller)) (a .n) (a .limit) (now (a .entries)) (now (a .lengths)) (a .room)
+    (c .before .open-refusal .ensures) (c .if1 .taken)
 
 -- Past the opening.
 own : (c : tie.Else1) →
@@ -41,7 +43,8 @@ own : (c : tie.Else1) →
     (cond (not (wellFormed (bufferEntries es))) 13 (cond (ltb (a .room) (length (sheetOf (a .n) (a .limit) es ms))) 15 0)))
 own c =
     let a = c .before .before .before .before .args in
-    own-tests (limitsOf (a .caller)) (a .n) (a .limit) (now (a .entries)) (now (a .lengths)) (a .room) (c .before .open-refusal .ensures) (c .if1 .left)
+    own-tests (limitsOf (a .caller)) (a .n) (a .limit) (now (a .entries)) (now (a .lengths)) (a .room) (c .before .open-refusal .ensures)
+    (c .if1 .left)
 
 -- An entry buffer of no whole entries.
 returns-2 : tie.Need-returns-2
@@ -75,7 +78,8 @@ past-writable c =
 
 -- There are so few entries that all of them were looked at.
 all-formed : (c : tie.Else3) →
-    c .before .well-formed .result ≡ wellFormed (bufferEntries (now (c .before .before .before .before .before .before .before .before .args .entries)))
+    c .before .well-formed .result ≡ wellFormed (bufferEntries
+    (now (c .before .before .before .before .before .before .before .before .args .entries)))
 all-formed c =
     let w = c .before .before in
     let a = w .before .before .before .before .before .before .args in
@@ -105,5 +109,6 @@ returns-6 c = let e = c .before .before in sym (past-writable e ∙ rw (← all-
 pub write-refusal-spec : {M : Type 1} → statement M
 write-refusal-spec =
     tie.close
-    (tie.spec (λ c κs. search needs) returns returns-2 (λ c κs. search needs) (λ c κs. search needs) returns-3 returns-4 (λ c. search needs) (λ c. search needs)
+    (tie.spec (λ c κs. search needs) returns returns-2 (λ c κs. search needs) (λ c κs. search needs) returns-3 returns-4
+    (λ c. search needs) (λ c. search needs)
     (λ c. search needs) returns-5 returns-6)

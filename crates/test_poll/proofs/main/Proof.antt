@@ -1,4 +1,5 @@
--- `test_poll::main` is safe and ends: each poll ends at a later byte. The loop's invariant: the input is at most 65,536 bytes. Assumes nothing.
+-- `test_poll::main` is safe and ends: each poll ends at a later byte. The loop's invariant: the input is at most 65,536 bytes. Assumes
+-- nothing.
 use Rattle.base.specs.Prelude.{_-_, _≤_, arith, needs}
 use Rattle.use_input.specs.Input.{held-bytes}
 use Rattle.test_poll.proofs.main.Statement.{statement}

@@ -1,5 +1,5 @@
--- `test_poll::operations` is safe and ends. The loop's invariant: i is at most the number of operations, and no place is past the largest number.
--- Assumes nothing.
+-- `test_poll::operations` is safe and ends. The loop's invariant: i is at most the number of operations, and no place is past the largest
+-- number. Assumes nothing.
 use Rattle.base.specs.Prelude.{_-_, _≤_, arith, needs}
 use Rattle.test_poll.proofs.operations.Statement.{statement}
 use Rattle.test_poll.proofs.operations.Tie as tie

@@ -21,7 +21,8 @@ pub put-outcome-spec : {M : Type 1} → statement M
 put-outcome-spec =
     tie.close
     (tie.spec
-    (search needs) (search needs) (search needs) (search needs) (search needs)  -- refused: the ending, the words, the code, the numbers, the call
+    (search needs) (search needs) (search needs) (search needs)
+    (search needs)  -- refused: the ending, the words, the code, the numbers, the call
     (search needs) (search needs) (search needs) (search needs) (search needs)  -- rejected: the same
     (search needs) (search needs) (search needs)  -- any other: the words, the number, the call
     refused rejected finished)

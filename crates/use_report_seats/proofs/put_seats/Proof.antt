@@ -43,7 +43,8 @@ loop-again c =
 returns-2 : tie.Need-returns-2 Inv-loop μ-loop
 returns-2 c =
     let a = c .before in
-    rw (seats-all (a .before .args .t3 .processes) (a .loop .p) (a .before .args .t3 .n) (omega (arith, long (a .before))) (a .loop .inv .1)) (a .loop .inv .2)
+    rw (seats-all (a .before .args .t3 .processes) (a .loop .p) (a .before .args .t3 .n) (omega (arith, long (a .before)))
+    (a .loop .inv .1)) (a .loop .inv .2)
 
 pub put-seats-spec : {M : Type 1} → statement M
 put-seats-spec =

@@ -25,7 +25,8 @@ module _ (t : ℕ) where
   returns c = same (sym (digits-low 19 _ (c .before .before .if1 .taken))) (c .put-byte .ensures)
 
   returns-2 : lts.Need-returns-2 (put-byte.Asked, put-byte.Learnt, below t, put-number.Post) (at t) put-number.Post
-  returns-2 c = same (sym (digits-last 18 _ (omega arith) (omega arith))) (after (c .before .before .put-number .ensures) (c .put-byte2 .ensures))
+  returns-2 c = same (sym (digits-last 18 _ (omega arith) (omega arith)))
+      (after (c .before .before .put-number .ensures) (c .put-byte2 .ensures))
 
 pub +put-number-spec : {M : Type 1} → statement M
 +put-number-spec =
