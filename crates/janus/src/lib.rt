@@ -63,7 +63,8 @@ pub extern "C" fn janus_write(
     sheet: &mut [u8],
     size: &mut usize,
 ) -> u32
-    ensures { λ r. ⌜ exportOf r (now (sheet .exit)) (now (size .exit)) ≡ writeExport Server n limit (now (entries .entry)) (now (lengths .entry)) (now (sheet .entry)) (now (size .entry)) ⌝ }
+    ensures { λ r. ⌜ exportOf r (now (sheet .exit)) (now (size .exit))
+        ≡ writeExport Server n limit (now (entries .entry)) (now (lengths .entry)) (now (sheet .entry)) (now (size .entry)) ⌝ }
 {
     janus_written::write(Caller::Server, n, limit, entries, lengths, sheet, size)
 }

@@ -14,7 +14,8 @@ pub fn write(
     sheet: &mut [u8],
     size: &mut usize,
 ) -> u32
-    ensures { λ r. ⌜ exportOf r (now (sheet .exit)) (now (size .exit)) ≡ writeExport caller n limit (now (entries .entry)) (now (lengths .entry)) (now (sheet .entry)) (now (size .entry)) ⌝ }
+    ensures { λ r. ⌜ exportOf r (now (sheet .exit)) (now (size .exit))
+        ≡ writeExport caller n limit (now (entries .entry)) (now (lengths .entry)) (now (sheet .entry)) (now (size .entry)) ⌝ }
 {
     let answer = sheet_write::write(caller, n, limit, entries, lengths, sheet);
     let code = answer.code;

@@ -12,7 +12,8 @@ use model::CountAnswer;
 fn put_pairs(lengths: &[usize], sheet: &mut [u8])
     requires { ⌜ length (now lengths) ≤ 16 ⌝ }
     requires { ⌜ 4 + 4 * length (now lengths) + 6 * total (now lengths) ≤ 65535 ⌝ }
-    ensures { λ _. ⌜ now (sheet .exit) ≡ sets (now (sheet .entry)) 4 (pairBytes (laidOut (4 + 4 * length (now (lengths .entry))) (now (lengths .entry)))) ⌝ }
+    ensures { λ _. ⌜ now (sheet .exit)
+        ≡ sets (now (sheet .entry)) 4 (pairBytes (laidOut (4 + 4 * length (now (lengths .entry))) (now (lengths .entry)))) ⌝ }
 {
     let mut from = 4 + 4 * lengths.len();
     let mut i: usize = 0;
@@ -47,7 +48,8 @@ pub fn write(
     lengths: &[usize],
     sheet: &mut [u8],
 ) -> CountAnswer
-    ensures { λ r. ⌜ wrote r (now (sheet .exit)) ≡ writeResult (limitsOf caller) n limit (now (entries .entry)) (now (lengths .entry)) (now (sheet .entry)) ⌝ }
+    ensures { λ r. ⌜ wrote r (now (sheet .exit))
+        ≡ writeResult (limitsOf caller) n limit (now (entries .entry)) (now (lengths .entry)) (now (sheet .entry)) ⌝ }
 {
     let code = sheet_write_refusal::write_refusal(caller, n, limit, entries, lengths, sheet.len());
     if code != 0 {

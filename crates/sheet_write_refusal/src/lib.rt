@@ -35,7 +35,9 @@ fn add_up(lengths: &[usize], entries: usize) -> bool
 
 // "17: more than 16 runs, over 65,535 bytes, or run lengths that do not add up to the entries", of an entry buffer of so many bytes.
 fn writable(size: usize, lengths: &[usize]) -> bool
-    ensures { λ r. ⌜ r ≡ leb (length (now (lengths .entry))) 16 && leb (4 + 4 * length (now (lengths .entry)) + size) 65535 && eqb (total (now (lengths .entry))) (size / 6) ⌝ }
+    ensures { λ r. ⌜ r ≡ leb (length (now (lengths .entry))) 16
+        && leb (4 + 4 * length (now (lengths .entry)) + size) 65535
+        && eqb (total (now (lengths .entry))) (size / 6) ⌝ }
 {
     let count = lengths.len();
     if 16 < count {

@@ -30,7 +30,8 @@ pub extern "C" fn caller_open_poll(caller: u8, n: usize) -> u32
 #[no_mangle]
 pub extern "C" fn caller_report(caller: u8, sheet: &[u8], budget: usize, buffer: &mut [u8]) -> usize
     ensures code { λ r. ⌜ r ≡ textCode (reportOf (runOf (callerOf caller) (now (sheet .entry)) budget)) (now (buffer .entry)) ⌝ }
-    ensures writes { λ _. ⌜ now (buffer .exit) ≡ textBuffer (reportOf (runOf (callerOf caller) (now (sheet .entry)) budget)) (now (buffer .entry)) ⌝ }
+    ensures writes { λ _. ⌜ now (buffer .exit)
+        ≡ textBuffer (reportOf (runOf (callerOf caller) (now (sheet .entry)) budget)) (now (buffer .entry)) ⌝ }
 {
     janus_report::put_report(sheet_run::run(caller_of(caller), sheet, budget), buffer)
 }
@@ -46,7 +47,8 @@ pub extern "C" fn caller_write(
     sheet: &mut [u8],
     size: &mut usize,
 ) -> u32
-    ensures { λ r. ⌜ exportOf r (now (sheet .exit)) (now (size .exit)) ≡ writeExport (callerOf caller) n limit (now (entries .entry)) (now (lengths .entry)) (now (sheet .entry)) (now (size .entry)) ⌝ }
+    ensures { λ r. ⌜ exportOf r (now (sheet .exit)) (now (size .exit))
+        ≡ writeExport (callerOf caller) n limit (now (entries .entry)) (now (lengths .entry)) (now (sheet .entry)) (now (size .entry)) ⌝ }
 {
     janus_written::write(caller_of(caller), n, limit, entries, lengths, sheet, size)
 }
