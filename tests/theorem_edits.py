@@ -7,18 +7,21 @@ case is false, of the two rules' bounds on the window and on the limits, and of 
 
 Each file of tests/theorem-edits names a file, a text of it and another text, or several such pairs, the crate to check after the change, and the
 file and lemma at which the check must refuse it first; several lemmas where the first of them is true and only its proof fails. It also has a
-list of calls: the processes and rounds of the opening, the proposals of process 0, 1, .., and the steps, `p*k` for k steps of process p; and
-what they commit and write, or how many rounds are contested and marked after a sheet of them. From these a proof that the rule is false of the
-changed machine is made, and that must be accepted. Where the edit has a window, the calls are at that window and the rule that is false is the
-one at every window, or the claim of Safe.antt that it names; where it has none, the one in service. Where it has limits, processes and rounds,
-the opening is within those; where it has none, within the server's. A list that is one proposal has the number that it returns, 3, in place of
-what is committed and written.
+list of calls, and what they show. From these a proof that the rule is false of the changed machine is made, and that must be accepted.
 
-An edit of polls has the claim that it refutes, one of those that a file polls_CLAIM.template is for. Its opening has no rounds and
-its steps are turns; it has the answers that the calls give, none where the field is left out, and the number that the last of them returns where
-that is not 0. An edit of which a paper case is false has the case's row in place of the list, as the table has it: the table that holds that row
-alone must be proved false of the changed machine. An edit of a contract names a crate in place of the list, which must still be proved:
-the function meets the changed contract. All of it runs in a copy of the repository.
+The list is of the processes and rounds of the opening (a poll's has no rounds); the proposals of process 0, 1, ..; and the steps, or a poll's turns:
+`p*k` for k steps of process p, told to lead, and `p:look`, `p:crash` and `p:unled` for a look, a crash and a step that is not told to lead. Where
+the edit has a window, the calls are at that window and the rule that is false is the one at every window, or the claim of Safe.antt that it names;
+where it has none, the one in service. Where it has limits, processes and rounds, the opening is within those; where it has none, within the server's.
+
+`refutes` has the part that is false. It is a field of `Rule`, or of `PollRule`; SESSION_PARTS and POLL_PARTS below say what an edit then shows: who
+decides, commits, writes, answers or holds what. Or it is the equality with the machine: `machine`, where the last call returns 3, or `differs`, where
+another number of its answer is not the machine's; `last` has both numbers, and each call brings counts of the number in `counts`, 0 where there is
+none. An edit without `refutes` has how many rounds are contested and marked after a sheet of the calls.
+
+An edit of which a paper case is false has the case's row in place of the list, as the table has it: the table that holds that row alone must be
+proved false of the changed machine. An edit of a contract names a crate in place of the list, which must still be proved: the function meets the
+changed contract. All of it runs in a copy of the repository.
 """
 import os
 import re
@@ -35,7 +38,38 @@ if sys.argv[1:] in (["--help"], ["-h"]):
 
 ROOT = Path(__file__).resolve().parent.parent
 EDITS = ROOT / "tests" / "theorem-edits"
+# The calls as a proof has them.
+SESSION_CALLS = {"proposal": "Propose {p} {v}", "step": "works {p}", "unled": "Step {p} false", "look": "Learn {p}", "crash": "Crash {p}"}
+POLL_CALLS = {"proposal": "proposes {p} {v}", "step": "turns {p}", "crash": "crashes {p}"}
+# The parts of the two rules: the fields of an edit that refutes one, with the form of each; what they say, as `Refuted.antt` and `PollRefuted.antt` of
+# model_rule_cases have it; and by how many equations that is shown.
+NUMBER = r"(?P<v>\d+) by process (?P<p>\d+)"
+OTHER = r"(?P<u>\d+) by process (?P<q>\d+)"
+TURNS = r"(?P<k>\d+) turns by process (?P<p>\d+)"
+SESSION_PARTS = {
+    "holds": ({"decides": NUMBER}, "noLongerHeld {p} {v}", 2),
+    "looked": ({"holds": NUMBER}, "neverLooked {p} {v}", 3),
+    "agreement": ({"decides": f"{NUMBER}, {OTHER}"}, "twoNumbers {p} {v} {q} {u}", 3),
+    "validity": ({"decides": NUMBER}, "notProposed {p} {v}", 2),
+    "commitment": ({"commits": r"(?P<v>\d+) in round (?P<R>\d+)", "writes": r"(?P<u>\d+) in round (?P<r>\d+) by process (?P<p>\d+)"},
+                   "writtenLater {R} {v} {p} {r} {u}", 4),
+}
+POLL_PARTS = {
+    "validity": ({"answers": rf"(?P<a>\w+) {NUMBER}"}, "notProposed {p} ({a} {v}) {v}", 3),
+    "agreement": ({"answers": rf"committed {NUMBER}, (?P<a>\w+) {OTHER}"}, "twoNumbers {p} {v} {q} ({a} {u}) {u}", 4),
+    "unanimity": ({"answers": rf"(?P<a>\w+) {NUMBER}", "proposals": r"(?P<u>\d+)( (?P=u))*"}, "notCommitted {p} ({a} {v}) {v} {u}", 4),
+    "kept": ({"answers": rf"(?P<a>\w+) {NUMBER}"}, "notKept {p} ({a} {v}) {v}", 3),
+    "shown": ({"holds": NUMBER}, "notGiven {p} {v}", 2),
+    "onePass": ({"takes": TURNS}, "tooMany {p} {k}", 2),
+    "working": ({"takes": TURNS}, "stillWorks {p} {k}", 3),
+}
 ANSWERS = {"committed": "Commits", "adopted": "Adopts"}
+# A number of an answer, as an edit has it and as a proof.
+NUMBERS = {"code": "a .code", "reads": "a .counts .reads", "round of process 0": "processAt (a .session) 0 .round"}
+# The definitions by which a list of calls is computed.
+DEFINITIONS = """window rootUp rootFrom opened waitingRule phaseAccess access found goOn phaseNext next learnt stored turn counted full openingFor accessOf becomes
+    after countsAfter answered perform soundPhaseAs soundProcessAs pollRegisters soundForAs operateForAs proposeForAs stepFor learnFor crashForAs"""
+POLL_DEFINITIONS = "withoutDecision pollAccess ending pollNext answerOf pollOpeningFor turnAfter turnCounts turned pollPerform pollTurnFor"
 
 
 def read_edit(path):
@@ -85,26 +119,27 @@ def refused(output, number=1):
 
 
 def calls(edit):
-    """The calls, oldest first: the process, and the number that it proposes, None for a step."""
+    """The calls, oldest first: the process, what it is called for, and the number that it proposes."""
     for p, v in enumerate(edit["proposals"].split()):
-        yield p, int(v)
-    for part in edit["steps"].split():
-        p, _, times = part.partition("*")
-        yield from [(int(p), None)] * int(times or 1)
+        yield p, "proposal", int(v)
+    for part in edit["steps"].split() if "steps" in edit else []:
+        call, _, times = part.partition("*")
+        p, _, what = call.partition(":")
+        yield from [(int(p), what or "step", None)] * int(times or 1)
 
 
 def listed(terms):
     return " ∷ ".join([*map(str, terms), "[]"])
 
 
-def operations(edit, proposal, step):
-    """The calls as a proof has them, oldest first; `proposal` and `step` are its words for those."""
-    return [f"{step} {p}" if v is None else f"{proposal} {p} {v}" for p, v in calls(edit)]
+def operations(edit, words):
+    """The calls as a proof has them, oldest first."""
+    return [words[what].format(p=p, v=v) for p, what, v in calls(edit)]
 
 
 def sheet(edit):
     """The bytes of a sheet of the calls, in one run."""
-    entries = [bytes([1, p, 1, 0, 0, 0]) if v is None else bytes([0, p]) + v.to_bytes(4, "little") for p, v in calls(edit)]
+    entries = [bytes([0, p]) + v.to_bytes(4, "little") if what == "proposal" else bytes([1, p, 1, 0, 0, 0]) for p, what, v in calls(edit)]
     header = bytes([int(edit["processes"]), 1]) + int(edit["rounds"]).to_bytes(2, "little")
     return header + (8).to_bytes(2, "little") + (6 * len(entries)).to_bytes(2, "little") + b"".join(entries)
 
@@ -126,44 +161,48 @@ def claimed(edit, in_service, at_every_window, *numbers):
     return {"w": "window", "claim": in_service, "file": "Rule", "of": f"{given} most up"}
 
 
-def poll_refutation(edit):
-    proposals = edit["proposals"].split()
-    answers = [answer.split() for answer in edit["answers"].split(", ")] if "answers" in edit else []
-    given = [f"{ANSWERS[word]} {value}" for word, value in answers]
-    values = {
-        "list": listed(operations(edit, "proposes", "turns")[::-1]),
-        "n": edit["processes"],
-        "answers": listed(given[::-1]),
-        "code": edit.get("returns", "0"),
-        "proposals": listed(proposals[::-1]),
-        "proposed": proposals[0],
-        "longer": "true" if edit["refutes"] == "pass" else "false",
-        **claimed(edit, "PollClaim", "EveryPollWindow", "processes"),
-    }
-    if given:
-        values |= {"first": given[0], "v": answers[0][1], "last": given[-1], "u": answers[-1][1]}
-    return ["polls.template", f"polls_{edit['refutes']}.template"], "base model model_rule model_poll model_rule_cases", values
+def part_shown(edit, parts):
+    """What the edit says that its list of calls shows, as the templates have it."""
+    fields, shown, equations = parts[edit["refutes"]]
+    words = {}
+    for field, form in fields.items():
+        words |= re.fullmatch(form, edit[field]).groupdict()
+    if "a" in words:
+        words["a"] = ANSWERS[words["a"]]
+    return {"shown": shown.format(**words), "proof": f"({', '.join(['refl'] * equations)})"}
+
+
+def last_answer(edit):
+    """The number of the last answer that the edit speaks of, what it is, and what the machine's is."""
+    number, answer, machine = re.fullmatch(r"(.+) (\d+), the machine's (\d+)", edit["last"]).groups()
+    return {"number": NUMBERS[number], "answer": answer, "machine": machine}
 
 
 def refutation(edit):
     """The templates of the proof that the edit refutes the theorem, the crates that it uses, and what the templates are filled with."""
-    if "refutes" in edit:
-        return poll_refutation(edit)
-    crates = "base model model_rule"
     if "contested" in edit:
-        return ["contested.template"], crates, {"sheet": listed(sheet(edit)), "contested": edit["contested"], "marked": edit["marked"]}
-    values = {"n": edit["processes"], "L": edit["rounds"], **claimed(edit, "AgreementRule", "EveryWindow", "processes", "rounds")}
-    if "returns" in edit:
-        return ["machine.template"], crates, values | {"v": edit["proposals"], "code": edit["returns"]}
-    v, R = re.fullmatch(r"(\d+) in round (\d+)", edit["commits"]).groups()
-    u, r, p = re.fullmatch(r"(\d+) in round (\d+) by process (\d+)", edit["writes"]).groups()
-    values |= {"operations": listed(operations(edit, "Propose", "works")), "R": R, "v": v, "p": p, "r": r, "u": u}
-    return ["refuted.template"], crates + " model_rule_cases", values
+        values = {"sheet": listed(sheet(edit)), "contested": edit["contested"], "marked": edit["marked"]}
+        return ["contested"], "base model model_rule", values
+    poll = "rounds" not in edit
+    parts = POLL_PARTS if poll else SESSION_PARTS
+    done = operations(edit, POLL_CALLS if poll else SESSION_CALLS)
+    values = {"n": edit["processes"], "oldest": listed(done), "newest": listed(done[::-1]), "counts": edit.get("counts", "0")}
+    if poll:
+        values |= {"definitions": f"{DEFINITIONS} {POLL_DEFINITIONS}", **claimed(edit, "PollClaim", "EveryPollWindow", "processes")}
+    else:
+        values |= {"definitions": DEFINITIONS, "L": edit["rounds"], **claimed(edit, "AgreementRule", "EveryWindow", "processes", "rounds")}
+    if edit["refutes"] in parts:
+        templates = ["polls", "calls", "polls_rule"] if poll else ["sessions", "sessions_rule"]
+        values |= part_shown(edit, parts)
+    else:
+        templates = ["polls" if poll else "sessions", "calls", "answers", edit["refutes"]]
+        values |= last_answer(edit)
+    return templates, "base model model_poll model_rule model_rule_cases", values
 
 
 def write_refutation(copy, edit):
     templates, uses, values = refutation(edit)
-    text = "".join((EDITS / template).read_text(encoding="utf-8") for template in templates)
+    text = "".join((EDITS / f"{template}.template").read_text(encoding="utf-8") for template in templates)
     for key, value in {"most": limits(edit), **values}.items():
         text = text.replace(f"@{key}@", value)
     crate = copy / "crates" / "refuted"

@@ -6,29 +6,10 @@ use Rattle.model.specs.declared.Operation.{Operation}
 use Rattle.model.specs.Board.{limitsOf}
 use Rattle.model.specs.Machine.{openingFor, processOf}
 use Rattle.model.specs.Sound.{every}
-use Rattle.model_rule.specs.Event.{Event, proposal, write, flag, commit, decision, here, there, Happened, DecidedOn}
+use Rattle.model_rule.specs.Event.{Event, commit, decision, DecidedOn}
 use Rattle.model_rule.specs.Calls.{sessions}
 use Rattle.model_rule_cases.specs.Play.{played}
-
--- Whether the event is a commit of v in round r; a decision of process p for v.
-abbrev pub commits : (r v : ℕ) → Event → Bool
-commits r v (proposal u) = false
-commits r v (write p q u) = false
-commits r v (flag q) = false
-commits r v (commit q u) = eqb q r && eqb u v
-commits r v (decision p u) = false
-
-abbrev pub decides : (p v : ℕ) → Event → Bool
-decides p v (proposal u) = false
-decides p v (write o q u) = false
-decides p v (flag q) = false
-decides p v (commit q u) = false
-decides p v (decision o u) = eqb o p && eqb u v
-
--- Whether a test holds of some event of a past.
-abbrev pub some : (Event → Bool) → List Event → Bool
-some test [] = false
-some test (e ∷ h) = cond (test e) true (some test h)
+use Rattle.model_rule_cases.specs.Events.{occurs, occurs-happened}
 
 -- What a process is said to do: it commits the value in the round, and by its look it is decided with it.
 pub record Commitment : Type 0 where
@@ -46,7 +27,7 @@ pub record Row : Type 0 where
   pub second : Commitment
 
 unfoldable pub happens : List Event → Commitment → Bool
-happens h c = some (commits (c .round) (c .value)) h && some (decides (c .process) (c .value)) h
+happens h c = occurs (commit (c .round) (c .value)) h && occurs (decision (c .process) (c .value)) h
 
 -- The past of the row's machine: its opening, within the server's limits, and operations at its window.
 abbrev pub pastOf : Row → List Event
@@ -67,32 +48,10 @@ breaks r =
 
 -- ---- what the tests say
 
--- A test that holds of one event alone, found in a past.
-pub some-happened : (test : Event → Bool) (x : Event) → ((e : Event) → test e ≡ true → e ≡ x) → (h : List Event) → some test h ≡ true → Happened x h
-some-happened test x only [] = λ t. absurd (true≢false (sym t))
-some-happened test x only (e ∷ h) =
-    cond-cases (λ (b : Bool). b ≡ true → Happened x (e ∷ h)) (test e)
-    (λ t u. subst (λ (y : Event). Happened y (e ∷ h)) (only e t) (record { before = h; past = here }))
-    (λ t u. let a = some-happened test x only h u in record { before = a .before; past = there (a .past) })
-
-pub commits-only : (r v : ℕ) (e : Event) → commits r v e ≡ true → e ≡ commit r v
-commits-only r v (proposal u) t = absurd (true≢false (sym t))
-commits-only r v (write o q u) t = absurd (true≢false (sym t))
-commits-only r v (flag q) t = absurd (true≢false (sym t))
-commits-only r v (commit q u) t = rw (eqb-true q r (and-left (eqb q r) (eqb u v) t), eqb-true u v (and-right (eqb q r) (eqb u v) t)) refl
-commits-only r v (decision p u) t = absurd (true≢false (sym t))
-
-decides-only : (p v : ℕ) (e : Event) → decides p v e ≡ true → e ≡ decision p v
-decides-only p v (proposal u) t = absurd (true≢false (sym t))
-decides-only p v (write o q u) t = absurd (true≢false (sym t))
-decides-only p v (flag q) t = absurd (true≢false (sym t))
-decides-only p v (commit q u) t = absurd (true≢false (sym t))
-decides-only p v (decision o u) t = rw (eqb-true o p (and-left (eqb o p) (eqb u v) t), eqb-true u v (and-right (eqb o p) (eqb u v) t)) refl
-
 -- What happens of a decision.
 happens-decided : (h : List Event) (c : Commitment) → happens h c ≡ true → DecidedOn (c .process) (c .value) h
 unfolding happens
-happens-decided h c t = some-happened _ _ (decides-only (c .process) (c .value)) h (and-right (some (commits (c .round) (c .value)) h) _ t)
+happens-decided h c t = occurs-happened (decision (c .process) (c .value)) h (and-right (occurs (commit (c .round) (c .value)) h) _ t)
 
 -- What a row that breaks shows.
 pub record Broken (r : Row) : Type 0 where
