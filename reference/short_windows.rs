@@ -31,7 +31,7 @@ use std::iter::repeat_n;
 use std::process::ExitCode;
 
 use janus_reference::random::Random;
-use janus_reference::session::MAX_PROCESSES;
+use janus_reference::session::{MAX_PROCESSES, MAX_ROUNDS};
 use janus_reference::{window, Answer, Counts, Operation, Phase, Poll, Refusal, Session};
 
 /// What is found, or what is not as said.
@@ -204,6 +204,15 @@ fn session_list(window: usize) -> List {
         overtake(&mut list, last, round);
     }
     list.learn(last);
+    list
+}
+
+/// One that breaks the rule at every L from W on: after the commit of v in round W the
+/// other process writes u there.
+fn written_over(window: usize, limit: usize) -> List {
+    let (mut list, first, last) = Construction::epochs(window, limit);
+    commit(&mut list, first);
+    list.step(last, 1);
     list
 }
 
@@ -401,6 +410,19 @@ fn two_commits(list: &List, n: usize, [first, second]: [u32; 2]) -> Found<()> {
     check().map_err(|wrong| format!("W {}, {n} seats: {wrong}", list.window))
 }
 
+/// In a session of n processes every call is accepted and leaves it sound; the last step
+/// but one commits v in round W, the last one writes u there, and no other commits.
+fn other_write(list: &List) -> Found<()> {
+    let check = || {
+        let mut play = Play::open(list.window, list.n, list.limit)?;
+        carry_out(list, |call| play.call(call).map_err(refused))?;
+        play.check_sound()?;
+        same("commits by round", &play.past.committed, &vec![(play.window, V)])?;
+        same("last write", play.past.written.last(), Some(&(play.window, U)))
+    };
+    check().map_err(|wrong| format!("W {}, L {}: {wrong}", list.window, list.limit))
+}
+
 // ---------------------------------------------------------------- polls
 
 /// In a poll every call is accepted and leaves it sound; one answer is committed v, and
@@ -500,6 +522,17 @@ fn check_construction() -> Found<()> {
         let most = window * window / 4;
         println!("W {window}: {seats} seats, {most} within the bound, {turns} work turns: {end}");
     }
+    Ok(())
+}
+
+/// The construction up to the second value in round W, at every L from W on.
+fn check_limits() -> Found<()> {
+    for window in 2..=LARGEST {
+        for limit in window..=MAX_ROUNDS {
+            other_write(&written_over(window, limit))?;
+        }
+    }
+    println!("W from 2 to {LARGEST}, L from W to {MAX_ROUNDS}: {V} committed and {U} written in round W");
     Ok(())
 }
 
@@ -685,6 +718,7 @@ const USAGE: &str =
 
 fn check() -> Found<()> {
     check_construction()?;
+    check_limits()?;
     check_searched()?;
     check_polls()?;
     check_service()?;
