@@ -1,4 +1,5 @@
--- A list of calls for every window W in which two turns commit different values, with limit 2W - 1. Epoch i is the time in which round i is the highest one
+-- A list of calls for every window W in which two turns commit different values, in 2W - 1 rounds; W of them are enough for a commit and a write of another
+-- value in its round. Epoch i is the time in which round i is the highest one
 -- written. Each epoch from 1 to W - 1 has two passes: in the first a process passes round i with one value, then every register 1 to i is written over,
 -- and in the second another process passes it with the other value. So at the end two processes stand before the write to register W, one with each
 -- value, the registers below hold the one, and nothing is marked.
@@ -10,7 +11,6 @@ use lib.ListN.{replicate}
 use Rattle.model.specs.declared.Operation.{Operation}
 use Rattle.model.specs.declared.Operation.the-variants.{Propose, Learn}
 use Rattle.model_rule_cases.specs.Play.{works}
-use Rattle.model_rule_cases.specs.Breaks.{Row}
 
 -- ---- numbers
 
@@ -181,24 +181,22 @@ abbrev pub lastSteps : (W m : ℕ) → ℕ
 lastSteps W m =
     (cond (eqb m 0) 0 1) + 1 + W + (W - 1 - m) + (cond (eqb (m + 1) W) (2 * W + 1) (2 * m + 3))
 
--- The two at register W: one writes, compares, checks, commits 1 and looks; then the other writes over it, goes on alone to round 2W - 1, commits 2 there
--- and looks.
-unfoldable pub construction : (W : ℕ) → Row
+-- The list in two parts, and the two processes at register W. In the first part, of W rounds, one writes, compares, checks, commits 1 and looks; then the
+-- other writes 2 over it. In the second part, of 2W - 1 rounds, the other goes on alone to round 2W - 1, commits 2 there and looks.
+pub record Plan : Type 0 where
+  pub one : ℕ
+  pub other : ℕ
+  pub first : List Operation
+  pub second : List Operation
+
+unfoldable pub construction : (W : ℕ) → Plan
 construction W =
     let s = atLast W in
     let one = withOne W s in
     let other = withTwo W s in
     record {
-      n = s .proposed;
-      window = W;
-      limit = 2 * W - 1;
-      operations =
-          s .operations
-          ++ replicate (commitSteps W) (works one)
-          ++ Learn one
-          ∷ replicate (count (map (lastSteps W) (from 0 W))) (works other)
-          ++ Learn other
-          ∷ [];
-      first = record { process = one; round = W; value = 1 };
-      second = record { process = other; round = 2 * W - 1; value = 2 };
+      one = one;
+      other = other;
+      first = s .operations ++ replicate (commitSteps W) (works one) ++ Learn one ∷ works other ∷ [];
+      second = replicate (count (map (lastSteps W) (from 0 W)) - 1) (works other) ++ Learn other ∷ [];
     }

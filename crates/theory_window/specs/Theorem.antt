@@ -1,47 +1,119 @@
 -- Windows that are too short (document 02, wish 7), and which windows are safe for how many processes.
-use Rattle.base.specs.Prelude.{ℕ, suc, zero, _+_, _*_, _-_, _/_, _≤_, _<_, arith, mul-le-mul, _≡_, refl, sym, _∙_, ap, subst, ℕ-discrete, decLe, Bool, true, cond, _&&_, List, [], _∷_, eqb, leb, ltb, eqb-true}
+use Rattle.base.specs.Prelude.{ℕ, suc, zero, _+_, _*_, _-_, _/_, _≤_, _<_, arith, mul-le-mul, add-zero, add-assoc, _≡_, refl, sym, _∙_, ap, ap₂, subst, ℕ-discrete, decLe, Bool, true, true≢false, cond, _&&_, List, [], _∷_, _++_, eqb, leb, ltb, eqb-true}
 use Rattle.base.specs.Bools.{and-left, and-right}
 use Rattle.model.specs.declared.Caller.the-variants.{Server}
 use Rattle.model.specs.declared.Session.{Session}
 use Rattle.model.specs.Window.{window, rootUp, rootFrom}
-use Rattle.model.specs.Board.{limitsOf, opened, maxProcesses}
+use Rattle.model.specs.Board.{limitsOf, opened, maxProcesses, maxRounds}
 use Rattle.model.specs.Machine.{openingFor}
 use Rattle.model.specs.Sound.{every}
 use Rattle.model.specs.ReadOut.{holds}
-use Rattle.model_laws.specs.Operations.{opening-accepts, opening-accepted}
-use Rattle.model_rule.specs.Event.{Event, DecidedOn}
-use Rattle.model_rule.specs.Calls.{sessions}
-use Rattle.model_rule.specs.Safe.{SafeWithin, threshold, ExactWindows}
-use Rattle.model_rule_cases.specs.Play.{played, breaks-rule}
-use Rattle.model_rule_cases.specs.Breaks.{Row, pastOf, breaks, breaks-shows}
+use Rattle.model_laws.specs.Operations.{opening-accepts}
+use Rattle.model_rule.specs.Event.{Event, proposal, write, flag, commit, decision, DecidedOn}
+use Rattle.model_rule.specs.Calls.{sessions, RunWith}
+use Rattle.model_rule.specs.Rule.{Rule, AgreementWithin}
+use Rattle.model_rule.specs.Safe.{threshold, ExactWindows, TwoDecisions, DifferentDecisions}
+use Rattle.model_rule_cases.specs.Play.{fedBy, played, played-append, Called, called, called-past, breaks-rule}
+use Rattle.model_rule_cases.specs.Breaks.{commits, some, some-happened, commits-only, differ-shows}
 use Rattle.theory_agreement.specs.Theorem.{below-threshold}
-use Rattle.theory_window.specs.Construction.{from, construction}
-use Rattle.theory_window.specs.Broken.{broken, all-broken}
-use Rattle.theory_window.specs.More.{sessions-more}
+use Rattle.theory_window.specs.Construction.{from, Plan, construction}
+use Rattle.theory_window.specs.More.{grown, inside, Same, sessions-same}
+use Rattle.theory_window.specs.Broken.{writes, writtenOver, twoDecisions, afterFirst, broken, all-broken}
 
--- ---- a row, with more processes
+-- ---- the list of a window, with more processes and more rounds
 
--- What breaks the rule with n processes breaks it with more.
-pub row-unsafe : (r : Row) → breaks r ≡ true → (n : ℕ) → r .n ≤ n → n ≤ maxProcesses → SafeWithin (limitsOf Server) (r .window) n → ⊥
-unfolding opened
-row-unsafe r t n more few safe =
-    let W = r .window in
-    let L = r .limit in
-    let b = breaks-shows r t in
-    let o = opening-accepted (limitsOf Server) W (r .n) L (b .opens) in
-    let large = opening-accepts (limitsOf Server) W n L (omega (arith, o .0)) few (o .2) (o .3) in
-    let pastFrom : Session → List Event = λ s. played (sessions W) s [] (r .operations) .1 in
-    let same : pastOf r ≡ pastFrom (openingFor (limitsOf Server) W n L .session) =
-    ap pastFrom (o .4)
-    ∙ sym (ap (λ x. x .1) (sessions-more W n (r .n) (opened (r .n) L) [] (r .operations) refl more (b .inside)))
-    ∙ ap pastFrom (sym (large .1)) in
-    breaks-rule (limitsOf Server) (λ m. W) n L (r .operations) (large .0)
-    (λ s rule.
-    b .unlike
-    (rule .agreement (r .first .process) (r .second .process) (r .first .value) (r .second .value)
-    (subst (DecidedOn (r .first .process) (r .first .value)) same (b .one))
-    (subst (DecidedOn (r .second .process) (r .second .value)) same (b .other))))
-    (safe L)
+writes-only : (p r v : ℕ) (e : Event) → writes p r v e ≡ true → e ≡ write p r v
+writes-only p r v (proposal u) t = absurd (true≢false (sym t))
+writes-only p r v (write o q u) t =
+    let a = eqb o p in
+    let b = eqb q r in
+    let two = and-left (a && b) (eqb u v) t in
+    rw (eqb-true o p (and-left a b two), eqb-true q r (and-right a b two), eqb-true u v (and-right (a && b) (eqb u v) t)) refl
+writes-only p r v (flag q) t = absurd (true≢false (sym t))
+writes-only p r v (commit q u) t = absurd (true≢false (sym t))
+writes-only p r v (decision o u) t = absurd (true≢false (sym t))
+
+-- No rule allows a past in which 1 is committed in round W and 2 is written there.
+never-over : (W : ℕ) (c : Plan) (s : Session) (h : List Event) → writtenOver W c h ≡ true → Rule s h → ⊥
+unfolding writtenOver
+never-over W c s h t rule =
+    let a = some (commits W 1) h in
+    let committed = some-happened _ _ (commits-only W 1) h (and-left a _ t) in
+    let written = some-happened _ _ (writes-only (c .other) W 2) h (and-right a _ t) in
+    omega (arith, rule .commitment W W 2 1 committed (c .other, written) (omega arith))
+
+grown-twice : (a b c : ℕ) (s : Session) → grown a c (grown 0 b s) ≡ grown a (b + c) s
+grown-twice a b c s = rw (add-zero (s .n), add-assoc (s .limit) b c) refl
+
+module _ (W n L : ℕ) (t : broken W ≡ true) (enough : threshold W ≤ n) (few : n ≤ maxProcesses) (wide : W ≤ L) (low : L ≤ maxRounds) where
+  -- What is opened: so many processes and rounds more than the list needs.
+  opens : let a = openingFor (limitsOf Server) W n L in
+      (a .code ≡ 0) × (a .session ≡ grown (n - threshold W) (L - W) (opened (threshold W) W))
+  unfolding opened
+  opens =
+      let o = opening-accepts (limitsOf Server) W n L (omega arith) few wide low in
+      let size : n ≡ threshold W + (n - threshold W) = omega arith in
+      let rounds : L ≡ W + (L - W) = omega arith in
+      (o .0, o .1 ∙ ap₂ opened size rounds)
+
+  -- The first part.
+  first-part : Same (sessions W) inside (n - threshold W) (L - W) (opened (threshold W) W) [] (construction W .first) (afterFirst W (construction W))
+  unfolding broken
+  first-part = sessions-same W _ _ _ _ _ _ t
+
+  first-played : played (sessions W) (openingFor (limitsOf Server) W n L .session) [] (construction W .first)
+      ≡ (grown (n - threshold W) (L - W) (first-part .left), first-part .past)
+  first-played = ap (λ s. played (sessions W) s [] (construction W .first)) (opens .1) ∙ first-part .played
+
+  pub rule-broken : AgreementWithin (limitsOf Server) (λ m. W) n L → ⊥
+  unfolding afterFirst
+  rule-broken =
+      breaks-rule (limitsOf Server) (λ m. W) n L (construction W .first) (opens .0)
+      (λ s rule.
+      never-over W (construction W) s (first-part .past) (and-left (writtenOver W (construction W) (first-part .past)) _ (first-part .holds))
+      (subst (Rule s) (ap (λ x. x .1) first-played) rule))
+
+  -- And the second.
+  module _ (some : 1 ≤ W) (long : 2 * W - 1 ≤ L) where
+    second-part : Same (sessions W) inside (n - threshold W) (L - (2 * W - 1)) (grown 0 (W - 1) (first-part .left)) (first-part .past) (construction W .second)
+        (λ s h. twoDecisions W (construction W) h)
+    unfolding afterFirst
+    second-part = sessions-same W _ _ _ _ _ _ (and-right (writtenOver W (construction W) (first-part .past)) _ (first-part .holds))
+
+    resumes : grown (n - threshold W) (L - W) (first-part .left) ≡ grown (n - threshold W) (L - (2 * W - 1)) (grown 0 (W - 1) (first-part .left))
+    resumes =
+        let rounds : L - W ≡ W - 1 + (L - (2 * W - 1)) = omega arith in
+        rw rounds (sym (grown-twice (n - threshold W) (W - 1) (L - (2 * W - 1)) (first-part .left)))
+
+    both-parts : played (sessions W) (openingFor (limitsOf Server) W n L .session) [] (construction W .first ++ construction W .second) .1 ≡ second-part .past
+    both-parts =
+        ap (λ x. x .1)
+        (played-append (sessions W) (openingFor (limitsOf Server) W n L .session) [] (construction W .first) (construction W .second)
+        ∙ ap (λ x. played (sessions W) (x .0) (x .1) (construction W .second)) first-played
+        ∙ ap (λ s. played (sessions W) s (first-part .past) (construction W .second)) resumes
+        ∙ second-part .played)
+
+    pub decisions-differ : TwoDecisions (limitsOf Server) W n L
+    unfolding twoDecisions
+    decisions-differ =
+        let start = openingFor (limitsOf Server) W n L .session in
+        let c = construction W in
+        let os = c .first ++ c .second in
+        let k : Called (RunWith (λ m. W) start) (fedBy os []) = called (fedBy os []) in
+        let same = sym (called-past (sessions W) start os (k .calls) (k .same) ∙ both-parts) in
+        let d = differ-shows (second-part .past) _ _ (second-part .holds) in
+        record {
+          calls = k .calls;
+          left = k .left;
+          run = k .run;
+          p = c .one;
+          q = c .other;
+          u = 1;
+          v = 2;
+          one = subst (DecidedOn (c .one) 1) same (d .0);
+          other = subst (DecidedOn (c .other) 2) same (d .1);
+          unlike = d .2;
+        }
 
 -- ---- the windows from 2 to 15
 
@@ -64,25 +136,23 @@ high-threshold W high =
     let product : 8 * 8 ≤ rest * half = mul-le-mul one other in
     omega arith
 
--- A window is not safe for as many processes as its threshold, nor for more.
-pub too-short : (W n : ℕ) → 2 ≤ W → threshold W ≤ n → n ≤ maxProcesses → SafeWithin (limitsOf Server) W n → ⊥
-unfolding broken
-too-short W n least enough few safe =
+-- A window that breaks for n processes is one of these.
+is-broken : (W n : ℕ) → 2 ≤ W → threshold W ≤ n → n ≤ maxProcesses → broken W ≡ true
+is-broken W n least enough few =
     elim (decLe W 15) [
-      | yes most ↦
-          let r = construction W in
-          let t = every-from broken 2 14 W least (omega arith) all-broken in
-          let u = and-left (breaks r && eqb (r .n) (threshold W)) (eqb (r .window) W) t in
-          let size = eqb-true (r .n) (threshold W) (and-right (breaks r) _ u) in
-          let same = eqb-true (r .window) W (and-right (breaks r && eqb (r .n) (threshold W)) _ t) in
-          row-unsafe r (and-left (breaks r) _ u) n (omega arith) few (rw same safe)
-      | no high ↦ omega (arith, high-threshold W (omega arith))
+      | yes most ↦ every-from broken 2 14 W least (omega arith) all-broken
+      | no high ↦ absurd (omega (arith, high-threshold W (omega arith)))
     ]
 
 -- ---- from both sides
 
 pub exact-windows : ExactWindows
-exact-windows W n least few = (λ below L. below-threshold (λ m. W) n L below, λ enough. too-short W n least enough few)
+exact-windows W n least few =
+    (λ below L. below-threshold (λ m. W) n L below, λ enough L wide low. rule-broken W n L (is-broken W n least enough few) enough few wide low)
+
+pub different-decisions : DifferentDecisions
+different-decisions W n L least enough few long low =
+    decisions-differ W n L (is-broken W n least enough few) enough few (omega arith) low (omega arith) long
 
 -- The smallest safe window for n from 2 to 64: for these n it is one less than the window in service, for every other it is the window in
 -- service. (A window is safe exactly where n is below its threshold: `exact-windows`.)
