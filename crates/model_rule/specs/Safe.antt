@@ -1,12 +1,13 @@
 -- How short may a window be? (Document 02, wish 7.)
 use Prim.Native.Nat.{ℕ, _+_, _*_, _-_, _/_, max, _≤_, _<_}
 use mathlib.Core.Path.{_≡_}
+use mathlib.Core.Logic.{_↔_}
 use mathlib.Core.List.{List}
-use Rattle.model.specs.declared.Caller.the-variants.{Server}
 use Rattle.model.specs.declared.Limits.{Limits}
 use Rattle.model.specs.declared.Session.{Session}
-use Rattle.model.specs.Board.{limitsOf, maxProcesses, maxRounds}
+use Rattle.model.specs.Board.{UpToServer}
 use Rattle.model.specs.Machine.{openingFor}
+use Rattle.model_poll.specs.Machine.{pollOpeningFor}
 use Rattle.model_rule.specs.Event.{DecidedOn}
 use Rattle.model_rule.specs.System.{inputs, past}
 use Rattle.model_rule.specs.Calls.{sessions, SessionCall, RunWith}
@@ -24,19 +25,19 @@ threshold W =
     let rest = W - half in
     rest * half + max 1 (rest / 2)
 
--- The rule below the threshold, where w n is the window of n processes. (4n is at most W times W only there: `EveryWindow` is a part of it.)
+-- The rule below the threshold, where w n is the window of n processes. (4n is at most W times W only there: `EveryWindow` is a part of
+-- it.)
 abbrev pub BelowThreshold : Type 0
 BelowThreshold = (w : ℕ → ℕ) (n L : ℕ) → n < threshold (w n) → AgreementWith w n L
 
--- And the answer from both sides: a window from 2 on is safe for the numbers of processes below its threshold, and for no other that a session can have:
--- within the server's limits the rule is false then, at every round limit that an opening accepts.
+-- And the answer from both sides: from every opening at a window from 2 on that is accepted, within any limits up to the server's, the rule
+-- holds if and only if there are fewer processes than the threshold.
 abbrev pub ExactWindows : Type 0
 ExactWindows =
-    (W n : ℕ) → 2 ≤ W → n ≤ maxProcesses
-    → (n < threshold W → Safe W n)
-    × (threshold W ≤ n → (L : ℕ) → W ≤ L → L ≤ maxRounds → AgreementWithin (limitsOf Server) (λ m. W) n L → ⊥)
+    (most : Limits) → UpToServer most → (W n L : ℕ) → 2 ≤ W → openingFor most W n L .code ≡ 0
+    → (n < threshold W ↔ AgreementWithin most (λ m. W) n L)
 
--- A list of calls within given limits, at window W, after which two processes have decided different numbers.
+-- A list of calls from an opening at window W after which two processes have decided different numbers.
 pub record TwoDecisions (most : Limits) (W n L : ℕ) : Type 0 where
   pub calls : List SessionCall
   pub left : Session
@@ -49,10 +50,11 @@ pub record TwoDecisions (most : Limits) (W n L : ℕ) : Type 0 where
   pub other : DecidedOn q v (past (sessions W) (openingFor most W n L .session) (inputs calls))
   pub unlike : u ≡ v → ⊥
 
--- From 2W - 1 rounds on it is the agreement itself that is false. (With fewer a value is committed, and another one written in its round.)
+-- Where it does not hold, and there are 2W - 1 rounds or more, two processes can decide different numbers.
 abbrev pub DifferentDecisions : Type 0
 DifferentDecisions =
-    (W n L : ℕ) → 2 ≤ W → threshold W ≤ n → n ≤ maxProcesses → 2 * W - 1 ≤ L → L ≤ maxRounds → TwoDecisions (limitsOf Server) W n L
+    (most : Limits) → UpToServer most → (W n L : ℕ) → 2 ≤ W → openingFor most W n L .code ≡ 0
+    → threshold W ≤ n → 2 * W - 1 ≤ L → TwoDecisions most W n L
 
 -- ---- "Polls are covered too."
 
@@ -60,14 +62,11 @@ DifferentDecisions =
 abbrev pub PollSafe : (W n : ℕ) → Type 0
 PollSafe W n = PollClaimWith (λ m. W) n
 
--- The same within given limits (02, wish 9).
-abbrev pub PollSafeWithin : Limits → (W n : ℕ) → Type 0
-PollSafeWithin most W n = PollClaimWithin most (λ m. W) n
-
 -- The rule below the threshold, and the answer from both sides, as those of sessions.
 abbrev pub PollBelowThreshold : Type 0
 PollBelowThreshold = (w : ℕ → ℕ) (n : ℕ) → n < threshold (w n) → PollClaimWith w n
 
 abbrev pub ExactPollWindows : Type 0
 ExactPollWindows =
-    (W n : ℕ) → 2 ≤ W → n ≤ maxProcesses → (n < threshold W → PollSafe W n) × (threshold W ≤ n → PollSafeWithin (limitsOf Server) W n → ⊥)
+    (most : Limits) → UpToServer most → (W n : ℕ) → 2 ≤ W → pollOpeningFor most W n .code ≡ 0
+    → (n < threshold W ↔ PollClaimWithin most (λ m. W) n)

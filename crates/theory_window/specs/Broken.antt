@@ -35,9 +35,10 @@ writtenOver W c h = some (commits W 1) h && some (writes (c .other) W 2) h
 
 -- 1 is committed in round W and 2 in round 2W - 1, and the two processes decide these.
 unfoldable pub twoDecisions : (W : ℕ) → Plan → List Event → Bool
-twoDecisions W c h = differ h (record { process = c .one; round = W; value = 1 }) (record { process = c .other; round = 2 * W - 1; value = 2 })
+twoDecisions W c h =
+    differ h (record { process = c .one; round = W; value = 1 }) (record { process = c .other; round = 2 * W - 1; value = 2 })
 
--- After the first part of the list, and with W - 1 rounds more after the second.
+-- The first holds after the first part of the list, and the second, with W - 1 rounds more, after the second part.
 unfoldable pub afterFirst : (W : ℕ) → Plan → Session → List Event → Bool
 afterFirst W c s h = writtenOver W c h && watched (sessions W) inside (grown 0 (W - 1) s) h (c .second) (λ t k. twoDecisions W c k)
 
@@ -47,6 +48,7 @@ broken W = let c = construction W in watched (sessions W) inside (opened (thresh
 
 pub all-broken : every broken (from 2 14) ≡ true
 unfolding
-    broken afterFirst writtenOver twoDecisions happens differ withWrite goesOn allGoOn onePass epochs atFirst atLast construction watched opened waitingRule phaseAccess access found goOn phaseNext next
-    learnt stored turn counted full accessOf becomes after countsAfter answered perform
+    broken afterFirst writtenOver twoDecisions happens differ withWrite goesOn allGoOn onePass epochs atFirst atLast construction
+    watched opened waitingRule phaseAccess access found goOn phaseNext next learnt stored turn counted full accessOf becomes after
+    countsAfter answered perform
 all-broken = refl

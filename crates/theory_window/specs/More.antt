@@ -1,5 +1,6 @@
--- More processes, which take no part, and more rounds, which no process comes to, change nothing of what happens.
-use Rattle.base.specs.Prelude.{ℕ, suc, zero, _+_, _-_, _<_, arith, _≡_, refl, _∙_, ap, Bool, true, false, cond, _&&_, List, [], _∷_, _++_, eqb, ltb, lt-leb, le-leb, ltb-true}
+-- More processes, which take no part, and more rounds, where no process comes to the limit, change nothing of what happens.
+use Rattle.base.specs.Prelude.{ℕ, suc, zero, _+_, _-_, _<_, arith, _≡_, refl, _∙_, ap, Bool, true, false, cond, _&&_, List, [], _∷_, _++_}
+use Rattle.base.specs.Prelude.{eqb, ltb, lt-leb, le-leb, ltb-true}
 use Rattle.base.specs.Bools.{and-left, and-right}
 use Rattle.model.specs.declared.Access.{Access}
 use Rattle.model.specs.declared.Access.the-variants.{Nothing, ReadValue, WriteValue, ReadMark, SetMark, ReadDecision, WriteDecision}
@@ -55,13 +56,15 @@ found-grown a b s (SetMark r) = refl
 found-grown a b s ReadDecision = refl
 found-grown a b s WriteDecision = refl
 
-pub turn-grown : (a b : ℕ) (s : Session) (p : ℕ) (x : Access) (becomes : ℕ → Process) → turn (grown a b s) p x becomes ≡ grown a b (turn s p x becomes)
+pub turn-grown : (a b : ℕ) (s : Session) (p : ℕ) (x : Access) (becomes : ℕ → Process) →
+    turn (grown a b s) p x becomes ≡ grown a b (turn s p x becomes)
 unfolding turn
 turn-grown a b s p x becomes = rw (found-grown a b s x, stored-grown a b s x (processAt s p .estimate)) refl
 
 -- ---- the round limit
 
--- A process in round r that finds x does not come to the limit: at gate it is below it, and there and in a scan it does not find the last round filled.
+-- A process in round r that finds x does not come to the limit. Only at gate and in a scan is the limit read: at gate the process is below
+-- it, and in both it does not find the last round filled.
 abbrev clear : (L r : ℕ) → Phase → (x : ℕ) → Bool
 clear L r Idle x = true
 clear L r Waiting x = ltb r L && cond (eqb x 0) true (ltb (r + 1) L)
@@ -152,7 +155,13 @@ pub perform-grown : (W a b : ℕ) (s : Session) (o : Operation) → processOf o 
 unfolding perform answered
 perform-grown W a b s o below ok =
     let number : refusal (tests (grown a b s) noCounts o) ≡ refusal (tests s noCounts o) =
-    rw (tests-are (grown a b s) noCounts o, tests-are s noCounts o, lt-leb (s .n + a) (processOf o) (omega arith), lt-leb (s .n) (processOf o) below) refl in
+    rw (
+      tests-are (grown a b s) noCounts o,
+      tests-are s noCounts o,
+      lt-leb (s .n + a) (processOf o) (omega arith),
+      lt-leb (s .n) (processOf o) below,
+    )
+    refl in
     rw (number, after-grown W a b s o ok) (stepped-grown a b (refusal (tests s noCounts o)) s (after W s o) noCounts _ _)
 
 -- ---- a list of operations

@@ -19,7 +19,8 @@ use Rattle.model_poll.specs.declared.Answer.{Answer}
 use Rattle.model_poll.specs.declared.Answer.the-variants.{Pending, Commits, Adopts}
 use Rattle.model_poll.specs.Turn.{withoutDecision, pollAccess, ending, pollNext, answerOf}
 use Rattle.model_poll.specs.Machine.{PollOperation, proposes, turns, crashes, turnAfter, turnCounts, turned, pollPerform}
-use Rattle.theory_window.specs.Construction.{from, withWrite, goesOn, allGoOn, onePass, epochs, atFirst, atLast, withOne, withTwo, commitSteps, lastSteps}
+use Rattle.theory_window.specs.Construction.{from, withWrite, goesOn, allGoOn, onePass, epochs, atFirst, atLast, withOne, withTwo}
+use Rattle.theory_window.specs.Construction.{commitSteps, lastSteps}
 use Rattle.theory_window.specs.More.{watched}
 use Rattle.theory_window.specs.PollMore.{inside}
 
@@ -30,8 +31,8 @@ turnOf (Step p leader) = turns p
 turnOf (Learn p) = turns p
 turnOf (Crash p) = crashes p
 
--- Two processes stand before the write to register W: one writes, compares, checks and commits 1; the other writes 2 over it, marks the rounds below, finds
--- its own mark and adopts 2.
+-- Two processes stand before the write to register W: one writes, compares, checks and commits 1; the other writes 2 over it, marks the
+-- rounds below, finds its own mark and adopts 2.
 unfoldable pub operations : (W : ℕ) → List PollOperation
 operations W =
     let s = atLast W in
@@ -59,7 +60,7 @@ broken W =
 
 pub all-broken : every broken (from 2 14) ≡ true
 unfolding
-    broken operations answersDiffer withWrite goesOn allGoOn onePass epochs atFirst atLast watched opened waitingRule phaseAccess access found goOn phaseNext next learnt
-    stored turn counted full accessOf becomes after countsAfter answered perform withoutDecision pollAccess ending pollNext answerOf
-    turnAfter turnCounts turned pollPerform
+    broken operations answersDiffer withWrite goesOn allGoOn onePass epochs atFirst atLast watched opened waitingRule phaseAccess access
+    found goOn phaseNext next learnt stored turn counted full accessOf becomes after countsAfter answered perform withoutDecision
+    pollAccess ending pollNext answerOf turnAfter turnCounts turned pollPerform
 all-broken = refl

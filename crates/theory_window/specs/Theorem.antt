@@ -1,14 +1,16 @@
 -- Windows that are too short (document 02, wish 7), and which windows are safe for how many processes.
-use Rattle.base.specs.Prelude.{ℕ, suc, zero, _+_, _*_, _-_, _/_, _≤_, _<_, arith, mul-le-mul, add-zero, add-assoc, _≡_, refl, sym, _∙_, ap, ap₂, subst, ℕ-discrete, decLe, Bool, true, true≢false, cond, _&&_, List, [], _∷_, _++_, eqb, leb, ltb, eqb-true}
+use Rattle.base.specs.Prelude.{ℕ, suc, zero, _+_, _*_, _-_, _/_, _≤_, _<_, arith, mul-le-mul, add-zero, add-assoc, _≡_, refl, sym, _∙_, ap}
+use Rattle.base.specs.Prelude.{ap₂, subst, ℕ-discrete, decLe, lt-of-not-le, Bool, true, true≢false, cond, _&&_, List, [], _∷_, _++_, eqb}
+use Rattle.base.specs.Prelude.{leb, ltb, eqb-true}
 use Rattle.base.specs.Bools.{and-left, and-right}
-use Rattle.model.specs.declared.Caller.the-variants.{Server}
+use Rattle.model.specs.declared.Limits.{Limits}
 use Rattle.model.specs.declared.Session.{Session}
 use Rattle.model.specs.Window.{window, rootUp, rootFrom}
-use Rattle.model.specs.Board.{limitsOf, opened, maxProcesses, maxRounds}
+use Rattle.model.specs.Board.{UpToServer, opened, maxProcesses}
 use Rattle.model.specs.Machine.{openingFor}
 use Rattle.model.specs.Sound.{every}
 use Rattle.model.specs.ReadOut.{holds}
-use Rattle.model_laws.specs.Operations.{opening-accepts}
+use Rattle.model_laws.specs.Operations.{opening-accepted}
 use Rattle.model_rule.specs.Event.{Event, proposal, write, flag, commit, decision, DecidedOn}
 use Rattle.model_rule.specs.Calls.{sessions, RunWith}
 use Rattle.model_rule.specs.Rule.{Rule, AgreementWithin}
@@ -45,73 +47,77 @@ never-over W c s h t rule =
 grown-twice : (a b c : ℕ) (s : Session) → grown a c (grown 0 b s) ≡ grown a (b + c) s
 grown-twice a b c s = rw (add-zero (s .n), add-assoc (s .limit) b c) refl
 
-module _ (W n L : ℕ) (t : broken W ≡ true) (enough : threshold W ≤ n) (few : n ≤ maxProcesses) (wide : W ≤ L) (low : L ≤ maxRounds) where
-  -- What is opened: so many processes and rounds more than the list needs.
-  opens : let a = openingFor (limitsOf Server) W n L in
-      (a .code ≡ 0) × (a .session ≡ grown (n - threshold W) (L - W) (opened (threshold W) W))
+module _ (most : Limits) (W n L : ℕ) (t : broken W ≡ true) (enough : threshold W ≤ n) (accepted : openingFor most W n L .code ≡ 0) where
+  abbrev start : Session
+  start = openingFor most W n L .session
+
+  abbrev more : ℕ
+  more = n - threshold W
+
+  abbrev plan : Plan
+  plan = construction W
+
+  -- What is opened has so many processes and rounds more than the first part needs.
+  opens : start ≡ grown more (L - W) (opened (threshold W) W)
   unfolding opened
   opens =
-      let o = opening-accepts (limitsOf Server) W n L (omega arith) few wide low in
-      let size : n ≡ threshold W + (n - threshold W) = omega arith in
-      let rounds : L ≡ W + (L - W) = omega arith in
-      (o .0, o .1 ∙ ap₂ opened size rounds)
+      let o = opening-accepted most W n L accepted in
+      let size : n ≡ threshold W + more = omega arith in
+      let rounds : L ≡ W + (L - W) = omega (arith, o .2) in
+      o .4 ∙ ap₂ opened size rounds
 
-  -- The first part.
-  first-part : Same (sessions W) inside (n - threshold W) (L - W) (opened (threshold W) W) [] (construction W .first) (afterFirst W (construction W))
+  first-part : Same (sessions W) inside more (L - W) (opened (threshold W) W) [] (plan .first) (afterFirst W plan)
   unfolding broken
   first-part = sessions-same W _ _ _ _ _ _ t
 
-  first-played : played (sessions W) (openingFor (limitsOf Server) W n L .session) [] (construction W .first)
-      ≡ (grown (n - threshold W) (L - W) (first-part .left), first-part .past)
-  first-played = ap (λ s. played (sessions W) s [] (construction W .first)) (opens .1) ∙ first-part .played
+  first-played : played (sessions W) start [] (plan .first) ≡ (grown more (L - W) (first-part .left), first-part .past)
+  first-played = ap (λ s. played (sessions W) s [] (plan .first)) opens ∙ first-part .played
 
-  pub rule-broken : AgreementWithin (limitsOf Server) (λ m. W) n L → ⊥
+  pub rule-broken : AgreementWithin most (λ m. W) n L → ⊥
   unfolding afterFirst
   rule-broken =
-      breaks-rule (limitsOf Server) (λ m. W) n L (construction W .first) (opens .0)
-      (λ s rule.
-      never-over W (construction W) s (first-part .past) (and-left (writtenOver W (construction W) (first-part .past)) _ (first-part .holds))
-      (subst (Rule s) (ap (λ x. x .1) first-played) rule))
+      let over = and-left (writtenOver W plan (first-part .past)) _ (first-part .holds) in
+      breaks-rule most (λ m. W) n L (plan .first) accepted
+      (λ s rule. never-over W plan s (first-part .past) over (subst (Rule s) (ap (λ x. x .1) first-played) rule))
 
-  -- And the second.
+  -- The second part, in 2W - 1 rounds or more.
   module _ (some : 1 ≤ W) (long : 2 * W - 1 ≤ L) where
-    second-part : Same (sessions W) inside (n - threshold W) (L - (2 * W - 1)) (grown 0 (W - 1) (first-part .left)) (first-part .past) (construction W .second)
-        (λ s h. twoDecisions W (construction W) h)
+    abbrev later : ℕ
+    later = L - (2 * W - 1)
+
+    second-part : Same (sessions W) inside more later (grown 0 (W - 1) (first-part .left)) (first-part .past) (plan .second)
+        (λ s h. twoDecisions W plan h)
     unfolding afterFirst
-    second-part = sessions-same W _ _ _ _ _ _ (and-right (writtenOver W (construction W) (first-part .past)) _ (first-part .holds))
+    second-part = sessions-same W _ _ _ _ _ _ (and-right (writtenOver W plan (first-part .past)) _ (first-part .holds))
 
-    resumes : grown (n - threshold W) (L - W) (first-part .left) ≡ grown (n - threshold W) (L - (2 * W - 1)) (grown 0 (W - 1) (first-part .left))
-    resumes =
-        let rounds : L - W ≡ W - 1 + (L - (2 * W - 1)) = omega arith in
-        rw rounds (sym (grown-twice (n - threshold W) (W - 1) (L - (2 * W - 1)) (first-part .left)))
+    resumes : grown more (L - W) (first-part .left) ≡ grown more later (grown 0 (W - 1) (first-part .left))
+    resumes = let rounds : L - W ≡ W - 1 + later = omega arith in rw rounds (sym (grown-twice more (W - 1) later (first-part .left)))
 
-    both-parts : played (sessions W) (openingFor (limitsOf Server) W n L .session) [] (construction W .first ++ construction W .second) .1 ≡ second-part .past
+    both-parts : played (sessions W) start [] (plan .first ++ plan .second) .1 ≡ second-part .past
     both-parts =
         ap (λ x. x .1)
-        (played-append (sessions W) (openingFor (limitsOf Server) W n L .session) [] (construction W .first) (construction W .second)
-        ∙ ap (λ x. played (sessions W) (x .0) (x .1) (construction W .second)) first-played
-        ∙ ap (λ s. played (sessions W) s (first-part .past) (construction W .second)) resumes
+        (played-append (sessions W) start [] (plan .first) (plan .second)
+        ∙ ap (λ x. played (sessions W) (x .0) (x .1) (plan .second)) first-played
+        ∙ ap (λ s. played (sessions W) s (first-part .past) (plan .second)) resumes
         ∙ second-part .played)
 
-    pub decisions-differ : TwoDecisions (limitsOf Server) W n L
+    pub decisions-differ : TwoDecisions most W n L
     unfolding twoDecisions
     decisions-differ =
-        let start = openingFor (limitsOf Server) W n L .session in
-        let c = construction W in
-        let os = c .first ++ c .second in
-        let k : Called (RunWith (λ m. W) start) (fedBy os []) = called (fedBy os []) in
-        let same = sym (called-past (sessions W) start os (k .calls) (k .same) ∙ both-parts) in
+        let os = plan .first ++ plan .second in
+        let c : Called (RunWith (λ m. W) start) (fedBy os []) = called (fedBy os []) in
+        let same = sym (called-past (sessions W) start os (c .calls) (c .same) ∙ both-parts) in
         let d = differ-shows (second-part .past) _ _ (second-part .holds) in
         record {
-          calls = k .calls;
-          left = k .left;
-          run = k .run;
-          p = c .one;
-          q = c .other;
+          calls = c .calls;
+          left = c .left;
+          run = c .run;
+          p = plan .one;
+          q = plan .other;
           u = 1;
           v = 2;
-          one = subst (DecidedOn (c .one) 1) same (d .0);
-          other = subst (DecidedOn (c .other) 2) same (d .1);
+          one = subst (DecidedOn (plan .one) 1) same (d .0);
+          other = subst (DecidedOn (plan .other) 2) same (d .1);
           unlike = d .2;
         }
 
@@ -127,7 +133,7 @@ every-from test k (suc length) i low high all =
     ]
 
 -- A longer one would take more processes than a session has.
-pub high-threshold : (W : ℕ) → 16 ≤ W → maxProcesses < threshold W
+high-threshold : (W : ℕ) → 16 ≤ W → maxProcesses < threshold W
 high-threshold W high =
     let half = W / 2 in
     let rest = W - half in
@@ -136,23 +142,28 @@ high-threshold W high =
     let product : 8 * 8 ≤ rest * half = mul-le-mul one other in
     omega arith
 
--- A window that breaks for n processes is one of these.
-is-broken : (W n : ℕ) → 2 ≤ W → threshold W ≤ n → n ≤ maxProcesses → broken W ≡ true
-is-broken W n least enough few =
-    elim (decLe W 15) [
-      | yes most ↦ every-from broken 2 14 W least (omega arith) all-broken
-      | no high ↦ absurd (omega (arith, high-threshold W (omega arith)))
-    ]
+-- So a window from 2 on, with as many processes as its threshold, is one of those that the lists break.
+pub too-short : (W n : ℕ) → 2 ≤ W → threshold W ≤ n → n ≤ maxProcesses → W ≤ 15
+too-short W n least enough few = elim (decLe W 15) [ yes low ↦ low | no high ↦ absurd (omega (arith, high-threshold W (omega arith))) ]
 
 -- ---- from both sides
 
+-- The processes of an accepted opening are no more than a session has.
+is-broken : (most : Limits) → UpToServer most → (W n L : ℕ) → 2 ≤ W → openingFor most W n L .code ≡ 0 → threshold W ≤ n → broken W ≡ true
+is-broken most limits W n L least accepted enough =
+    let few = opening-accepted most W n L accepted .1 in
+    every-from broken 2 14 W least (omega (arith, too-short W n least enough (omega (arith, limits .processes)))) all-broken
+
 pub exact-windows : ExactWindows
-exact-windows W n least few =
-    (λ below L. below-threshold (λ m. W) n L below, λ enough L wide low. rule-broken W n L (is-broken W n least enough few) enough few wide low)
+exact-windows most limits W n L least accepted = (
+  λ below. below-threshold (λ m. W) n L below most limits,
+  λ rule.
+      lt-of-not-le λ enough. rule-broken most W n L (is-broken most limits W n L least accepted enough) enough accepted rule,
+)
 
 pub different-decisions : DifferentDecisions
-different-decisions W n L least enough few long low =
-    decisions-differ W n L (is-broken W n least enough few) enough few (omega arith) low (omega arith) long
+different-decisions most limits W n L least accepted enough long =
+    decisions-differ most W n L (is-broken most limits W n L least accepted enough) enough accepted (omega arith) long
 
 -- The smallest safe window for n from 2 to 64: for these n it is one less than the window in service, for every other it is the window in
 -- service. (A window is safe exactly where n is below its threshold: `exact-windows`.)
