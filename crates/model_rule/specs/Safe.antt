@@ -58,10 +58,6 @@ DifferentDecisions =
 
 -- ---- "Polls are covered too."
 
--- Window W is safe for polls of n processes: the rule of polls holds of every list of calls.
-abbrev pub PollSafe : (W n : ℕ) → Type 0
-PollSafe W n = PollClaimWith (λ m. W) n
-
 -- The rule below the threshold, and the answer from both sides, as those of sessions.
 abbrev pub PollBelowThreshold : Type 0
 PollBelowThreshold = (w : ℕ → ℕ) (n : ℕ) → n < threshold (w n) → PollClaimWith w n
