@@ -88,5 +88,6 @@ breaks-rule most w n L os ok never rule =
     let M = sessions (w n) in
     let start = openingFor most (w n) n L .session in
     let c : Called (RunWith w start) (fedBy os []) = called (fedBy os []) in
+    let same = ap (past M start) (c .same) ∙ sym (ap (λ x. x .1) (played-machine M start os [])) in
     let holds = at-the-end M (λ s cs. Rule s (past M start (inputs cs))) (c .run) (rule ok (c .calls) (c .left) (c .run) .2) in
-    never (c .left) (subst (Rule (c .left)) (called-past M start os (c .calls) (c .same)) holds)
+    never (c .left) (subst (Rule (c .left)) same holds)
