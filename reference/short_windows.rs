@@ -9,7 +9,8 @@
 //!   in the lines that `examples/sheet.py` makes a sheet of. `reference trace W` then
 //!   shows it entry by entry.
 //!
-//! The construction is for a session of L = 2W - 1, two values u and v, and hints yes.
+//! The construction is for a session of L = 2W - 1 or more, two values u and v, and
+//! hints yes.
 //! Epoch i is the time in which round i is the highest one written. In each epoch i
 //! from 1 to W - 1 processes pass round i with one value, a(i), and then, when registers
 //! 1 to i have been written over, with the other one, b(i); a(i + 1) is b(i), and
@@ -24,6 +25,9 @@
 //! one writes over it and goes on alone; it marks rounds below W, and commits u in round
 //! 2W - 1, whose window is all u. A process that wrote is free again and can wait
 //! further up, so a few more than W * W / 4 of them are enough.
+//!
+//! Up to the write of u in round W no more than W rounds are used. So at every L from W
+//! on the list breaks the rule: v is committed in round W, and u is written there.
 
 use std::fmt::Debug;
 use std::io::{self, Write};
@@ -31,7 +35,7 @@ use std::iter::repeat_n;
 use std::process::ExitCode;
 
 use janus_reference::random::Random;
-use janus_reference::session::MAX_PROCESSES;
+use janus_reference::session::{MAX_PROCESSES, MAX_ROUNDS};
 use janus_reference::{window, Answer, Counts, Operation, Phase, Poll, Refusal, Session};
 
 /// What is found, or what is not as said.
@@ -195,15 +199,28 @@ fn overtake(list: &mut List, process: usize, round: usize) {
     list.step(process, gate + 1 + list.window + flags + 2 * own + 1);
 }
 
-/// The construction's list for a session. Each process learns right after its commit.
+/// The construction's list for a session of the fewest rounds.
 fn session_list(window: usize) -> List {
-    let (mut list, first, last) = Construction::epochs(window, 2 * window - 1);
+    decided_list(window, 2 * window - 1)
+}
+
+/// Of at least as many rounds. Each process learns right after its commit.
+fn decided_list(window: usize, limit: usize) -> List {
+    let (mut list, first, last) = Construction::epochs(window, limit);
     commit(&mut list, first);
     list.learn(first);
     for round in window..2 * window {
         overtake(&mut list, last, round);
     }
     list.learn(last);
+    list
+}
+
+/// The list up to the write of u in round W, for a session of any L from W on.
+fn written_list(window: usize, limit: usize) -> List {
+    let (mut list, first, last) = Construction::epochs(window, limit);
+    commit(&mut list, first);
+    list.step(last, 1);
     list
 }
 
@@ -401,6 +418,24 @@ fn two_commits(list: &List, n: usize, [first, second]: [u32; 2]) -> Found<()> {
     check().map_err(|wrong| format!("W {}, {n} seats: {wrong}", list.window))
 }
 
+/// In a session every call is accepted and leaves it sound; one step commits, v in round
+/// W, and the last one writes u there.
+fn written_over(list: &List) -> Found<()> {
+    let check = || {
+        let mut play = Play::open(list.window, list.n, list.limit)?;
+        carry_out(list, |call| play.call(call).map_err(refused))?;
+        play.check_sound()?;
+        let round = play.window;
+        same("commits by round", &play.past.committed, &vec![(round, V)])?;
+        same(
+            "the last write",
+            play.past.written.last(),
+            Some(&(round, U)),
+        )
+    };
+    check().map_err(|wrong| format!("W {}, L {}: {wrong}", list.window, list.limit))
+}
+
 // ---------------------------------------------------------------- polls
 
 /// In a poll every call is accepted and leaves it sound; one answer is committed v, and
@@ -551,6 +586,21 @@ fn check_least() -> Found<()> {
     Ok(())
 }
 
+/// The construction in sessions, at every window and every L that is accepted there.
+fn check_limits() -> Found<()> {
+    for window in 2..=LARGEST {
+        for limit in window..=MAX_ROUNDS {
+            written_over(&written_list(window, limit))?;
+        }
+        for limit in 2 * window - 1..=MAX_ROUNDS {
+            let list = decided_list(window, limit);
+            two_commits(&list, list.n, [V, U]).map_err(|wrong| format!("L {limit}, {wrong}"))?;
+        }
+    }
+    println!("W from 2 to {LARGEST}, L from W to {MAX_ROUNDS}: {V} committed and {U} written in round W; L from 2W - 1: {U} committed too");
+    Ok(())
+}
+
 // ---------------------------------------------------------------- controls
 
 /// A phase in which a process's steps in a row end; they end, too, where it is spent.
@@ -689,6 +739,7 @@ fn check() -> Found<()> {
     check_polls()?;
     check_service()?;
     check_least()?;
+    check_limits()?;
     check_controls()
 }
 

@@ -11,11 +11,11 @@ if sys.argv[1:] in (["--help"], ["-h"]):
     print(__doc__.strip())
     sys.exit()
 
-MOVE = re.compile(r"proposes (\d+) (\d+)|turns \(([^)]*)\[\]\)|repeat (\d+) \(works (\d+)\)|works (\d+)|looks (\d+)")
+OPERATION = re.compile(r"Propose (\d+) (\d+)|turns \(([^)]*)\[\]\)|replicate (\d+) \(works (\d+)\)|works (\d+)|Learn (\d+)")
 
 
-def lines_of(moves):
-    for propose, value, turns, times, many, work, look in MOVE.findall(moves):
+def lines_of(operations):
+    for propose, value, turns, times, many, work, look in OPERATION.findall(operations):
         if propose:
             yield f"propose {propose} {value}"
         elif look:
@@ -26,10 +26,10 @@ def lines_of(moves):
 
 def main():
     text, window = Path(sys.argv[1]).read_text(encoding="utf-8"), sys.argv[2]
-    rows = re.findall(r"n = (\d+);\s+window = (\d+);\s+limit = (\d+);\s+moves = (\w+);", text)
+    rows = re.findall(r"n = (\d+);\s+window = (\d+);\s+limit = (\d+);\s+operations = (\w+);", text)
     (n, limit, name), = [(n, limit, name) for n, w, limit, name in rows if w == window]
-    moves = re.search(rf"^{name} =\n(.*?)\n\n", text, re.S | re.M)[1]
-    print("\n".join([f"n {n}", f"L {limit}", *lines_of(moves)]))
+    operations = re.search(rf"^{name} =\n(.*?)\n\n", text, re.S | re.M)[1]
+    print("\n".join([f"n {n}", f"L {limit}", *lines_of(operations)]))
 
 
 main()

@@ -1,7 +1,8 @@
 #!/usr/bin/env bash
 # Windows below the bound of 02, wish 7, W times W at least 4n, on the separately written program: for every W from 2 to 15 a list of calls in
-# which two turns commit different numbers, and polls with two answers; within the bound, no such thing. The window in service is the least one
-# within it (02, wish 8). Then lists as sheets, with their traces, and that wrong lists and wrong machines are found.
+# which two turns commit different numbers, at every L from 2W - 1 to 256, and up to a commit and a write of another number in its round at
+# every L from W on; and polls with two answers. Within the bound, no such thing. The window in service is the least one within it (02, wish
+# 8). Then lists as sheets, with their traces, and that wrong lists and wrong machines are found.
 set -euo pipefail
 . "$(dirname "$0")/../common.sh"
 takes_nothing "$@"
@@ -85,6 +86,8 @@ wrong_list "a list that lets free seats go" 's/self.free.pop();/self.free.pop().
     'W 5: seats and work turns \(8, 170\), not \(7, 169\)'
 wrong_list "a list that ends before the second commit" 's/for round in window..2 \* window {/for round in window..2 * window - 1 {/' \
     'W 2, 2 seats: commits by round \[\(2, 2\)\], not \[\(2, 2\), \(3, 1\)\]'
+wrong_list "a list that ends before the second write in round W" 's/^    list.step(last, 1);/    list.step(last, 0);/' \
+    'W 2, L 2: the last write Some\(\(2, 2\)\), not Some\(\(2, 1\)\)'
 wrong_list "a control at W for W + 1" 's/Play::open(list.window + 1, /Play::open(list.window, /' \
     'the construction at W \+ 1, list 0: 2 committed in round 2, 1 written in round 2'
 wrong_list "a control at one less than the least window" 's/random_list(least_window(n), /random_list(least_window(n) - 1, /' \

@@ -53,28 +53,16 @@ happens-decided : (h : List Event) (c : Commitment) → happens h c ≡ true →
 unfolding happens
 happens-decided h c t = occurs-happened (decision (c .process) (c .value)) h (and-right (occurs (commit (c .round) (c .value)) h) _ t)
 
--- What a row that breaks shows.
-pub record Broken (r : Row) : Type 0 where
-  pub opens : openingFor (limitsOf Server) (r .window) (r .n) (r .limit) .code ≡ 0
-  pub inside : every (within (r .n)) (r .operations) ≡ true
-  pub one : DecidedOn (r .first .process) (r .first .value) (pastOf r)
-  pub other : DecidedOn (r .second .process) (r .second .value) (pastOf r)
-  pub unlike : r .first .value ≡ r .second .value → ⊥
-
-pub breaks-shows : (r : Row) → breaks r ≡ true → Broken r
-unfolding breaks differ
-breaks-shows r t =
-    let a = eqb (openingFor (limitsOf Server) (r .window) (r .n) (r .limit) .code) 0 in
-    let b = every (within (r .n)) (r .operations) in
-    let c = happens (pastOf r) (r .first) in
-    let d = happens (pastOf r) (r .second) in
-    let e = not (eqb (r .first .value) (r .second .value)) in
-    let start = and-left (a && b) (c && d && e) t in
-    let two = and-left (c && d) e (and-right (a && b) (c && d && e) t) in
-    record {
-      opens = eqb-true _ 0 (and-left a b start);
-      inside = and-right a b start;
-      one = happens-decided _ (r .first) (and-left c d two);
-      other = happens-decided _ (r .second) (and-right c d two);
-      unlike = λ same. true≢false (sym (and-right (c && d) e (and-right (a && b) (c && d && e) t)) ∙ rw (eq-eqb (r .first .value) (r .second .value) same) refl);
-    }
+-- Two processes decide different values.
+pub differ-shows : (h : List Event) (a b : Commitment) → differ h a b ≡ true →
+    DecidedOn (a .process) (a .value) h × DecidedOn (b .process) (b .value) h × (a .value ≡ b .value → ⊥)
+unfolding differ
+differ-shows h a b t =
+    let c = happens h a in
+    let d = happens h b in
+    let e = not (eqb (a .value) (b .value)) in
+    let two = and-left (c && d) e t in (
+      happens-decided h a (and-left c d two),
+      happens-decided h b (and-right c d two),
+      λ same. true≢false (sym (and-right (c && d) e t) ∙ rw (eq-eqb (a .value) (b .value) same) refl),
+    )

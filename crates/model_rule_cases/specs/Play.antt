@@ -38,6 +38,13 @@ module _ {State O Answer Event : Type 0} (M : System State (Input O) Answer Even
   played-machine start [] fs = refl
   played-machine start (o ∷ os) fs = played-machine start os (uncounted o ∷ fs)
 
+  -- More operations are played from where the others came to.
+  pub played-append : (s : State) (h : List Event) (os more : List O) →
+      played s h (os ++ more) ≡ played (played s h os .0) (played s h os .1) more
+  unfolding played
+  played-append s h [] more = refl
+  played-append s h (o ∷ os) more = played-append _ _ os more
+
 -- ---- the calls
 
 -- Calls by which a machine is fed fs, and the state that they come to.
@@ -55,6 +62,11 @@ called {Input = Input} {Answer = Answer} {state = state} {promised = promised} {
     let c = called {state = state} {promised = promised} {start = start} fs in
     let x : Call Input Answer = record { input = f; answer = promised (c .left) f } in
     record { calls = x ∷ c .calls; left = state (x .answer); run = call (c .run) x refl; same = ap (λ gs. f ∷ gs) (c .same) }
+
+-- The past of calls by which it is fed a list of operations.
+pub called-past : {State O Answer Event : Type 0} (M : System State (Input O) Answer Event) (start : State) (os : List O)
+    (cs : List (Call (Input O) Answer)) → inputs cs ≡ fedBy os [] → past M start (inputs cs) ≡ played M start [] os .1
+called-past M start os cs same = ap (past M start) same ∙ sym (ap (λ x. x .1) (played-machine M start os []))
 
 -- What holds after each call holds at the end.
 pub at-the-end : {State Input Answer Event : Type 0} (M : System State Input Answer Event) (P : State → List (Call Input Answer) → Type 0)

@@ -1,7 +1,10 @@
--- A list of calls for every window W in which two turns commit different values, with limit 2W - 1. Epoch i is the time in which round i is the highest one
--- written. Each epoch from 1 to W - 1 has two passes: in the first a process passes round i with one value, then every register 1 to i is written over,
--- and in the second another process passes it with the other value. So at the end two processes stand before the write to register W, one with each
--- value, the registers below hold the one, and nothing is marked.
+-- A list of calls for every window W in which two turns commit different values, in 2W - 1 rounds. In the first W of them it comes to a
+-- commit and then to a write of the other value in the same round.
+--
+-- Epoch i is the time in which round i is the highest one written. Each epoch from 1 to W - 1 has two passes: in the first a process passes
+-- round i with one value, then every register 1 to i is written over, and in the second another process passes it with the other value. So
+-- at the end two processes stand before the write to register W, one with each value, the registers below hold the one, and nothing is
+-- marked.
 use Prim.Native.Nat.{ℕ, suc, zero, _+_, _-_, _*_}
 use mathlib.Core.Bool.{Bool, true, cond, not, _||_}
 use mathlib.Core.List.{List, [], _∷_, _++_, map}
@@ -10,7 +13,6 @@ use lib.ListN.{replicate}
 use Rattle.model.specs.declared.Operation.{Operation}
 use Rattle.model.specs.declared.Operation.the-variants.{Propose, Learn}
 use Rattle.model_rule_cases.specs.Play.{works}
-use Rattle.model_rule_cases.specs.Breaks.{Row}
 
 -- ---- numbers
 
@@ -38,7 +40,8 @@ count (x ∷ xs) = x + count xs
 
 -- ---- the processes
 
--- A process that stands before its write to a register, and the pass in which it writes. (Pass 2i is the first of epoch i, 2i + 1 the second.)
+-- A process that stands before its write to a register, and the pass in which it writes. (Pass 2i is the first of epoch i, 2i + 1 the
+-- second.)
 pub record Ready : Type 0 where
   pub process : ℕ
   pub register : ℕ
@@ -99,15 +102,16 @@ withWrite t s =
       proposed = s .proposed;
     }
 
--- The passes for which processes must come to stand before register j, in the pass t of epoch j - 1: to register W one with each value; to a lower one
--- its first writer, and those who write over it in the epochs from j on whose value is that of this pass.
+-- The passes for which processes must come to stand before register j, in the pass t of epoch j - 1: to register W one with each value; to
+-- a lower one its first writer, and those who write over it in the epochs from j on whose value is that of this pass.
 abbrev passesFor : (W j t : ℕ) → List ℕ
 passesFor W j t =
     cond (isEven t)
     (cond (eqb j W) ((2 * W + 1) ∷ []) (map (λ (e : ℕ). 2 * e + 1) (everySecond W j W)))
     ((2 * j) ∷ map (λ (e : ℕ). 2 * e + 1) (everySecond W (j + 1) W))
 
--- A free process can take the pass' value to register i + 1 if it is in a lower round than i, where it adopts the value, or came to round i in this pass.
+-- A free process can take the pass' value to register i + 1 if it is in a lower round than i, where it adopts the value, or came to round i
+-- in this pass.
 abbrev fits : (i t : ℕ) → Free → Bool
 fits i t f = ltb (f .round) i || eqb (f .pass) t
 
@@ -181,24 +185,23 @@ abbrev pub lastSteps : (W m : ℕ) → ℕ
 lastSteps W m =
     (cond (eqb m 0) 0 1) + 1 + W + (W - 1 - m) + (cond (eqb (m + 1) W) (2 * W + 1) (2 * m + 3))
 
--- The two at register W: one writes, compares, checks, commits 1 and looks; then the other writes over it, goes on alone to round 2W - 1, commits 2 there
--- and looks.
-unfoldable pub construction : (W : ℕ) → Row
+-- The list in two parts, and the two processes that come to register W. In the first part, for which W rounds are enough, one of them
+-- writes, compares, checks, commits 1 and looks; then the other writes 2 over it. In the second part the other goes on alone to round 2W -
+-- 1, commits 2 there and looks.
+pub record Plan : Type 0 where
+  pub one : ℕ
+  pub other : ℕ
+  pub first : List Operation
+  pub second : List Operation
+
+unfoldable pub construction : (W : ℕ) → Plan
 construction W =
     let s = atLast W in
     let one = withOne W s in
     let other = withTwo W s in
     record {
-      n = s .proposed;
-      window = W;
-      limit = 2 * W - 1;
-      operations =
-          s .operations
-          ++ replicate (commitSteps W) (works one)
-          ++ Learn one
-          ∷ replicate (count (map (lastSteps W) (from 0 W))) (works other)
-          ++ Learn other
-          ∷ [];
-      first = record { process = one; round = W; value = 1 };
-      second = record { process = other; round = 2 * W - 1; value = 2 };
+      one = one;
+      other = other;
+      first = s .operations ++ replicate (commitSteps W) (works one) ++ Learn one ∷ works other ∷ [];
+      second = replicate (count (map (lastSteps W) (from 0 W)) - 1) (works other) ++ Learn other ∷ [];
     }

@@ -1,14 +1,12 @@
 -- Windows that are too short for polls (document 02, wish 7), and which windows are safe for how many processes.
-use Rattle.base.specs.Prelude.{ℕ, _≤_, arith, decLe, _≡_, refl, sym, _∙_, ap, subst, List, [], true, true≢false, _&&_, eqb, eqb-true}
+use Rattle.base.specs.Prelude.{ℕ, _+_, _-_, _≤_, arith, lt-of-not-le, add-zero, _≡_, refl, sym, _∙_, ap, ap₂, subst, List, [], true}
+use Rattle.base.specs.Prelude.{true≢false, eqb-true}
 use Rattle.base.specs.Bools.{and-left, and-right}
-use Rattle.model.specs.declared.Caller.the-variants.{Server}
 use Rattle.model.specs.declared.Limits.{Limits}
 use Rattle.model.specs.declared.Session.{Session}
-use Rattle.model.specs.Board.{limitsOf, opened, processAt, maxProcesses, maxRounds}
-use Rattle.model.specs.Sound.{every}
-use Rattle.model_laws.specs.Operations.{opening-accepts}
-use Rattle.model_laws.specs.Callers.{caller-limits}
-use Rattle.model_rule.specs.Safe.{threshold, PollSafeWithin, ExactPollWindows}
+use Rattle.model.specs.Board.{opened, processAt}
+use Rattle.model_laws.specs.Operations.{opening-accepted}
+use Rattle.model_rule.specs.Safe.{threshold, ExactPollWindows}
 use Rattle.model_poll.specs.declared.Answer.{Answer}
 use Rattle.model_poll.specs.declared.Answer.the-variants.{Pending, Commits, Adopts}
 use Rattle.model_poll.specs.Turn.{answerOf, Carries}
@@ -16,14 +14,13 @@ use Rattle.model_poll.specs.Machine.{PollOperation, pollOpeningFor}
 use Rattle.model_rule.specs.System.{machine}
 use Rattle.model_rule.specs.PollCalls.{polls, PollRunWith}
 use Rattle.model_rule.specs.PollRule.{PollRule, PollClaimWithin}
-use Rattle.model_poll_laws.specs.Opening.{poll-opened}
 use Rattle.model_rule_cases.specs.Play.{fedBy, played, played-machine, Called, called, at-the-end}
 use Rattle.theory_window.specs.Construction.{atLast, withOne, withTwo}
-use Rattle.theory_window.specs.More.{sized}
-use Rattle.theory_window.specs.Theorem.{every-from, high-threshold}
+use Rattle.theory_window.specs.More.{grown}
+use Rattle.theory_window.specs.Theorem.{every-from, too-short}
 use Rattle.theory_poll.specs.Theorem.{poll-below-threshold}
-use Rattle.theory_window.specs.PollBroken.{operations, isCommitted, isAdopted, left, answersDiffer, broken, all-broken}
-use Rattle.theory_window.specs.PollMore.{within, polls-more}
+use Rattle.theory_window.specs.PollBroken.{operations, isCommitted, isAdopted, answersDiffer, broken, all-broken}
+use Rattle.theory_window.specs.PollMore.{polls-same}
 
 -- Two records that show a committed value and another value, after operations from an accepted opening, within any limits.
 breaks-poll-rule : (most : Limits) (w : ℕ → ℕ) (n : ℕ) (os : List PollOperation) (p q u v : ℕ) →
@@ -55,43 +52,36 @@ adopted-carries v Pending t = absurd (true≢false (sym t))
 adopted-carries v (Commits u) t = absurd (true≢false (sym t))
 adopted-carries v (Adopts u) t = eqb-true u v t
 
--- What is opened with n processes and a window that fits.
-opens : (W n : ℕ) → 1 ≤ n → n ≤ maxProcesses → W ≤ maxRounds → (pollOpeningFor (limitsOf Server) W n .code ≡ 0) × (pollOpeningFor (limitsOf Server) W n .session ≡ opened n W)
-unfolding pollOpeningFor
-opens W n some few low = opening-accepts (limitsOf Server) W n W some few (omega arith) low
-
 -- The list of a window from 2 to 15 breaks it, with as many processes as its threshold and with more.
-broken-unsafe : (W n : ℕ) → broken W ≡ true → threshold W ≤ n → n ≤ maxProcesses → PollSafeWithin (limitsOf Server) W n → ⊥
-unfolding broken answersDiffer opened
-broken-unsafe W n t enough few =
-    let e = threshold W in
+broken-unsafe : (most : Limits) (W n : ℕ) → broken W ≡ true → threshold W ≤ n → pollOpeningFor most W n .code ≡ 0 →
+    PollClaimWithin most (λ m. W) n → ⊥
+unfolding broken answersDiffer opened pollOpeningFor
+broken-unsafe most W n t enough accepted =
     let os = operations W in
     let one = withOne W (atLast W) in
     let other = withTwo W (atLast W) in
-    let a = answerOf (processAt (left W) one) in
-    let b = answerOf (processAt (left W) other) in
-    let accepted = eqb (pollOpeningFor (limitsOf Server) W e .code) 0 in
-    let start = and-left (accepted && every (within e) os) (answersDiffer (left W) one other) t in
-    let differ = and-right (accepted && every (within e) os) (answersDiffer (left W) one other) t in
-    let small = poll-opened (limitsOf Server) (caller-limits Server) W e (eqb-true (pollOpeningFor (limitsOf Server) W e .code) 0 (and-left accepted (every (within e) os) start)) in
-    let large = opens W n (omega (arith, small .0)) few (small .2) in
-    let leftFrom : Session → Session = λ s. played (polls W) s [] os .0 in
-    let same : sized n (left W) ≡ leftFrom (pollOpeningFor (limitsOf Server) W n .session) =
-    ap (λ s. sized n (leftFrom s)) (small .3)
-    ∙ sym (ap (λ x. x .0) (polls-more W n e (opened e W) [] os refl enough (and-right accepted (every (within e) os) start)))
-    ∙ ap leftFrom (sym (large .1)) in
-    breaks-poll-rule (limitsOf Server) (λ m. W) n os one other 2 1 (large .0)
-    (subst (λ (s : Session). answerOf (processAt s one) ≡ Commits 1) same (committed-is 1 a (and-left (isCommitted 1 a) (isAdopted 2 b) differ)))
-    (subst (λ (s : Session). Carries (answerOf (processAt s other)) 2) same (adopted-carries 2 b (and-right (isCommitted 1 a) (isAdopted 2 b) differ)))
+    let more = n - threshold W in
+    let size : n ≡ threshold W + more = omega arith in
+    let opens = opening-accepted most W n W accepted .4 ∙ ap₂ opened size (sym (add-zero W)) in
+    let x = polls-same W more (opened (threshold W) W) [] os _ t in
+    let same : grown more 0 (x .left) ≡ played (polls W) (pollOpeningFor most W n .session) [] os .0 =
+    sym (ap (λ s. played (polls W) s [] os .0) opens ∙ ap (λ y. y .0) (x .played)) in
+    let a = answerOf (processAt (x .left) one) in
+    let b = answerOf (processAt (x .left) other) in
+    let commits = committed-is 1 a (and-left (isCommitted 1 a) (isAdopted 2 b) (x .holds)) in
+    let adopts = adopted-carries 2 b (and-right (isCommitted 1 a) (isAdopted 2 b) (x .holds)) in
+    breaks-poll-rule most (λ m. W) n os one other 2 1 accepted
+    (subst (λ (s : Session). answerOf (processAt s one) ≡ Commits 1) same commits)
+    (subst (λ (s : Session). Carries (answerOf (processAt s other)) 2) same adopts)
     (λ z. omega arith)
 
--- A window is not safe for polls of as many processes as its threshold, nor of more.
-pub poll-too-short : (W n : ℕ) → 2 ≤ W → threshold W ≤ n → n ≤ maxProcesses → PollSafeWithin (limitsOf Server) W n → ⊥
-poll-too-short W n least enough few safe =
-    elim (decLe W 15) [
-      | yes most ↦ broken-unsafe W n (every-from broken 2 14 W least (omega arith) all-broken) enough few safe
-      | no high ↦ omega (arith, high-threshold W (omega arith))
-    ]
-
 pub exact-poll-windows : ExactPollWindows
-exact-poll-windows W n least few = (λ below. poll-below-threshold (λ m. W) n below, λ enough. poll-too-short W n least enough few)
+unfolding pollOpeningFor
+exact-poll-windows most limits W n least accepted = (
+  λ below. poll-below-threshold (λ m. W) n below most limits,
+  λ claim.
+      lt-of-not-le λ enough.
+      let few = opening-accepted most W n W accepted .1 in
+      let low = too-short W n least enough (omega (arith, limits .processes)) in
+      broken-unsafe most W n (every-from broken 2 14 W least (omega arith) all-broken) enough accepted claim,
+)
