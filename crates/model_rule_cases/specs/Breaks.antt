@@ -1,5 +1,6 @@
 -- A list of calls that breaks the agreement rule at a window: what it shows, and that the rule is then false.
-use Rattle.base.specs.Prelude.{ℕ, _≡_, refl, sym, _∙_, subst, Bool, true, false, not, cond, _&&_, true≢false, List, [], _∷_, eqb, ltb, eqb-true, eq-eqb}
+use Rattle.base.specs.Prelude.{ℕ, _≡_, refl, sym, _∙_, subst, Bool, true, false, not, cond, _&&_, true≢false, List, [], _∷_, eqb, ltb}
+use Rattle.base.specs.Prelude.{eqb-true, eq-eqb}
 use Rattle.base.specs.Bools.{and-left, and-right, cond-cases}
 use Rattle.model.specs.declared.Caller.the-variants.{Server}
 use Rattle.model.specs.declared.Operation.{Operation}
@@ -44,7 +45,8 @@ within n o = ltb (processOf o) n
 -- The opening is accepted, the operations are of its processes, and in its past two commits differ.
 unfoldable pub breaks : Row → Bool
 breaks r =
-    eqb (openingFor (limitsOf Server) (r .window) (r .n) (r .limit) .code) 0 && every (within (r .n)) (r .operations) && differ (pastOf r) (r .first) (r .second)
+    eqb (openingFor (limitsOf Server) (r .window) (r .n) (r .limit) .code) 0 && every (within (r .n)) (r .operations)
+    && differ (pastOf r) (r .first) (r .second)
 
 -- ---- what the tests say
 

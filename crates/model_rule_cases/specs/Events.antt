@@ -1,5 +1,6 @@
 -- Which events stand in a past: a test of it, by computation, and what it says.
-use Rattle.base.specs.Prelude.{ℕ, zero, suc, _≡_, refl, sym, _∙_, subst, Bool, true, false, cond, _&&_, true≢false, List, [], _∷_, eqb, eqb-true, eq-eqb}
+use Rattle.base.specs.Prelude.{ℕ, zero, suc, _≡_, refl, sym, _∙_, subst, Bool, true, false, cond, _&&_, true≢false, List, [], _∷_, eqb}
+use Rattle.base.specs.Prelude.{eqb-true, eq-eqb}
 use Rattle.base.specs.Bools.{and-left, and-right, cond-cases}
 use Rattle.model_rule.specs.Event.{Event, proposal, write, flag, commit, decision, Past, here, there, Happened}
 
@@ -47,7 +48,12 @@ is-only x e t =
     ) (back x)
 
 is-itself : (x : Event) → is x x ≡ true
-is-itself x = let a = numbers x in rw (eq-eqb (a .0) (a .0) refl, eq-eqb (a .1) (a .1) refl, eq-eqb (a .2) (a .2) refl, eq-eqb (a .3) (a .3) refl) refl
+is-itself x = let a = numbers x in rw (
+  eq-eqb (a .0) (a .0) refl,
+  eq-eqb (a .1) (a .1) refl,
+  eq-eqb (a .2) (a .2) refl,
+  eq-eqb (a .3) (a .3) refl,
+) refl
 
 -- Whether x stands in a past.
 abbrev pub occurs : (x : Event) → List Event → Bool

@@ -1,5 +1,5 @@
--- Lists of calls played on the machine: the operations, what happened, what refutes each part of the two rules; a list that breaks the agreement rule;
--- short lists at windows that are too short.
+-- Lists of calls played on the machine: the operations, what happened, what refutes each part of the two rules; a list that breaks the
+-- agreement rule; short lists at windows that are too short.
 pub mod Play
 pub mod Events
 pub mod Refuted

@@ -1,6 +1,7 @@
--- For each part of the rule of polls: what a list of calls and the poll after it may show, by computation, and that the rule is then false of them
--- (as `Refuted`, of sessions).
-use Rattle.base.specs.Prelude.{ℕ, zero, suc, _≡_, refl, sym, _∙_, Bool, true, false, true≢false, cond, not, _&&_, _||_, List, [], _∷_, _++_, ltb, eqb, ltb-true, ltb-false, eqb-true, eq-eqb, arith}
+-- For each part of the rule of polls: what a list of calls and the poll after it may show, by computation, and that the rule is then false
+-- of them (as `Refuted`, of sessions).
+use Rattle.base.specs.Prelude.{ℕ, zero, suc, _≡_, refl, sym, _∙_, Bool, true, false, true≢false, cond, not, _&&_, _||_, List, [], _∷_, _++_}
+use Rattle.base.specs.Prelude.{ltb, eqb, ltb-true, ltb-false, eqb-true, eq-eqb, arith}
 use Rattle.base.specs.Bools.{and-left, and-right, cond-cases}
 use Rattle.model.specs.declared.Status.the-variants.{Active}
 use Rattle.model.specs.declared.Session.{Session}
@@ -106,7 +107,8 @@ pub only-proposed : (v w : ℕ) {h′ h : List Event} → onlyProposed v h ≡ t
 only-proposed v w {h′} t here =
     let e : proposal w ≡ proposal v = is-only (proposal v) (proposal w) (and-left (is (proposal v) (proposal w)) (onlyProposed v h′) t) in
     cc
-only-proposed v w t (there {e = e} {h = h} k) = only-proposed v w (and-right (not (isProposal e) || is (proposal v) e) (onlyProposed v h) t) k
+only-proposed v w t (there {e = e} {h = h} k) = only-proposed v w
+    (and-right (not (isProposal e) || is (proposal v) e) (onlyProposed v h) t) k
 
 -- What was proposed before a call was proposed.
 added : (es : List Event) {h′ h : List Event} → Past h′ h → Past h′ (es ++ h)
@@ -156,7 +158,8 @@ notCommitted p a u v =
     record {
       Shown =
           λ W start cs s.
-          (gives p a cs ≡ true) × Carries a u × (onlyProposed v (past (polls W) start (inputs cs)) ≡ true) × (isAnswer (Commits v) a ≡ false);
+          (gives p a cs ≡ true) × Carries a u × (onlyProposed v (past (polls W) start (inputs cs)) ≡ true)
+          × (isAnswer (Commits v) a ≡ false);
       refuted =
           λ {W} {start} {cs} {s} shown rule.
           let g = gives-gave p a cs (shown .0) in
@@ -179,7 +182,8 @@ abbrev pub notGiven : (p v : ℕ) → PollRefutation
 notGiven p v =
     record {
       Shown = λ W start cs s. Carries (answerOf (processAt s p)) v × (gives p (answerOf (processAt s p)) cs ≡ false);
-      refuted = λ {W} {start} {cs} {s} shown rule. true≢false (sym (gave-gives p (answerOf (processAt s p)) (rule .shown p v (shown .0))) ∙ shown .1);
+      refuted = λ {W} {start} {cs} {s} shown rule. true≢false
+          (sym (gave-gives p (answerOf (processAt s p)) (rule .shown p v (shown .0))) ∙ shown .1);
     }
 
 -- `onePass`: process p took k turns, more than one pass has.
@@ -187,7 +191,8 @@ abbrev pub tooMany : (p k : ℕ) → PollRefutation
 tooMany p k =
     record {
       Shown = λ W start cs s. (turnsOf p cs ≡ k) × (ltb (passTurns W) k ≡ true);
-      refuted = λ {W} {start} {cs} {s} shown rule. let few = rule .onePass p in omega (arith, shown .0, ltb-true (passTurns W) k (shown .1));
+      refuted = λ {W} {start} {cs} {s} shown rule. let few = rule .onePass p in omega
+          (arith, shown .0, ltb-true (passTurns W) k (shown .1));
     }
 
 -- `working`: process p still works, and took k turns, as many as one pass has.

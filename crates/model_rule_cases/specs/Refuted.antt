@@ -1,5 +1,5 @@
--- For each part of the agreement rule: what a session and its past may show, by computation, and that the rule is then false of them. Theorem edits
--- use it (tests/theorem_edits.py): their lists of calls show such things of changed machines.
+-- For each part of the agreement rule: what a session and its past may show, by computation, and that the rule is then false of them.
+-- Theorem edits use it (tests/theorem_edits.py): their lists of calls show such things of changed machines.
 use Rattle.base.specs.Prelude.{ℕ, _≡_, sym, _∙_, true, false, true≢false, List, leb, eqb, leb-true, eq-eqb}
 use Rattle.model.specs.declared.Phase.the-variants.{Decided}
 use Rattle.model.specs.declared.Session.{Session}
@@ -35,7 +35,8 @@ abbrev pub neverLooked : (p v : ℕ) → Refutation
 neverLooked p v =
     record {
       Shown = λ s h. (processAt s p .phase ≡ Decided) × (processAt s p .estimate ≡ v) × (occurs (decision p v) h ≡ false);
-      refuted = λ {s} {h} shown rule. true≢false (sym (past-occurs (decision p v) (rule .looked p v (shown .0, shown .1) .past)) ∙ shown .2);
+      refuted = λ {s} {h} shown rule. true≢false (sym (past-occurs (decision p v) (rule .looked p v (shown .0, shown .1) .past))
+          ∙ shown .2);
     }
 
 -- `agreement`: process p decided u, and process q decided v, another number.

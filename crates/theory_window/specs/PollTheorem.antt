@@ -26,7 +26,8 @@ use Rattle.theory_window.specs.PollMore.{polls-same}
 breaks-poll-rule : (most : Limits) (w : ℕ → ℕ) (n : ℕ) (os : List PollOperation) (p q u v : ℕ) →
     let start = pollOpeningFor most (w n) n in
     let s = played (polls (w n)) (start .session) [] os .0 in
-    start .code ≡ 0 → answerOf (processAt s p) ≡ Commits v → Carries (answerOf (processAt s q)) u → (u ≡ v → ⊥) → PollClaimWithin most w n → ⊥
+    start .code ≡ 0 → answerOf (processAt s p) ≡ Commits v → Carries (answerOf (processAt s q)) u → (u ≡ v → ⊥) →
+    PollClaimWithin most w n → ⊥
 breaks-poll-rule most w n os p q u v ok commits carries differ claim =
     let M = polls (w n) in
     let start = pollOpeningFor most (w n) n .session in
@@ -35,12 +36,14 @@ breaks-poll-rule most w n os p q u v ok commits carries differ claim =
     let rule = at-the-end M (λ s cs. PollRule (w n) start cs s) (c .run) (holds .2) in
     let same : played M start [] os .0 ≡ c .left =
     ap (λ x. x .0) (played-machine M start os []) ∙ ap (machine M start) (sym (c .same)) ∙ sym (holds .1) in
-    let committed : answerOf (processAt (c .left) p) ≡ Commits v = subst (λ (s : Session). answerOf (processAt s p) ≡ Commits v) same commits in
+    let committed : answerOf (processAt (c .left) p) ≡ Commits v = subst
+    (λ (s : Session). answerOf (processAt s p) ≡ Commits v) same commits in
     let other : Carries (answerOf (processAt (c .left) q)) u = subst (λ (s : Session). Carries (answerOf (processAt s q)) u) same carries in
     let one = rule .shown p v (rw committed refl) in
     let two = rule .shown q u other in
     differ
-    (rule .agreement u v (one .stood) (two .stood) (one .answer ∙ committed) (subst (λ (a : Answer). Carries a u) (sym (two .answer)) other))
+    (rule .agreement u v (one .stood) (two .stood) (one .answer ∙ committed)
+    (subst (λ (a : Answer). Carries a u) (sym (two .answer)) other))
 
 committed-is : (v : ℕ) (a : Answer) → isCommitted v a ≡ true → a ≡ Commits v
 committed-is v Pending t = absurd (true≢false (sym t))
