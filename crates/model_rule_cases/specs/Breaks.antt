@@ -1,7 +1,6 @@
 -- A list of calls that breaks the agreement rule at a window: what it shows, and that the rule is then false.
-use Rattle.base.specs.Prelude.{ℕ, _≡_, refl, sym, _∙_, subst, Bool, true, false, not, cond, _&&_, true≢false, List, [], _∷_, eqb, ltb}
-use Rattle.base.specs.Prelude.{eqb-true, eq-eqb}
-use Rattle.base.specs.Bools.{and-left, and-right, cond-cases}
+use Rattle.base.specs.Prelude.{ℕ, _≡_, refl, sym, _∙_, Bool, true, not, _&&_, true≢false, List, [], eqb, ltb, eq-eqb}
+use Rattle.base.specs.Bools.{and-left, and-right}
 use Rattle.model.specs.declared.Caller.the-variants.{Server}
 use Rattle.model.specs.declared.Operation.{Operation}
 use Rattle.model.specs.Board.{limitsOf}

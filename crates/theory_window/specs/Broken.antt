@@ -1,19 +1,19 @@
 -- By computation: the list of calls of each window from 2 to 15 breaks the agreement rule at that window.
 use Prim.Native.Nat.{ℕ, _*_, _-_}
 use mathlib.Core.Path.{_≡_, refl}
-use mathlib.Core.Bool.{Bool, true, false, _&&_}
+use mathlib.Core.Bool.{Bool, true, _&&_}
 use mathlib.Core.List.{List, [], _∷_, map}
-use lib.Dec.{eqb}
 use Rattle.model.specs.declared.Session.{Session}
 use Rattle.model.specs.Board.{opened}
 use Rattle.model.specs.Step.{waitingRule, phaseAccess, access, found, goOn, phaseNext, next, learnt, stored, turn, counted}
 use Rattle.model.specs.Refusal.{full}
 use Rattle.model.specs.Machine.{accessOf, becomes, after, countsAfter, answered, perform}
 use Rattle.model.specs.Sound.{every}
-use Rattle.model_rule.specs.Event.{Event, proposal, write, flag, commit, decision}
+use Rattle.model_rule.specs.Event.{Event, write, commit}
 use Rattle.model_rule.specs.Calls.{sessions}
 use Rattle.model_rule.specs.Safe.{threshold}
-use Rattle.model_rule_cases.specs.Breaks.{commits, some, happens, differ}
+use Rattle.model_rule_cases.specs.Events.{occurs}
+use Rattle.model_rule_cases.specs.Breaks.{happens, differ}
 use Rattle.theory_window.specs.Construction.{from, withWrite, goesOn, allGoOn, onePass, epochs, atFirst, atLast, Plan, construction}
 use Rattle.theory_window.specs.More.{grown, inside, watched}
 
@@ -21,17 +21,9 @@ use Rattle.theory_window.specs.More.{grown, inside, watched}
 pub thresholds : map threshold (from 2 15) ≡ 2 ∷ 3 ∷ 5 ∷ 7 ∷ 10 ∷ 14 ∷ 18 ∷ 22 ∷ 27 ∷ 33 ∷ 39 ∷ 45 ∷ 52 ∷ 60 ∷ 68 ∷ []
 thresholds = refl
 
--- Whether the event is a write of v to the register of round r by process p.
-abbrev pub writes : (p r v : ℕ) → Event → Bool
-writes p r v (proposal u) = false
-writes p r v (write o q u) = eqb o p && eqb q r && eqb u v
-writes p r v (flag q) = false
-writes p r v (commit q u) = false
-writes p r v (decision o u) = false
-
 -- In a past: 1 is committed in round W, and the other process writes 2 there.
 unfoldable pub writtenOver : (W : ℕ) → Plan → List Event → Bool
-writtenOver W c h = some (commits W 1) h && some (writes (c .other) W 2) h
+writtenOver W c h = occurs (commit W 1) h && occurs (write (c .other) W 2) h
 
 -- 1 is committed in round W and 2 in round 2W - 1, and the two processes decide these.
 unfoldable pub twoDecisions : (W : ℕ) → Plan → List Event → Bool

@@ -1,7 +1,6 @@
 -- Windows that are too short (document 02, wish 7), and which windows are safe for how many processes.
 use Rattle.base.specs.Prelude.{ℕ, suc, zero, _+_, _*_, _-_, _/_, _≤_, _<_, arith, mul-le-mul, add-zero, add-assoc, _≡_, refl, sym, _∙_, ap}
-use Rattle.base.specs.Prelude.{ap₂, subst, ℕ-discrete, decLe, lt-of-not-le, Bool, true, true≢false, cond, _&&_, List, [], _∷_, _++_, eqb}
-use Rattle.base.specs.Prelude.{leb, ltb, eqb-true}
+use Rattle.base.specs.Prelude.{ap₂, subst, ℕ-discrete, decLe, lt-of-not-le, Bool, true, cond, _&&_, List, [], _∷_, _++_, leb, ltb, le-leb}
 use Rattle.base.specs.Bools.{and-left, and-right}
 use Rattle.model.specs.declared.Limits.{Limits}
 use Rattle.model.specs.declared.Session.{Session}
@@ -11,38 +10,27 @@ use Rattle.model.specs.Machine.{openingFor}
 use Rattle.model.specs.Sound.{every}
 use Rattle.model.specs.ReadOut.{holds}
 use Rattle.model_laws.specs.Operations.{opening-accepted}
-use Rattle.model_rule.specs.Event.{Event, proposal, write, flag, commit, decision, DecidedOn}
+use Rattle.model_rule.specs.Event.{Event, commit, DecidedOn}
 use Rattle.model_rule.specs.Calls.{sessions, RunWith}
 use Rattle.model_rule.specs.Rule.{Rule, AgreementWithin}
 use Rattle.model_rule.specs.Safe.{threshold, ExactWindows, TwoDecisions, DifferentDecisions}
 use Rattle.model_rule_cases.specs.Play.{fedBy, played, played-append, Called, called, called-past, breaks-rule}
-use Rattle.model_rule_cases.specs.Breaks.{commits, some, some-happened, commits-only, differ-shows}
+use Rattle.model_rule_cases.specs.Events.{occurs}
+use Rattle.model_rule_cases.specs.Refuted.{writtenLater}
+use Rattle.model_rule_cases.specs.Breaks.{differ-shows}
 use Rattle.theory_agreement.specs.Theorem.{below-threshold}
 use Rattle.theory_window.specs.Construction.{from, Plan, construction}
 use Rattle.theory_window.specs.More.{grown, inside, Same, sessions-same}
-use Rattle.theory_window.specs.Broken.{writes, writtenOver, twoDecisions, afterFirst, broken, all-broken}
+use Rattle.theory_window.specs.Broken.{writtenOver, twoDecisions, afterFirst, broken, all-broken}
 
 -- ---- the list of a window, with more processes and more rounds
-
-writes-only : (p r v : ℕ) (e : Event) → writes p r v e ≡ true → e ≡ write p r v
-writes-only p r v (proposal u) t = absurd (true≢false (sym t))
-writes-only p r v (write o q u) t =
-    let a = eqb o p in
-    let b = eqb q r in
-    let two = and-left (a && b) (eqb u v) t in
-    rw (eqb-true o p (and-left a b two), eqb-true q r (and-right a b two), eqb-true u v (and-right (a && b) (eqb u v) t)) refl
-writes-only p r v (flag q) t = absurd (true≢false (sym t))
-writes-only p r v (commit q u) t = absurd (true≢false (sym t))
-writes-only p r v (decision o u) t = absurd (true≢false (sym t))
 
 -- No rule allows a past in which 1 is committed in round W and 2 is written there.
 never-over : (W : ℕ) (c : Plan) (s : Session) (h : List Event) → writtenOver W c h ≡ true → Rule s h → ⊥
 unfolding writtenOver
-never-over W c s h t rule =
-    let a = some (commits W 1) h in
-    let committed = some-happened _ _ (commits-only W 1) h (and-left a _ t) in
-    let written = some-happened _ _ (writes-only (c .other) W 2) h (and-right a _ t) in
-    omega (arith, rule .commitment W W 2 1 committed (c .other, written) (omega arith))
+never-over W c s h t =
+    let committed = occurs (commit W 1) h in
+    writtenLater W 1 (c .other) W 2 .refuted (and-left committed _ t, and-right committed _ t, le-leb W W (omega arith), refl)
 
 grown-twice : (a b c : ℕ) (s : Session) → grown a c (grown 0 b s) ≡ grown a (b + c) s
 grown-twice a b c s = rw (add-zero (s .n), add-assoc (s .limit) b c) refl
