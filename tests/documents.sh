@@ -42,6 +42,7 @@ wrong '`tests/gone.sh 5`: there is no such file' docs/TESTING.md '`tests/gone.sh
 wrong '`part_window/gone`: there is no such file' docs/WRONG-ANSWERS.md '`part_window/gone`'
 wrong 'the link to GONE.md# leads nowhere' docs/NAMES.md '[GONE](GONE.md)'
 wrong 'the link to PROVED.md#gone leads nowhere' docs/NAMES.md '[PROVED](PROVED.md#gone)'
+wrong 'README.md has no link to GONE.md' docs/GONE.md 'a page'
 wrong '101 columns' docs/NAMES.md "$(printf '%0101d' 0)"
 wrong 'and may have 100 and 1,000' README.md "$(printf '\\n%.0s' {1..100})"
 wrong 'and 150 are wanted at most: a note' docs/CHANGES.md "## a note\n\n$(printf 'word\\n%.0s' {1..151})"

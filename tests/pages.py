@@ -3,7 +3,7 @@
 
 - README has at most 100 lines and 1,000 words; a note of docs/CHANGES.md has at most 150 words beside its table.
 - A line has at most 100 columns. Rows of tables and blocks of code may be wider, except in README.
-- A link leads to a file, and to a heading of it where it names one.
+- A link leads to a file, and to a heading of it where it names one. TESTING names every test of the gate, and README links every page.
 - In backticks: a path is a file or a pattern that finds one; `crate::name` is declared in that crate; `crate/label` is an edit of it; any
   single word is a word of the code or the scripts. Words in capitals stand for something. CHANGES may name what is gone.
 """
@@ -64,6 +64,8 @@ def main():
             titles = [re.sub(r"[^\w -]", "", t.lower()).replace(" ", "-") for t in re.findall(r"^#+ (.*)", PAGES.get(to.name, ""), re.M)]
             if not to.exists() or part and part not in titles:
                 faults.append(f"{name}: the link to {file}#{part} leads nowhere")
+    faults += [f"TESTING.md has no {test.name}" for test in (ROOT / "tests").glob("*.sh") if f"tests/{test.name}" not in PAGES["TESTING.md"]]
+    faults += [f"README.md has no link to {name}" for name in PAGES if name != "README.md" and f"(docs/{name}" not in PAGES["README.md"]]
     lines, words = PAGES["README.md"].count("\n"), len(PAGES["README.md"].split())
     faults += [f"README.md has {lines} lines and {words} words, and may have 100 and 1,000"] * (lines > 100 or words > 1000)
     for note in re.split(r"^## ", PAGES["CHANGES.md"], flags=re.M)[1:]:
