@@ -14,7 +14,7 @@ from pathlib import Path
 ROOT = Path(__file__).resolve().parent.parent
 HEAD = "| Contract | Edit | The rule that it breaks |\n|---|---|---|\n"
 PUBLIC = re.compile(r'^pub (?:extern "C" )?fn (\w+)', re.M)
-THEOREM = re.compile(r"^ *pub ([\w-]+) :", re.M)
+THEOREM = re.compile(r"^( *)pub ([\w-]+) :(?=(?:.*\n)*?\1\2(?![\w-])[^;\n]* =)", re.M)
 
 
 def crates():
@@ -29,7 +29,7 @@ def contracts(crate):
     code = [f.read_text(encoding="utf-8") for f in sorted((folder / "src").glob("*.rt"))]
     found = [name for text in code for name in PUBLIC.findall(text)]
     specs = [f.read_text(encoding="utf-8") for f in sorted(folder.glob("specs/*.antt"))]
-    return found or [name for text in specs for name in THEOREM.findall(text)], bool(found)
+    return found or [name for text in specs for _, name in THEOREM.findall(text)], bool(found)
 
 
 def edits(crate, faults):
