@@ -1,11 +1,16 @@
 -- A contract that asks nothing and fixes what the function answers, as a function of the arguments, and what it leaves behind its
 -- references.
---     Row              a parameter's or a result's type: its row, how its machine value is spelled, what is had of it at exit, and the laws that a walk asks
---     by-value         a type of which nothing is said at exit.        uint, truth, struct      an unsigned integer, `bool`, a declared struct
---     slots, stays, spells, all-tell, fits, all-go, lawfuls      of a list of them, what `Denote/Triple/Walked.antt` and `Denote/Laws.antt` ask of a signature's parameters
+--     Row              a parameter's or a result's type: its row, how its machine value is spelled, what is had of it at exit, and the laws
+--                      that a walk asks
+--     by-value         a type of which nothing is said at exit.        uint, truth, struct      an unsigned integer, `bool`, a declared
+--                      struct
+--     slots, stays, spells, all-tell, fits, all-go, lawfuls      of a list of them, what `Denote/Triple/Walked.antt` and `Denote/Laws.antt`
+--                                                                ask of a signature's parameters
 --     Promise          what is taken, what is given, the answer, and the last value of each reference that is taken
---     ended            the signature.        Claim, triple      what a contract says of arguments, result and last values, and the contract that says it. A generated module has the same, by computation
---     token, own-all, on-entry, bound      the lifetimes' tokens, what the arguments own, what a call is handed, and the same as the contract binds it
+--     ended            the signature.        Claim, triple      what a contract says of arguments, result and last values, and the contract
+--                      that says it. A generated module has the same, by computation
+--     token, own-all, on-entry, bound      the lifetimes' tokens, what the arguments own, what a call is handed, and the same as the
+--                                          contract binds it
 --     had              what is had of the parameters at exit
 -- What is shown of a Row's laws takes `Given`. The rest assumes nothing.
 use Rattle.base.specs.Prelude.{_≡_, refl, ℕ, List, [], _∷_}

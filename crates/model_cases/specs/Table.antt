@@ -102,6 +102,7 @@ table =
 -- Every row holds of the machine.
 pub starred-cases : every holds table ≡ true
 unfolding
-    table holds window rootUp rootFrom opened waitingRule phaseAccess access found goOn phaseNext next learnt stored turn counted full openingFor
+    table holds window rootUp rootFrom opened waitingRule phaseAccess access found goOn phaseNext next learnt stored turn counted full
+    openingFor
     accessOf becomes after countsAfter answered perform
 starred-cases = refl

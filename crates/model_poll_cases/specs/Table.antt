@@ -175,6 +175,7 @@ table =
 pub poll-cases : every holds table ≡ true
 unfolding
     table holds window rootUp rootFrom opened waitingRule phaseAccess access found goOn phaseNext next stored turn counted full openingFor
-    accessOf becomes after countsAfter answered perform withoutDecision pollAccess ending pollNext answerOf pollOpeningFor turnAfter turnCounts
+    accessOf becomes after countsAfter answered perform withoutDecision pollAccess ending pollNext answerOf pollOpeningFor turnAfter
+    turnCounts
     turned pollPerform
 poll-cases = refl

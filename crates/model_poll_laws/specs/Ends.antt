@@ -39,7 +39,8 @@ module _ (W : ℕ) (s : Session) (c : Counts) (p : ℕ) (below : p < s .n) where
           counts = c;
           answer = Commits (q .estimate);
         }
-    unfolding pollPerform turned turnAfter turnCounts turn pollAccess pollNext access next phaseAccess phaseNext withoutDecision ending stored found counted answerOf
+    unfolding pollPerform turned turnAfter turnCounts turn pollAccess pollNext access next phaseAccess phaseNext withoutDecision ending
+        stored found counted answerOf
     commit-answers at =
         rw (lt-leb (s .n) p below, at, room, getD-set-same (s .processes) p (process HasCommitted (q .round) (q .estimate)) idle long) refl
 
@@ -52,7 +53,8 @@ module _ (W : ℕ) (s : Session) (c : Counts) (p : ℕ) (below : p < s .n) where
           counts = read;
           answer = Adopts (q .estimate);
         }
-    unfolding pollPerform turned turnAfter turnCounts turn pollAccess pollNext access next phaseAccess phaseNext withoutDecision ending stored found counted answerOf
+    unfolding pollPerform turned turnAfter turnCounts turn pollAccess pollNext access next phaseAccess phaseNext withoutDecision ending
+        stored found counted answerOf
     marked-adopts i at marked =
         rw (
           lt-leb (s .n) p below,
@@ -72,7 +74,8 @@ module _ (W : ℕ) (s : Session) (c : Counts) (p : ℕ) (below : p < s .n) where
           counts = read;
           answer = Adopts (q .estimate);
         }
-    unfolding pollPerform turned turnAfter turnCounts turn pollAccess pollNext access next phaseAccess phaseNext withoutDecision ending stored found counted answerOf
+    unfolding pollPerform turned turnAfter turnCounts turn pollAccess pollNext access next phaseAccess phaseNext withoutDecision ending
+        stored found counted answerOf
     other-adopts i at other =
         rw (
           lt-leb (s .n) p below,

@@ -88,6 +88,7 @@ table =
 -- Every row breaks the machine at its window.
 pub short-lists : every breaks table ≡ true
 unfolding
-    two three five table played happens differ breaks opened waitingRule phaseAccess access found goOn phaseNext next learnt stored turn counted full openingFor
+    two three five table played happens differ breaks opened waitingRule phaseAccess access found goOn phaseNext next learnt stored turn
+    counted full openingFor
     accessOf becomes after countsAfter answered perform
 short-lists = refl

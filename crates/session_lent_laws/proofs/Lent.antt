@@ -2,8 +2,10 @@
 -- a local.
 --     reference        the type of the parameter, `&mut S`
 --     reads            a field of such a struct in a local
---     opened, closed   what the reference refers to is had, with its machine value written out, and the reference is had again, at another value
---     lent-out         a local that holds a value of S is lent.        taken-back      it is room again, once the reference's last value is known
+--     opened, closed   what the reference refers to is had, with its machine value written out, and the reference is had again, at another
+--                      value
+--     lent-out         a local that holds a value of S is lent.        taken-back      it is room again, once the reference's last value is
+--                      known
 -- Assumes `Given`.
 use mathlib.Core.Option.{some, Option·getD}
 use Rattle.base.specs.Prelude.{_≡_, refl, sym, subst, ℕ, zero, _+_, [], _∷_, List}

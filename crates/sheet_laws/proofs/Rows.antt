@@ -1,7 +1,8 @@
 -- The types of the functions over a reader and of those that they call, the promises among them, and how a reader is taken apart and put
 -- together.
 --     sheet, place, handed, reader      the types: `&'a [u8]`, `usize`, `Handed`, `Reader<'a>`
---     begins, hands, advances              what `sheet_place::begin`, `handed` and `advance` promise, and `first_place`, `entry_at` and `place_after` with them
+--     begins, hands, advances              what `sheet_place::begin`, `handed` and `advance` promise, and `first_place`, `entry_at` and
+--                                          `place_after` with them
 --     attaches, reads, moves               what `attach`, `entry` and `moved` promise
 --     at, parts        a reader of a slice and a place, and the two of a reader
 --     together, apart  what its slice and its place own is what the reader owns, and the other way

@@ -53,7 +53,8 @@ walk 𝓤 H A W C Λ callee κs qs a ty Q out =
     (init ! 17 refl (changed {n = 1} .lawful 𝓤 H A W κs .typed (withoutCounts x) _ (rest-of x x-is) .0)) $
     move ! (3 ∷ 4 ∷ 5 ∷ 6 ∷ []) $ closed Ct.the-type Ct′.the-laws ! tt κs (a .1 .1 .0) (x .counts) Ct′.the-plain (counts-of x x-is) $
     -- [the reference; the token; …; …; …; _5; …; _4; …; _3; …; _2; …; _1; …; _0; …]
-    returns ! (look ! 15 refl) $ gone ! 15 refl refl $ gone ! 13 refl refl $ gone ! 11 refl refl $ gone ! 9 refl refl $ gone ! 7 refl refl $ gone ! 5 refl refl $ free0 ! $
+    returns ! (look ! 15 refl) $ gone ! 15 refl refl $ gone ! 13 refl refl $ gone ! 11 refl refl $ gone ! 9 refl refl $ gone ! 7 refl refl $
+    gone ! 5 refl refl $ free0 ! $
     owned ! Ch.the-row (Is Ch.the-row) (LL.makes Ch.the-type Ch′.the-plain 𝓤 H A) (withoutCounts x) _ (rest-of x x-is) $
     nothing ! $ move ! (2 ∷ 0 ∷ []) $ fjoin ! $ nothing ! $ fjoin ! $ nothing ! $ fjoin ! $ nothing ! $ move ! (3 ∷ 0 ∷ []) $ use2 W
     (raw (token learns-lent 𝓤 H A κs qs)) (id⊢ 𝓤 _) $ keep ! (1 ∷ 2 ∷ 0 ∷ []) $ by ! (out _ refl)))))))))

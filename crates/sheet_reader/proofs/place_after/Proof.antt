@@ -29,7 +29,8 @@ walk 𝓤 H A W C Λ callee κs qs a ty Q out =
     land ! (from ! (stop !)) (init ! 5 refl (wt .0)) $
     assigns ! (of-opd ! (load ! (from ! (fld ! refl (stop !))) (look-in ! 5 (sub ! 1 refl (whole !))))) (from ! (stop !))
     (init ! 11 refl (tt, wt .0 .1 .1 .0)) $
-    returns ! (look ! 11 refl) $ gone ! 11 refl refl $ gone ! 9 refl refl $ gone ! 7 refl refl $ gone ! 5 refl refl $ gone ! 3 refl refl $ free0 ! $
+    returns ! (look ! 11 refl) $ gone ! 11 refl refl $ gone ! 9 refl refl $ gone ! 7 refl refl $ gone ! 5 refl refl $ gone ! 3 refl refl $
+    free0 ! $
     owned ! usize (Is usize) (uint-makes 𝓤 H A W w64) _ _ (
       refl,
       wt .0 .1 .1 .0 .fits,

@@ -38,7 +38,8 @@ walk 𝓤 H A W C Λ callee κs qs a ty Q out =
     assigns ! (agg ! (and-then ! (load ! (from ! (stop !)) (look ! 4 refl))
     (and-then ! (load ! (from ! (stop !)) (look ! 10 refl)) (no-more !)))) (from ! (stop !))
     (init ! 14 refl (tt, (ty .0 .1 .0, (wt .0 .1, tt)))) $
-    returns ! (look ! 14 refl) $ gone ! 14 refl refl $ gone ! 12 refl refl $ gone ! 10 refl refl $ gone ! 8 refl refl $ gone ! 6 refl refl $ gone ! 4 refl refl $ free0 ! $
+    returns ! (look ! 14 refl) $ gone ! 14 refl refl $ gone ! 12 refl refl $ gone ! 10 refl refl $ gone ! 8 refl refl $ gone ! 6 refl refl $
+    gone ! 4 refl refl $ free0 ! $
     move ! (3 ∷ []) $ fsplit ! $ move ! (0 ∷ 2 ∷ []) $ use2 W
     (‵ (reader .row κs .own (movedOn (a .0)) (reader .val κs (movedOn (a .0)) ∷ []))) (own-put 𝓤 H A W (D κs) (L κs) 1 (parts (a .0)) _ _) $
     nothing ! $ nothing ! $ fjoin ! $ keep ! (0 ∷ 1 ∷ 3 ∷ []) $ by ! (out _ refl))))))))

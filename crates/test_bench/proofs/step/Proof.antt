@@ -68,7 +68,8 @@ walk 𝓤 H A W C Λ callee κs qs a ty Q out =
     land ! (from ! (stop !)) (init ! 9 refl (wt .0)) $
     assigns ! (of-opd ! (reads Ch.the-type Ch′.the-laws ! x 6 9 1 refl refl refl)) (from ! (stop !))
     (init ! 20 refl (goes-on .gives .lawful 𝓤 H A W κs .typed (x .session) _ session-is .0)) $
-    returns ! (look ! 20 refl) $ gone ! 20 refl refl $ gone ! 18 refl refl $ gone ! 16 refl refl $ gone ! 14 refl refl $ gone ! 12 refl refl $ move ! (0 ∷ 11 ∷ []) $ free1 ! $ gone ! 8 refl refl $ gone ! 6 refl refl $ free0 ! $
+    returns ! (look ! 20 refl) $ gone ! 20 refl refl $ gone ! 18 refl refl $ gone ! 16 refl refl $ gone ! 14 refl refl $
+    gone ! 12 refl refl $ move ! (0 ∷ 11 ∷ []) $ free1 ! $ gone ! 8 refl refl $ gone ! 6 refl refl $ free0 ! $
     owned ! Se.the-row (Is Se.the-row) (LL.makes Se.the-type Se′.the-plain 𝓤 H A) (x .session) _ session-is $ move !
     (1 ∷ 2 ∷ 3 ∷ []) $ fjoin3 ! $ nothing ! $ fjoin ! $ nothing ! $ fjoin ! $ keep ! (0 ∷ 1 ∷ 2 ∷ []) $ by ! (out _ refl)))))))))))
 
