@@ -2,7 +2,6 @@
 ghost use mathlib.Core.Path.{_≡_};
 ghost use mathlib.Core.List.{[], _∷_};
 ghost use Rattle.model.specs.Bytes.{word32};
-ghost use Prim.Native.Nat.{ℕ};
 ghost use mathlib.Core.Bool.{not};
 ghost use Rattle.model.specs.Sheet.{entryOf, isMalformed};
 use model::Entry;
@@ -34,9 +33,9 @@ pub fn entry_of(kind: u8, p: u8, value: u32) -> Entry
     Entry::Malformed
 }
 
-// Whether it is one of these, whatever its process: by the largest value of each kind.
-pub fn formed(kind: u8, value: u32) -> bool
-    ensures { λ r. ⌜ ((p : ℕ) → r ≡ not (isMalformed (entryOf kind p value))) ⌝ }
+// Whether it is one of these: by the largest value of each kind.
+pub fn formed(kind: u8, p: u8, value: u32) -> bool
+    ensures { λ r. ⌜ r ≡ not (isMalformed (entryOf kind p value)) ⌝ }
 {
     let largest: [u32; 4] = [4294967295, 1, 0, 0];
     if kind < 4 {

@@ -66,7 +66,7 @@ fn well_formed(entries: &[u8]) -> bool
             entries[high],
             entries[high + 1],
         );
-        if !formed(entries[at], value) {
+        if !formed(entries[at], entries[at + 1], value) {
             return false;
         }
         i += 1;

@@ -5,10 +5,10 @@ use Rattle.part_entry.proofs.formed.Statement.{statement}
 use Rattle.part_entry.proofs.formed.Tie as tie
 
 returns : tie.Need-returns
-returns c p = let a = c .before .args in formed-largest (a .kind) p (a .value) (c .if1 .taken) (omega arith)
+returns c = let a = c .before .args in formed-largest (a .kind) (a .p) (a .value) (c .if1 .taken) (omega arith)
 
 returns-2 : tie.Need-returns-2
-returns-2 c p = let a = c .before .args in sym (formed-unknown (a .kind) p (a .value) (λ low. omega arith))
+returns-2 c = let a = c .before .args in sym (formed-unknown (a .kind) (a .p) (a .value) (λ low. omega arith))
 
 pub formed-spec : {M : Type 1} → statement M
 formed-spec = tie.close (tie.spec (λ c. search needs) (λ c. search needs) returns returns-2)

@@ -20,7 +20,7 @@ loop-holds : tie.Need-loop-holds Inv-loop μ-loop
 loop-holds c = (⊎-elim (λ w. omega arith) (λ w. omega arith) (c .if1 .came), omega arith, rw sub-zero)
 
 abbrev loop-of : tie.After-formed Inv-loop μ-loop → tie.At-loop Inv-loop μ-loop
-loop-of c = c .before .before .before .before .before .before .before .before
+loop-of c = c .before .before .before .before .before .before .before .before .before
 
 abbrev entries-of : tie.After-formed Inv-loop μ-loop → List ℕ
 entries-of c = loop-of c .before .before .before .args .entries .now
@@ -39,7 +39,7 @@ first-left c =
     let es = entries-of c in
     let p = byteAt es (6 * i + 1) in
     let read : c .formed .result ≡ not (isMalformed (entryAt es (6 * i))) =
-    c .formed .ensures p ∙ ap (λ v. not (isMalformed (entryOf (byteAt es (6 * i)) p v))) (c .before .before .number32 .ensures) in
+    c .formed .ensures ∙ ap (λ v. not (isMalformed (entryOf (byteAt es (6 * i)) p v))) (c .before .before .before .number32 .ensures) in
     let left : count-of c - i ≡ suc (count-of c - (i + 1)) = omega arith in
     let next : 6 * i + 6 ≡ 6 * (i + 1) = omega arith in
     loop-of c .loop .inv .2 ∙ rw (left, ← read, next)
@@ -60,12 +60,13 @@ returns-2 c =
     let none : l .before .if1 .count - l .loop .i ≡ 0 = omega arith in
     rw (← l .loop .inv .0) (sym (l .loop .inv .2 ∙ rw none))
 
--- In the order of the code: the places, the bytes of the value, the number, the kind.
+-- In the order of the code: the places, the bytes of the value, the number, the kind, the process.
 pub well-formed-spec : {M : Type 1} → statement M
 well-formed-spec =
     tie.close
     (tie.spec Inv-loop μ-loop loop-holds (λ c. omega arith) (λ c. omega arith) (λ c. omega arith) (λ c. omega arith) (λ c. omega arith)
     (λ c. omega arith)
-    (λ c. omega arith) (λ c. omega arith) (λ c. omega arith) (λ c κs. search needs) (λ c. omega arith) (λ c κs. search needs) returns
+    (λ c. omega arith) (λ c. omega arith) (λ c. omega arith) (λ c κs. search needs) (λ c. omega arith) (λ c. omega arith) (λ c. omega arith)
+    (λ c κs. search needs) returns
     (λ c. omega arith)
     (λ c. omega arith) loop-again returns-2)
