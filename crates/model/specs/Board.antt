@@ -1,6 +1,6 @@
 -- Document 01, "The board and the seats": the registers, the processes, and a session just opened.
 use Prim.Native.Nat.{ℕ, suc, _-_, _≤_}
-use mathlib.Core.Bool.{Bool, false, cond}
+use mathlib.Core.Bool.{Bool, true, false, cond}
 use mathlib.Core.List.{List, [], _∷_}
 use lib.ListN.{getD, set, replicate}
 use lib.Dec.{eqb}
@@ -59,7 +59,8 @@ highestFilled s = highestFrom 0 0 (s .values)
 
 -- ---- sessions
 
--- A session just opened: all registers blank, all rounds unmarked, no process has proposed.
+-- A session just opened: all registers blank, all rounds unmarked, no process has proposed. 02, wish 10: "The session gains a closed mark,
+-- open at first."
 unfoldable pub opened : ℕ → ℕ → Session
 opened n limit =
     record {
@@ -69,6 +70,7 @@ opened n limit =
       marks = replicate maxRounds false;
       decision = 0;
       processes = replicate maxProcesses idle;
+      closed = false;
     }
 
 -- The session with other registers and records, all else as it was.
@@ -81,6 +83,7 @@ with s values marks decision processes =
       marks = marks;
       decision = decision;
       processes = processes;
+      closed = s .closed;
     }
 
 -- With one of them alone.
@@ -96,6 +99,19 @@ withDecision s decision = with s (s .values) (s .marks) decision (s .processes)
 -- With another record for process p.
 abbrev pub withProcess : Session → ℕ → Process → Session
 withProcess s p q = with s (s .values) (s .marks) (s .decision) (set (s .processes) p q)
+
+-- With the closed mark set, all else as it was.
+abbrev pub withClosed : Session → Session
+withClosed s =
+    record {
+      n = s .n;
+      limit = s .limit;
+      values = s .values;
+      marks = s .marks;
+      decision = s .decision;
+      processes = s .processes;
+      closed = true;
+    }
 
 -- ---- the counts
 

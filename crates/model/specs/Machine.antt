@@ -15,7 +15,7 @@ use Rattle.model.specs.declared.Operation.the-variants.{Propose, Step, L
 use Rattle.model.specs.declared.Changed.{Changed}
 use Rattle.model.specs.declared.Stepped.{Stepped}
 use Rattle.model.specs.Window.{window}
-use Rattle.model.specs.Board.{processAt, opened, limitsOf}
+use Rattle.model.specs.Board.{processAt, opened, limitsOf, withClosed}
 use Rattle.model.specs.Step.{access, next, learnt, found, turn, counted, process}
 use Rattle.model.specs.Refusal.{Test, refusal, openTestsFor, tests, changed, stepped}
 
@@ -71,6 +71,17 @@ countsAfter s c o = let a = accessOf (s .limit) (processAt s (processOf o)) o in
 unfoldable pub answered : List Test → (W : ℕ) → Session → Counts → Operation → Stepped
 answered ts W s c o = stepped (refusal ts) s (after W s o) c (countsAfter s c o)
 
--- What the machine at window W answers.
+-- What the machine at window W answers to an operation of a process.
 unfoldable pub perform : (W : ℕ) → Session → Counts → Operation → Stepped
 perform W s c o = answered (tests s c o) W s c o
+
+-- What a session is told: an operation of one of its processes, or a close (02, wish 10), which names none.
+pub data Command : Type 0 where
+  acts : Operation → Command
+  closes : Command
+
+-- What the machine answers to a command. 02, wish 10: "A close sets it", the closed mark, "also where it is set already". It makes no
+-- register operation, and the machine never refuses it.
+unfoldable pub execute : (W : ℕ) → Session → Counts → Command → Stepped
+execute W s c (acts o) = perform W s c o
+execute W s c closes = record { code = 0; session = withClosed s; counts = c }

@@ -70,6 +70,10 @@ countsFull = 16
 abbrev pub badCuts : ℕ
 badCuts = 17
 
+-- 18, 02, wish 10: "proposal to a closed session".
+abbrev pub closedToProposals : ℕ
+closedToProposals = 18
+
 -- 100: "100 for budget ended". No refusal: what the clinic server gets for a run that its budget ended.
 abbrev pub budgetEnded : ℕ
 budgetEnded = 100

@@ -3,7 +3,7 @@
 -- (Opening takes no session: `Machine.opening`.)
 use Prim.Native.Nat.{ℕ}
 use mathlib.Core.Bool.{Bool, false, not}
-use mathlib.Core.List.{_∷_}
+use mathlib.Core.List.{[], _∷_}
 use Rattle.model.specs.declared.Session.{Session}
 use Rattle.model.specs.declared.Counts.{Counts}
 use Rattle.model.specs.declared.Operation.{Operation}
@@ -11,18 +11,18 @@ use Rattle.model.specs.declared.Operation.the-variants.{Propose, Step, L
 use Rattle.model.specs.declared.Changed.{Changed}
 use Rattle.model.specs.declared.Stepped.{Stepped}
 use Rattle.model.specs.Window.{window}
-use Rattle.model.specs.Board.{noCounts}
+use Rattle.model.specs.Board.{noCounts, withClosed}
 use Rattle.model.specs.Numbers.{unsound}
-use Rattle.model.specs.Refusal.{tests}
+use Rattle.model.specs.Refusal.{refusal, tests, changed}
 use Rattle.model.specs.Machine.{answered}
-use Rattle.model.specs.Sound.{soundForAs}
+use Rattle.model.specs.Sound.{soundForAs, soundFor}
 
 -- An answer with the counts that the caller lent, as they stand at the end: "The caller lends its tally, which a turn updates where
 -- it stands".
 abbrev pub withCounts : Changed → Counts → Stepped
 withCounts a c = record { code = a .code; session = a .session; counts = c }
 
--- And without them: proposals and crashes count nothing, and are lent none.
+-- And without them: proposals, crashes and closes count nothing, and are lent none.
 abbrev pub withoutCounts : Stepped → Changed
 withoutCounts a = record { code = a .code; session = a .session }
 
@@ -33,7 +33,7 @@ withoutCounts a = record { code = a .code; session = a .session }
 unfoldable pub operateForAs : (poll : Bool) → (W : ℕ) → Session → Counts → Operation → Stepped
 operateForAs poll W s c o = answered ((not (soundForAs poll W s), unsound) ∷ tests s c o) W s c o
 
--- "Proposal 3, 4, 5, 6."
+-- "Proposal 3, 4, 5, 6"; 02, wish 10: 18, "tested last, after 6".
 unfoldable pub proposeForAs : (poll : Bool) → (W : ℕ) → Session → (p v : ℕ) → Changed
 proposeForAs poll W s p v = withoutCounts (operateForAs poll W s noCounts (Propose p v))
 
@@ -54,6 +54,10 @@ crashForAs poll W s p = withoutCounts (operateForAs poll W s noCounts (Crash p))
 
 abbrev pub crashFor : (W : ℕ) → Session → (p : ℕ) → Changed
 crashFor W s p = crashForAs false W s p
+
+-- 02, wish 10: "Close: 3."
+unfoldable pub closeFor : (W : ℕ) → Session → Changed
+closeFor W s = changed (refusal ((not (soundFor W s), unsound) ∷ [])) s (withClosed s)
 
 -- ---- in service: at the window of the session's n
 
@@ -80,3 +84,6 @@ crashAs poll s p = crashForAs poll (window (s .n)) s p
 
 abbrev pub crash : Session → (p : ℕ) → Changed
 crash s p = crashAs false s p
+
+abbrev pub close : Session → Changed
+close s = closeFor (window (s .n)) s

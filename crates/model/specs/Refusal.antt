@@ -18,7 +18,7 @@ use Rattle.model.specs.declared.Stepped.{Stepped}
 use Rattle.model.specs.Window.{window}
 use Rattle.model.specs.Board.{processAt}
 use Rattle.model.specs.Numbers.{badProcessCount, badRoundLimit, noSuchProcess, blankProposal, secondProposal}
-use Rattle.model.specs.Numbers.{processOut, processGone, processSpent, countsFull}
+use Rattle.model.specs.Numbers.{processOut, processGone, processSpent, countsFull, closedToProposals}
 
 -- A test that refuses, and the number that is then returned.
 abbrev pub Test : Type 0
@@ -90,9 +90,11 @@ openTestsFor most W n L =
 abbrev pub openTests : Limits → (n L : ℕ) → List Test
 openTests most n L = openTestsFor most (window n) n L
 
--- The operations' own tests, by the phase of the process that they name. Proposal: 5, 6.
-abbrev pub proposeTests : Phase → (v : ℕ) → List Test
-proposeTests φ v = (eqb v 0, blankProposal) ∷ (not (isOutside (status φ)), secondProposal) ∷ []
+-- The operations' own tests, by the phase of the process that they name. Proposal: 5, 6. 02, wish 10: "18: proposal to a closed session,
+-- tested last, after 6".
+abbrev pub proposeTests : (closed : Bool) → Phase → (v : ℕ) → List Test
+proposeTests closed φ v =
+    (eqb v 0, blankProposal) ∷ (not (isOutside (status φ)), secondProposal) ∷ (closed, closedToProposals) ∷ []
 
 -- Work: 7, 8, 9, 16.
 abbrev pub stepTests : Phase → Counts → List Test
@@ -116,9 +118,9 @@ abbrev pub processTests : Session → (p : ℕ) → (own : Phase → List Test) 
 processTests s p own = (leb (s .n) p, noSuchProcess) ∷ own (processAt s p .phase)
 
 -- "Order: .. Proposal 3, 4, 5, 6. Work 3, 4, 7, 8, 9, 16. Look 3, 4, 7, 8, 16. Crash 3, 4, 7, 8." (3, session not sound, is in front of
--- all in `Public`.)
+-- all in `Public`.) 02, wish 10, "proposals are then refused and all else goes on": no other test reads the closed mark.
 abbrev pub tests : Session → Counts → Operation → List Test
-tests s c (Propose p v) = processTests s p (λ φ. proposeTests φ v)
+tests s c (Propose p v) = processTests s p (λ φ. proposeTests (s .closed) φ v)
 tests s c (Step p leader) = processTests s p (λ φ. stepTests φ c)
 tests s c (Learn p) = processTests s p (λ φ. learnTests φ c)
 tests s c (Crash p) = processTests s p crashTests

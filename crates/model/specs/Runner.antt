@@ -7,9 +7,8 @@ use Rattle.model.specs.declared.Session.{Session}
 use Rattle.model.specs.declared.Counts.{Counts}
 use Rattle.model.specs.declared.Caller.{Caller}
 use Rattle.model.specs.declared.Limits.{Limits}
-use Rattle.model.specs.declared.Operation.{Operation}
 use Rattle.model.specs.declared.Entry.{Entry}
-use Rattle.model.specs.declared.Entry.the-variants.{WellFormed, Malformed}
+use Rattle.model.specs.declared.Entry.the-variants.{Acts, Closes, Malformed}
 use Rattle.model.specs.declared.Stepped.{Stepped}
 use Rattle.model.specs.declared.Ending.{Ending}
 use Rattle.model.specs.declared.Ending.the-variants.{Finished, Refused, BudgetEnded, Rejected}
@@ -17,26 +16,31 @@ use Rattle.model.specs.declared.Ran.{Ran}
 use Rattle.model.specs.Window.{window}
 use Rattle.model.specs.Board.{opened, noCounts, limitsOf}
 use Rattle.model.specs.Numbers.{badEntry}
-use Rattle.model.specs.Machine.{perform}
+use Rattle.model.specs.Machine.{Command, acts, closes, execute}
 use Rattle.model.specs.Sheet.{processCount, roundLimit, entries, sheetRefusal}
 
 abbrev pub ran : (carried : ℕ) → Session → Counts → Ending → Ran
 ran k s c e = record { carried = k; session = s; counts = c; ending = e }
 
--- The entries one after another, each operation as `answer` has it, k of them carried out before: "It ends finished when none is left, with
--- the refusal and the entry's index (from 0) at the first refused one, or budget ended after as many entries as the budget allows with more
--- left; that next one is not tried." And "each entry 13 first, then its operation's own order".
-unfoldable pub runBy : (answer : Session → Counts → Operation → Stepped) → (budget k : ℕ) → Session → Counts → List Entry → Ran
+-- What an entry answers, where `answer` says what a command answers: "each entry 13 first, then its operation's own order".
+abbrev pub entryAnswer : (answer : Session → Counts → Command → Stepped) → Session → Counts → Entry → Stepped
+entryAnswer answer s c (Acts o) = answer s c (acts o)
+entryAnswer answer s c Closes = answer s c closes
+entryAnswer answer s c Malformed = record { code = badEntry; session = s; counts = c }
+
+-- The entries one after another, k of them carried out before: "It ends finished when none is left, with the refusal and the entry's index
+-- (from 0) at the first refused one, or budget ended after as many entries as the budget allows with more left; that next one is not
+-- tried."
+unfoldable pub runBy : (answer : Session → Counts → Command → Stepped) → (budget k : ℕ) → Session → Counts → List Entry → Ran
 runBy answer b k s c [] = ran k s c Finished
 runBy answer zero k s c (e ∷ es) = ran k s c BudgetEnded
-runBy answer (suc b) k s c (Malformed ∷ es) = ran k s c (Refused badEntry k)
-runBy answer (suc b) k s c (WellFormed o ∷ es) =
-    let a = answer s c o in
+runBy answer (suc b) k s c (e ∷ es) =
+    let a = entryAnswer answer s c e in
     cond (eqb (a .code) 0) (runBy answer b (suc k) (a .session) (a .counts) es) (ran k s c (Refused (a .code) k))
 
 -- By the machine at window W.
 abbrev pub runFrom : (W budget k : ℕ) → Session → Counts → List Entry → Ran
-runFrom W = runBy (perform W)
+runFrom W = runBy (execute W)
 
 -- By the refusal of the sheet: "no session made", or the run.
 abbrev pub ranOr : (refusal : ℕ) → Ran → Ran

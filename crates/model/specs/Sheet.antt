@@ -7,7 +7,7 @@ use lib.Dec.{leb, eqb}
 use Rattle.model.specs.declared.Limits.{Limits}
 use Rattle.model.specs.declared.Operation.the-variants.{Propose, Step, Learn, Crash}
 use Rattle.model.specs.declared.Entry.{Entry}
-use Rattle.model.specs.declared.Entry.the-variants.{WellFormed, Malformed}
+use Rattle.model.specs.declared.Entry.the-variants.{Acts, Closes, Malformed}
 use Rattle.model.specs.Bytes.{byteAt, word16, word32}
 use Rattle.model.specs.Numbers.{badSheet, badPairs, badRun}
 use Rattle.model.specs.Refusal.{Test, openTests, refusal}
@@ -71,16 +71,19 @@ sheetRefusal most s = refusal (sheetTests most s)
 
 -- ---- the entries: "An entry has 6 bytes: kind, seat, 32-bit value."
 
--- "Kinds: 0 propose (any value), 1 work (value 0 is hint no, 1 is yes), 2 look (0), 3 crash (0)."
+-- "Kinds: 0 propose (any value), 1 work (value 0 is hint no, 1 is yes), 2 look (0), 3 crash (0)." 02, wish 10: "Sheets get kind 4, seat 0,
+-- value 0"; "kind 4 with another seat or value is 13".
 abbrev pub entryOf : (kind p value : ℕ) → Entry
 entryOf kind p v =
-    cond (eqb kind 0) (WellFormed (Propose p v))
-    (cond (eqb kind 1) (cond (eqb v 0) (WellFormed (Step p false)) (cond (eqb v 1) (WellFormed (Step p true)) Malformed))
-    (cond (eqb kind 2) (cond (eqb v 0) (WellFormed (Learn p)) Malformed)
-    (cond (eqb kind 3) (cond (eqb v 0) (WellFormed (Crash p)) Malformed) Malformed)))
+    cond (eqb kind 0) (Acts (Propose p v))
+    (cond (eqb kind 1) (cond (eqb v 0) (Acts (Step p false)) (cond (eqb v 1) (Acts (Step p true)) Malformed))
+    (cond (eqb kind 2) (cond (eqb v 0) (Acts (Learn p)) Malformed)
+    (cond (eqb kind 3) (cond (eqb v 0) (Acts (Crash p)) Malformed)
+    (cond (eqb kind 4) (cond (eqb p 0 && eqb v 0) Closes Malformed) Malformed))))
 
 abbrev pub isMalformed : Entry → Bool
-isMalformed (WellFormed o) = false
+isMalformed (Acts o) = false
+isMalformed Closes = false
 isMalformed Malformed = true
 
 abbrev pub entryAt : List ℕ → (offset : ℕ) → Entry

@@ -46,13 +46,14 @@ soundProcessAs poll W L q =
     && leb (q .round) L
     && soundPhaseAs poll W L (q .round) (q .phase)
 
--- 02, wish 6: a sound poll "has L = W, a blank D".
+-- 02, wish 6: a sound poll "has L = W, a blank D"; wish 10: "Polls have no close, and a sound one is open."
 unfoldable pub pollRegisters : (poll : Bool) → (W : ℕ) → Session → Bool
-pollRegisters poll W s = not poll || (eqb (s .limit) W && eqb (s .decision) 0)
+pollRegisters poll W s = not poll || (eqb (s .limit) W && eqb (s .decision) 0 && not (s .closed))
 
 -- "A session is sound if: n is 1 to 64, L is W to 256; registers and marks past L are blank and unmarked; records from n on are out", and
 -- each record is sound; a poll, if its rules hold too. The window is a value, since requests change it. 02, wish 9: "soundness, 3, stays
--- with the server's" limits, which are what a session holds, so that every operation but opening takes a cart's session as it is.
+-- with the server's" limits, which are what a session holds, so that every operation but opening takes a cart's session as it is. Wish 10
+-- has, of the closed mark of a session: "Soundness allows both."
 unfoldable pub soundForAs : (poll : Bool) → (W : ℕ) → Session → Bool
 soundForAs poll W s =
     (leb 1 (s .n) && leb (s .n) maxProcesses)

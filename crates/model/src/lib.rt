@@ -40,6 +40,7 @@ pub struct Process {
 
 // One agreement (01: a session, the board and the seats). The value register T[r] of round r is values[r - 1], the mark
 // C[r] is marks[r - 1], the decision register D is decision; 0 is blank. n processes take part, in rounds 1 to limit (01: L).
+// closed is the closed mark (02, wish 10): no proposal is accepted any more.
 pub struct Session {
     pub n: usize,
     pub limit: usize,
@@ -47,6 +48,7 @@ pub struct Session {
     pub marks: [bool; 256],
     pub decision: u32,
     pub processes: [Process; 64],
+    pub closed: bool,
 }
 
 // Counts of register operations (01: the tally).
@@ -67,7 +69,7 @@ pub enum Access {
     WriteDecision,
 }
 
-// One operation with its process, number or hint (01: a proposal, a work turn, a look, a crash).
+// One operation of a process, with its number or hint (01: a proposal, a work turn, a look, a crash).
 pub enum Operation {
     Propose(usize, u32),
     Step(usize, bool),
@@ -75,9 +77,10 @@ pub enum Operation {
     Crash(usize),
 }
 
-// What the six bytes of a sheet's entry say: an operation, or nothing that 01 knows.
+// What the six bytes of a sheet's entry say: an operation, a close (02, wish 10), which names no process, or nothing that 01 and 02 know.
 pub enum Entry {
-    WellFormed(Operation),
+    Acts(Operation),
+    Closes,
     Malformed,
 }
 

@@ -1,23 +1,22 @@
 -- How a paper case is played on the machine, and what it is said to show.
 use Prim.Native.Nat.{ℕ, suc, zero}
-use mathlib.Core.Bool.{Bool, _&&_}
+use mathlib.Core.Bool.{Bool, cond, not, _&&_}
 use mathlib.Core.List.{List, [], _∷_}
 use lib.Dec.{eqb}
 use Rattle.model.specs.declared.Phase.{Phase}
 use Rattle.model.specs.declared.Phase.the-variants.{Idle, Waiting, Write, Scan, Adopt, Compare, Flag, CheckMark}
 use Rattle.model.specs.declared.Phase.the-variants.{CheckValue, Commit, Exhausted, Crashed, Decided, HasCommitted, HasAdopted}
 use Rattle.model.specs.declared.Caller.the-variants.{Server}
-use Rattle.model.specs.declared.Operation.{Operation}
 use Rattle.model.specs.declared.Stepped.{Stepped}
 use Rattle.model.specs.Window.{window}
 use Rattle.model.specs.Board.{valueAt, markAt, processAt, noCounts}
-use Rattle.model.specs.Machine.{opening, perform}
+use Rattle.model.specs.Machine.{Command, opening, execute}
 use Rattle.model.specs.Sound.{every}
 use Rattle.model.specs.Public.{withCounts}
 
--- The machine of n processes after one operation: its answer, the session and the counts.
-played : (n : ℕ) → Stepped → Operation → Stepped
-played n t o = perform (window n) (t .session) (t .counts) o
+-- The machine of n processes after one command: its answer, the session and the counts.
+played : (n : ℕ) → Stepped → Command → Stepped
+played n t x = execute (window n) (t .session) (t .counts) x
 
 -- After operations one after another, by what each of them does. (Those of polls too: `model_poll_cases`.)
 abbrev pub playedAll : {S O : Type 0} → (S → O → S) → S → List O → S
@@ -25,7 +24,7 @@ playedAll does t [] = t
 playedAll does t (o ∷ os) = playedAll does (does t o) os
 
 -- Opened by the server with n processes and round limit L, and an empty tally.
-play : (n L : ℕ) → List Operation → Stepped
+play : (n L : ℕ) → List Command → Stepped
 unfolding played
 play n L os = playedAll (played n) (withCounts (opening Server n L) noCounts) os
 
@@ -39,6 +38,7 @@ pub data Shows : Type 0 where
   decision : (v : ℕ) → Shows
   stands : (p : ℕ) → Phase → (round estimate : ℕ) → Shows
   counts : (reads writes contested : ℕ) → Shows
+  closed : Bool → Shows
 
 -- Whether two phases are the same: their kinds, and their k or i.
 phaseEq : Phase → Phase → Bool
@@ -90,12 +90,13 @@ shown t (stands p φ r e) =
     let q = processAt (t .session) p in
     phaseEq (q .phase) φ && eqb (q .round) r && eqb (q .estimate) e
 shown t (counts a b c) = eqb (t .counts .reads) a && eqb (t .counts .writes) b && eqb (t .counts .contested) c
+shown t (closed b) = cond b (t .session .closed) (not (t .session .closed))
 
--- A row of the table: the opening, the operations, and what the state after them shows.
+-- A row of the table: the opening, the commands, and what the state after them shows.
 pub record Case : Type 0 where
   pub n : ℕ
   pub limit : ℕ
-  pub operations : List Operation
+  pub operations : List Command
   pub shows : List Shows
 
 unfoldable pub holds : Case → Bool

@@ -1,39 +1,39 @@
 -- Document 01, "Paper cases": the starred rows, in their order and as document 02 has them now, with the other windows that its wish 8
--- names, and that all of them hold of the machine. The cases that 01 plays at L = 3 with one process and at L = 5 with two are played at
+-- names and the cases of wish 10, and that all of them hold of the machine. The cases that 01 plays at L = 3 with one process and at L = 5 with two are played at
 -- those L, and again at the least L of wish 8.
 use Prim.Native.Nat.{ℕ}
 use mathlib.Core.Path.{_≡_, refl}
 use mathlib.Core.Bool.{true, false}
-use mathlib.Core.List.{List, [], _∷_, _++_}
-use Rattle.model.specs.declared.Phase.the-variants.{Waiting, Compare, Commit, Exhausted, Decided}
-use Rattle.model.specs.declared.Operation.{Operation}
-use Rattle.model.specs.declared.Operation.the-variants.{Propose, Step, Learn}
+use mathlib.Core.List.{List, [], _∷_, _++_, map}
+use Rattle.model.specs.declared.Phase.the-variants.{Idle, Waiting, Write, Compare, Commit, Exhausted, Crashed, Decided}
+use Rattle.model.specs.declared.Operation.the-variants.{Propose, Step, Learn, Crash}
 use Rattle.model.specs.Window.{window, rootUp, rootFrom}
 use Rattle.model.specs.Board.{opened}
 use Rattle.model.specs.Step.{waitingRule, phaseAccess, access, found, goOn, phaseNext, next, learnt, stored, turn, counted}
 use Rattle.model.specs.Refusal.{full}
-use Rattle.model.specs.Machine.{openingFor, accessOf, becomes, after, countsAfter, answered, perform}
+use Rattle.model.specs.Machine.{Command, acts, closes, openingFor, accessOf, becomes, after, countsAfter, answered, perform, execute}
 use Rattle.model.specs.Sound.{every}
 use Rattle.model_cases.specs.Play.{Case, holds, repeat}
-use Rattle.model_cases.specs.Play.Shows.{answers, hasWindow, register, marked, decision, stands, counts}
+use Rattle.model_cases.specs.Play.Shows.{answers, hasWindow, register, marked, decision, stands, counts, closed}
 
 -- n = 1: proposal 7, hints yes.
-solo : ℕ → List Operation
-solo turns = Propose 0 7 ∷ repeat turns (Step 0 true)
+solo : ℕ → List Command
+solo turns = map acts (Propose 0 7 ∷ repeat turns (Step 0 true))
 
 -- Proposal 7, and 19 hints of no.
-unhinted : List Operation
-unhinted = Propose 0 7 ∷ repeat 19 (Step 0 false)
+unhinted : List Command
+unhinted = map acts (Propose 0 7 ∷ repeat 19 (Step 0 false))
 
 -- From its commit on, with L = 2 at gate in round L: hints no.
-unled : ℕ → List Operation
+unled : ℕ → List Command
 unfolding solo
-unled turns = solo 12 ++ repeat turns (Step 0 false)
+unled turns = solo 12 ++ repeat turns (acts (Step 0 false))
 
 -- n = 2: seat 0 proposes 3, seat 1 proposes 8; hints yes; work 0, 1, 0, 1, 0, 0, 1.
-contended : List Operation
+contended : List Command
 contended =
-    Propose 0 3
+    map acts
+    (Propose 0 3
     ∷ Propose 1 8
     ∷ Step 0 true
     ∷ Step 1 true
@@ -42,15 +42,19 @@ contended =
     ∷ Step 0 true
     ∷ Step 0 true
     ∷ Step 1 true
-    ∷ []
+    ∷ [])
 
 -- "From there work 0, 0, 1, 1, 1".
-continued : List Operation
+continued : List Command
 unfolding contended
-continued = contended ++ (Step 0 true ∷ Step 0 true ∷ Step 1 true ∷ Step 1 true ∷ Step 1 true ∷ [])
+continued = contended ++ map acts (Step 0 true ∷ Step 0 true ∷ Step 1 true ∷ Step 1 true ∷ Step 1 true ∷ [])
+
+-- 02, wish 10, n = 2: seat 0 proposes 3, and then the session is closed.
+signed : List Command
+signed = acts (Propose 0 3) ∷ closes ∷ []
 
 pub table : List Case
-unfolding solo unhinted unled contended continued
+unfolding solo unhinted unled contended continued signed
 table =
     -- opening
     record { n = 0; limit = 16; operations = []; shows = answers 1 ∷ [] }
@@ -93,10 +97,29 @@ table =
     ∷ record { n = 1; limit = 2; operations = solo 13; shows = answers 0 ∷ stands 0 Exhausted 2 7 ∷ counts 9 3 0 ∷ [] }
     ∷ record { n = 1; limit = 2; operations = unled 2; shows = answers 9 ∷ stands 0 Exhausted 2 7 ∷ counts 9 3 0 ∷ [] }
     ∷ record { n = 1; limit = 2; operations = solo 14; shows = answers 9 ∷ stands 0 Exhausted 2 7 ∷ counts 9 3 0 ∷ [] }
-    ∷ record { n = 1; limit = 2; operations = unled 2 ++ (Learn 0 ∷ []); shows = answers 0 ∷ stands 0 Decided 2 7 ∷ counts 10 3 0 ∷ [] }
+    ∷ record { n = 1; limit = 2; operations = unled 2 ++ (acts (Learn 0) ∷ []); shows = answers 0 ∷ stands 0 Decided 2 7 ∷ counts 10 3 0 ∷ [] }
     -- a second proposal
-    ∷ record { n = 1; limit = 2; operations = Propose 0 5 ∷ Propose 0 5 ∷ []; shows = answers 6 ∷ [] }
-    ∷ record { n = 1; limit = 2; operations = Propose 0 5 ∷ Propose 0 0 ∷ []; shows = answers 5 ∷ [] }
+    ∷ record { n = 1; limit = 2; operations = map acts (Propose 0 5 ∷ Propose 0 5 ∷ []); shows = answers 6 ∷ [] }
+    ∷ record { n = 1; limit = 2; operations = map acts (Propose 0 5 ∷ Propose 0 0 ∷ []); shows = answers 5 ∷ [] }
+    -- 02, wish 10: "a closed mark, open at first. A close sets it, also where it is set already", and counts nothing
+    ∷ record { n = 2; limit = 3; operations = []; shows = answers 0 ∷ closed false ∷ [] }
+    ∷ record { n = 2; limit = 3; operations = signed; shows = answers 0 ∷ closed true ∷ stands 0 Waiting 0 3 ∷ counts 0 0 0 ∷ [] }
+    ∷ record { n = 2; limit = 3; operations = signed ++ (closes ∷ []); shows = answers 0 ∷ closed true ∷ [] }
+    -- "proposals are then refused": 18, "tested last, after 6", and after 5 and 4
+    ∷ record { n = 2; limit = 3; operations = signed ++ (acts (Propose 1 8) ∷ []); shows = answers 18 ∷ stands 1 Idle 0 0 ∷ [] }
+    ∷ record { n = 2; limit = 3; operations = signed ++ (acts (Propose 0 8) ∷ []); shows = answers 6 ∷ [] }
+    ∷ record { n = 2; limit = 3; operations = signed ++ (acts (Propose 1 0) ∷ []); shows = answers 5 ∷ [] }
+    ∷ record { n = 2; limit = 3; operations = signed ++ (acts (Propose 2 8) ∷ []); shows = answers 4 ∷ [] }
+    -- "and all else goes on": work, a look, a crash; and the whole case of one seat, closed after its proposal
+    ∷ record { n = 2; limit = 3; operations = signed ++ (acts (Step 0 true) ∷ []); shows = answers 0 ∷ stands 0 Write 1 3 ∷ closed true ∷ [] }
+    ∷ record { n = 2; limit = 3; operations = signed ++ (acts (Learn 0) ∷ []); shows = answers 0 ∷ stands 0 Waiting 0 3 ∷ counts 1 0 0 ∷ [] }
+    ∷ record { n = 2; limit = 3; operations = signed ++ (acts (Crash 0) ∷ []); shows = answers 0 ∷ stands 0 Crashed 0 3 ∷ closed true ∷ [] }
+    ∷ record {
+      n = 1;
+      limit = 2;
+      operations = acts (Propose 0 7) ∷ closes ∷ map acts (repeat 12 (Step 0 true) ++ (Learn 0 ∷ []));
+      shows = stands 0 Decided 2 7 ∷ decision 7 ∷ counts 10 3 0 ∷ closed true ∷ [];
+    }
     ∷ []
 
 -- Every row holds of the machine.
@@ -104,5 +127,5 @@ pub starred-cases : every holds table ≡ true
 unfolding
     table holds window rootUp rootFrom opened waitingRule phaseAccess access found goOn phaseNext next learnt stored turn counted full
     openingFor
-    accessOf becomes after countsAfter answered perform
+    accessOf becomes after countsAfter answered perform execute
 starred-cases = refl

@@ -3,7 +3,7 @@ use Prim.Native.Nat.{ℕ, suc, zero, _+_, _/_, _%_}
 use Prim.Native.Char.{code}
 use Prim.Native.String as Text
 use Prim.Native.String.{String}
-use mathlib.Core.Bool.{cond}
+use mathlib.Core.Bool.{Bool, true, false, cond}
 use mathlib.Core.List.{List, [], _∷_, _++_}
 use lib.ListN.{take}
 use lib.Dec.{ltb}
@@ -61,9 +61,15 @@ outcomeLine (Rejected c) k = bytes "sheet refused" ++ field c ++ newline
 abbrev pub tallyLine : Counts → List ℕ
 tallyLine c = bytes "tally" ++ field (c .reads) ++ field (c .writes) ++ field (c .contested) ++ newline
 
--- 01: "the board line is the highest filled round (0 for none) and D."
+-- The closed mark as a field of a line: a space and its word.
+abbrev pub closedWord : (closed : Bool) → List ℕ
+closedWord true = bytes " closed"
+closedWord false = bytes " open"
+
+-- 01: "the board line is the highest filled round (0 for none) and D." 02, wish 10: "The board line gains a third field, "open" or
+-- "closed"."
 abbrev pub boardLine : Session → List ℕ
-boardLine s = bytes "board" ++ field (highestFilled s) ++ field (s .decision) ++ newline
+boardLine s = bytes "board" ++ field (highestFilled s) ++ field (s .decision) ++ closedWord (s .closed) ++ newline
 
 -- "out", "working ROUND VALUE", "spent VALUE", "crashed" or "decided VALUE".
 abbrev pub statusWords : Phase → (round estimate : ℕ) → List ℕ

@@ -8,6 +8,9 @@ use Rattle.model.specs.declared.Phase.the-variants.{CheckValue, Commit, Exhaust
 use Rattle.model.specs.declared.Process.{Process}
 use Rattle.model.specs.declared.Operation.{Operation}
 use Rattle.model.specs.declared.Operation.the-variants.{Propose, Step, Learn, Crash}
+use Rattle.model.specs.declared.Session.{Session}
+use Rattle.model.specs.Board.{processAt}
+use Rattle.model.specs.Machine.{Command, acts, closes, processOf}
 
 pub data Event : Type 0 where
   proposal : (value : ℕ) → Event
@@ -49,6 +52,11 @@ eventsOf q D (Step p leader) = stepEvents p (q .round) (q .estimate) (q .phase)
 eventsOf q D (Learn p) = lookEvents p D
 eventsOf q D (Crash p) = []
 
+-- Of a command: a close (02, wish 10) adds nothing.
+abbrev pub commandEvents : Session → Command → List Event
+commandEvents s (acts o) = eventsOf (processAt s (processOf o)) (s .decision) o
+commandEvents s closes = []
+
 -- ---- what stands in a past
 
 -- h′ is an older part of h, or h itself. (Of calls too: in Past (c ∷ before) cs the call c stands in cs, after the calls `before`.)
@@ -63,6 +71,15 @@ pub record Happened (x : Event) (h : List Event) : Type 0 where
 
 abbrev pub Proposed : (v : ℕ) → List Event → Type 0
 Proposed v h = Happened (proposal v) h
+
+-- The numbers that were proposed, newest first.
+abbrev pub proposals : List Event → List ℕ
+proposals [] = []
+proposals (proposal v ∷ h) = v ∷ proposals h
+proposals (write p r v ∷ h) = proposals h
+proposals (flag r ∷ h) = proposals h
+proposals (commit r v ∷ h) = proposals h
+proposals (decision p v ∷ h) = proposals h
 
 -- Some process wrote v to the register of round r.
 abbrev pub Written : (r v : ℕ) → List Event → Type 0

@@ -8,8 +8,8 @@ use Rattle.model.specs.declared.Caller.{Caller}
 use Rattle.model.specs.declared.Limits.{Limits}
 use Rattle.model.specs.Window.{window}
 use Rattle.model.specs.Board.{limitsOf, UpToServer, processAt}
-use Rattle.model.specs.Machine.{openingFor}
-use Rattle.model_rule.specs.Event.{Event, Past, Proposed, Written, Committed, DecidedOn}
+use Rattle.model.specs.Machine.{closes, openingFor}
+use Rattle.model_rule.specs.Event.{Event, Past, Proposed, proposals, Written, Committed, DecidedOn}
 use Rattle.model_rule.specs.Event.Event.{commit}
 use Rattle.model_rule.specs.System.{machine, past, inputs, EachAsTheMachine, AfterEach}
 use Rattle.model_rule.specs.Calls.{sessions, SessionCall, RunWith}
@@ -38,6 +38,13 @@ pub record Rule (s : Session) (h : List Event) : Type 0 where
   -- a value committed in round R is the only one written to the register of round R or a later one, before or after
   pub commitment : (R r u v : ℕ) → Committed R v h → Written r u h → R ≤ r → u ≡ v
 
+-- 02, wish 10: "after a close the set of proposals no longer changes". The call c is a close, and `older` are the calls before it: what was
+-- proposed by the end is what was proposed by then, no number more and none twice.
+abbrev pub ProposalsStand : (W : ℕ) → (start : Session) → List SessionCall → Type 0
+ProposalsStand W start cs =
+    (c : SessionCall) (older : List SessionCall) → Past (c ∷ older) cs → c .input .operation ≡ closes →
+    proposals (past (sessions W) start (inputs cs)) ≡ proposals (past (sessions W) start (inputs older))
+
 -- The claim, within a caller's limits, of n processes and round limit L, where w n is the window of n processes.
 -- `RunWith`: "The list starts from the session of any accepted opening. Each call is given the session that the last one returned or,
 -- refused, left."
@@ -45,7 +52,8 @@ pub record Rule (s : Session) (h : List Event) : Type 0 where
 -- its seat, number, hint and tally, as far as it has them, and never the session. A call that the table below refuses leaves the machine as
 -- it is."
 -- `EachAsTheMachine`, `AfterEach`: "After each call, refused or not, its answer, the tally and the session (n, L, registers, marks, D and
--- seat records) equal the machine's, and the rule holds of that session."
+-- seat records) equal the machine's, and the rule holds of that session." 02, wish 10: the rule takes "the mark among what it compares": a
+-- session holds the closed mark, and whole sessions are compared.
 abbrev pub AgreementWithin : Limits → (w : ℕ → ℕ) → (n L : ℕ) → Type 0
 AgreementWithin most w n L =
     let start = openingFor most (w n) n L in
@@ -55,7 +63,7 @@ AgreementWithin most w n L =
     → RunWith w (start .session) cs s
     → EachAsTheMachine M (start .session) cs
     × (s ≡ machine M (start .session) (inputs cs))
-    × AfterEach M (λ t ds. Rule t (past M (start .session) (inputs ds))) (start .session) cs
+    × AfterEach M (λ t ds. Rule t (past M (start .session) (inputs ds)) × ProposalsStand (w n) (start .session) ds) (start .session) cs
 
 -- 02, wish 9: "Agreement and step rules are shown once for any limits up to the server's."
 abbrev pub AgreementWith : (w : ℕ → ℕ) → (n L : ℕ) → Type 0
