@@ -38,28 +38,28 @@ refusal-append (t ∷ ts) us other = front (t .0) (refusal-append ts us (other .
     front true later = rw (ne-eqb (t .1) 0 (other .0))
     front false later = later
 
--- The own tests of an operation, by the phase of its process, and that 4 is in front of them.
-abbrev pub ownTests : Phase → Counts → Operation → List Test
-ownTests φ c (Propose p v) = proposeTests φ v
-ownTests φ c (Step p leader) = stepTests φ c
-ownTests φ c (Learn p) = learnTests φ c
-ownTests φ c (Crash p) = crashTests φ
+-- The own tests of an operation, by the closed mark and the phase of its process, and that 4 is in front of them.
+abbrev pub ownTests : (closed : Bool) → Phase → Counts → Operation → List Test
+ownTests closed φ c (Propose p v) = proposeTests closed φ v
+ownTests closed φ c (Step p leader) = stepTests φ c
+ownTests closed φ c (Learn p) = learnTests φ c
+ownTests closed φ c (Crash p) = crashTests φ
 
-pub tests-are : (s : Session) (c : Counts) (o : Operation) → tests s c o ≡ processTests s (processOf o) (λ φ. ownTests φ c o)
+pub tests-are : (s : Session) (c : Counts) (o : Operation) → tests s c o ≡ processTests s (processOf o) (λ φ. ownTests (s .closed) φ c o)
 tests-are s c (Propose p v) = refl
 tests-are s c (Step p leader) = refl
 tests-are s c (Learn p) = refl
 tests-are s c (Crash p) = refl
 
 -- They have numbers from 5 on: not 0, and not 3.
-own-without : (k : ℕ) → k < 5 → (φ : Phase) (c : Counts) (o : Operation) → Without k (ownTests φ c o)
-own-without k low φ c (Propose p v) = omega arith
-own-without k low φ c (Step p leader) = omega arith
-own-without k low φ c (Learn p) = omega arith
-own-without k low φ c (Crash p) = omega arith
+own-without : (k : ℕ) → k < 5 → (closed : Bool) (φ : Phase) (c : Counts) (o : Operation) → Without k (ownTests closed φ c o)
+own-without k low closed φ c (Propose p v) = omega arith
+own-without k low closed φ c (Step p leader) = omega arith
+own-without k low closed φ c (Learn p) = omega arith
+own-without k low closed φ c (Crash p) = omega arith
 
 tests-without : (k : ℕ) → k < 4 → (s : Session) (c : Counts) (o : Operation) → Without k (tests s c o)
-tests-without k low s c o = rw (tests-are s c o) (omega arith, own-without k (omega arith) _ c o)
+tests-without k low s c o = rw (tests-are s c o) (omega arith, own-without k (omega arith) (s .closed) _ c o)
 
 -- The machine never returns 3.
 pub never-three : (s : Session) (c : Counts) (o : Operation) → refusal (tests s c o) ≡ unsound → ⊥
@@ -68,7 +68,7 @@ never-three s c o e = omega (arith, returned unsound (tests s c o) (tests-withou
 -- An accepted operation is of a process of the session, and none of its own tests holds.
 pub record Accepted (s : Session) (c : Counts) (o : Operation) : Type 0 where
   pub below : processOf o < s .n
-  pub own : NoneHolds (ownTests (processAt s (processOf o) .phase) c o)
+  pub own : NoneHolds (ownTests (s .closed) (processAt s (processOf o) .phase) c o)
 
 pub accepted : (s : Session) (c : Counts) (o : Operation) → refusal (tests s c o) ≡ 0 → Accepted s c o
 accepted s c o e =

@@ -74,13 +74,13 @@ admitted poll s c o e = go (soundAs poll s) refl e
     go false eb e′ = absurd (omega arith)
 
 -- Where an accepted operation counts a register operation, the counts are not full: the code's own test of that changes nothing.
-pub accepted-counts : (L : ℕ) (q : Process) (x : ℕ) (c : Counts) (o : Operation) → NoneHolds (ownTests (q .phase) c o) →
+pub accepted-counts : (L : ℕ) (q : Process) (x : ℕ) (closed : Bool) (c : Counts) (o : Operation) → NoneHolds (ownTests closed (q .phase) c o) →
     cond (full c) c (counted (accessOf L q o) x c) ≡ counted (accessOf L q o) x c
 unfolding accessOf counted
-accepted-counts L q x c (Propose p v) own = cond-same (full c) c
-accepted-counts L q x c (Step p leader) own = rw (own .1 .1 .1 .0)
-accepted-counts L q x c (Learn p) own = rw (own .1 .1 .0)
-accepted-counts L q x c (Crash p) own = cond-same (full c) c
+accepted-counts L q x closed c (Propose p v) own = cond-same (full c) c
+accepted-counts L q x closed c (Step p leader) own = rw (own .1 .1 .1 .0)
+accepted-counts L q x closed c (Learn p) own = rw (own .1 .1 .0)
+accepted-counts L q x closed c (Crash p) own = cond-same (full c) c
 
 -- A sound session has few processes, so that the index at which the code reads one is its number.
 pub index-is : (poll : Bool) (s : Session) (p : ℕ) → soundAs poll s ≡ true → p < s .n → p % 64 ≡ p
@@ -103,10 +103,10 @@ first-is poll s p own eb eo ek = ek ∙ rw (eb, eo) (go (soundAs poll s) (leb (s
 module _ (poll : Bool) (s : Session) (c : Counts) (o : Operation) where
   -- The number, with the own tests made on the record that the code reads.
   pub code-is : {b : Bool} {own k : ℕ} → b ≡ soundAs poll s →
-      own ≡ refusal (ownTests (processAt s (processOf o % 64) .phase) c o) →
+      own ≡ refusal (ownTests (s .closed) (processAt s (processOf o % 64) .phase) c o) →
       k ≡ cond (not b) unsound (cond (leb (s .n) (processOf o)) noSuchProcess own) →
       k ≡ codeAs poll s c o
-  code-is eb eo ek = rw (tests-are s c o) (first-is poll s (processOf o) (λ φ. ownTests φ c o) eb eo ek)
+  code-is eb eo ek = rw (tests-are s c o) (first-is poll s (processOf o) (λ φ. ownTests (s .closed) φ c o) eb eo ek)
 
   module _ {k : ℕ} (code : k ≡ codeAs poll s c o) where
     pub operate-refused : (k ≡ 0 → ⊥) → record { code = k; session = s; counts = c } ≡ operateAs poll s c o
@@ -126,7 +126,7 @@ module _ (poll : Bool) (s : Session) (c : Counts) (o : Operation) where
           d ≡ cond (full c) c (countsAfter s c o) →
           record { code = k; session = t; counts = d } ≡ operateAs poll s c o
       unfolding operateForAs answered countsAfter soundAs
-      operate-accepted et ed = stepped-accepted s c code none et (ed ∙ accepted-counts (s .limit) _ _ c o (known .1 .own))
+      operate-accepted et ed = stepped-accepted s c code none et (ed ∙ accepted-counts (s .limit) _ _ (s .closed) c o (known .1 .own))
 
 -- The same of an operation that is lent no counts.
 module _ (poll : Bool) (s : Session) (o : Operation) {k : ℕ} (code : k ≡ codeAs poll s noCounts o) where

@@ -85,15 +85,15 @@ Ended φ = (status φ ≡ Spent) ⊎ (status φ ≡ Gone)
 
 -- What an accepted operation makes of such a process: a look leaves it or makes it decided, a crash makes it crashed, and no other is
 -- accepted.
-becomes-ended : (W L : ℕ) (q : Process) (c : Counts) (o : Operation) (x : ℕ) → NoneHolds (ownTests (q .phase) c o) →
+becomes-ended : (W L : ℕ) (q : Process) (closed : Bool) (c : Counts) (o : Operation) (x : ℕ) → NoneHolds (ownTests closed (q .phase) c o) →
     Ended (q .phase) → Ended (becomes W L q o x .phase)
 unfolding becomes learnt
-becomes-ended W L q c (Propose p v) x own ended =
+becomes-ended W L q closed c (Propose p v) x own ended =
     ⊎-elim (λ e. absurd (true≢false (rw e at (own .1 .0)))) (λ e. absurd (true≢false (rw e at (own .1 .0)))) ended
-becomes-ended W L q c (Step p leader) x own ended =
+becomes-ended W L q closed c (Step p leader) x own ended =
     ⊎-elim (λ e. absurd (true≢false (rw e at (own .1 .1 .0)))) (λ e. absurd (true≢false (rw e at (own .1 .0)))) ended
-becomes-ended W L q c (Learn p) x own ended = cond-cases (λ (r : Process). Ended (r .phase)) (eqb x 0) (λ t. ended) (λ t. inr refl)
-becomes-ended W L q c (Crash p) x own ended = inr refl
+becomes-ended W L q closed c (Learn p) x own ended = cond-cases (λ (r : Process). Ended (r .phase)) (eqb x 0) (λ t. ended) (λ t. inr refl)
+becomes-ended W L q closed c (Crash p) x own ended = inr refl
 
 -- No operation, accepted or refused, of whatever process, has such a process work again.
 pub ended-stays : (W : ℕ) (s : Session) (c : Counts) (o : Operation) (p : ℕ) → Ended (processAt s p .phase) →
@@ -109,7 +109,7 @@ ended-stays W s c o p ended = go (refusal (tests s c o)) refl
           | yes e ↦
               rw e
               (getD-set-keeps (λ (q : Process). Ended (q .phase)) (s .processes) m _ idle
-              (becomes-ended W (s .limit) _ c o _ (a .own) (rw e at ended))
+              (becomes-ended W (s .limit) _ (s .closed) c o _ (a .own) (rw e at ended))
               (rw e at ended))
           | no ne ↦ rw (getD-set-other (s .processes) m p _ idle ne) ended
         ])

@@ -16,21 +16,22 @@ use Rattle.model_laws.specs.Ranges.{InRange, access-range}
 use Rattle.model_laws.specs.Keeps.{next-sound, learnt-sound, placed-sound}
 use Rattle.model_laws.specs.Sounds.{sound-facts, facts-sound, idle-sound, sound-process, set-sound, stored-sound, session-only}
 
--- What a write leaves: n, the limit and the processes.
+-- What a write leaves: n, the limit, the processes and the closed mark.
 pub record Same (s t : Session) : Type 0 where
   pub n : t .n ≡ s .n
   pub limit : t .limit ≡ s .limit
   pub processes : t .processes ≡ s .processes
+  pub closed : t .closed ≡ s .closed
 
 pub stored-same : (s : Session) (a : Access) (e : ℕ) → Same s (stored s a e)
 unfolding stored
-stored-same s Nothing e = record { n = refl; limit = refl; processes = refl }
-stored-same s (ReadValue j) e = record { n = refl; limit = refl; processes = refl }
-stored-same s (WriteValue j) e = record { n = refl; limit = refl; processes = refl }
-stored-same s (ReadMark j) e = record { n = refl; limit = refl; processes = refl }
-stored-same s (SetMark j) e = record { n = refl; limit = refl; processes = refl }
-stored-same s ReadDecision e = record { n = refl; limit = refl; processes = refl }
-stored-same s WriteDecision e = record { n = refl; limit = refl; processes = refl }
+stored-same s Nothing e = record { n = refl; limit = refl; processes = refl; closed = refl }
+stored-same s (ReadValue j) e = record { n = refl; limit = refl; processes = refl; closed = refl }
+stored-same s (WriteValue j) e = record { n = refl; limit = refl; processes = refl; closed = refl }
+stored-same s (ReadMark j) e = record { n = refl; limit = refl; processes = refl; closed = refl }
+stored-same s (SetMark j) e = record { n = refl; limit = refl; processes = refl; closed = refl }
+stored-same s ReadDecision e = record { n = refl; limit = refl; processes = refl; closed = refl }
+stored-same s WriteDecision e = record { n = refl; limit = refl; processes = refl; closed = refl }
 
 -- A turn that accesses a register 1 to L and makes a sound process of one of the n.
 -- A poll's D must stay blank.
@@ -58,22 +59,22 @@ pub operation-range : (W L : ℕ) (q : Process) (o : Operation) → soundProcess
 operation-range W L q o = operation-reach W L L q o (omega arith)
 
 -- What an accepted operation makes of a sound process is sound.
-pub becomes-sound : (W L : ℕ) (q : Process) (c : Counts) (o : Operation) (x : ℕ) → 1 ≤ W → soundProcess W L q ≡ true →
-    NoneHolds (ownTests (q .phase) c o) → soundProcess W L (becomes W L q o x) ≡ true
+pub becomes-sound : (W L : ℕ) (q : Process) (closed : Bool) (c : Counts) (o : Operation) (x : ℕ) → 1 ≤ W → soundProcess W L q ≡ true →
+    NoneHolds (ownTests closed (q .phase) c o) → soundProcess W L (becomes W L q o x) ≡ true
 unfolding becomes
-becomes-sound W L q c (Propose p v) x wide t own =
+becomes-sound W L q closed c (Propose p v) x wide t own =
     placed-sound W L Waiting _ v refl (omega (arith, eqb-false v 0 (own .0), process-facts W L q t .round))
-becomes-sound W L q c (Step p leader) x wide t own = next-sound W L wide q leader x (own .0) t
-becomes-sound W L q c (Learn p) x wide t own = learnt-sound W L q x t
-becomes-sound W L q c (Crash p) x wide t own =
+becomes-sound W L q closed c (Step p leader) x wide t own = next-sound W L wide q leader x (own .0) t
+becomes-sound W L q closed c (Learn p) x wide t own = learnt-sound W L q x t
+becomes-sound W L q closed c (Crash p) x wide t own =
     let f = process-facts W L q t in
     placed-sound W L Crashed _ _ refl (inside-some f (own .0), f .round, tt)
 
 module _ (W : ℕ) (s : Session) (o : Operation) where
-  -- No operation changes n or the limit.
-  pub after-same : (after W s o .n ≡ s .n) × (after W s o .limit ≡ s .limit)
+  -- No operation of a process changes n, the limit or the closed mark.
+  pub after-same : (after W s o .n ≡ s .n) × (after W s o .limit ≡ s .limit) × (after W s o .closed ≡ s .closed)
   unfolding after turn
-  after-same = (stored-same s _ _ .n, stored-same s _ _ .limit)
+  after-same = (stored-same s _ _ .n, stored-same s _ _ .limit, stored-same s _ _ .closed)
 
   module _ (t : soundFor W s ≡ true) where
     -- The register operation of any operation is on registers 1 to L, and so on the arrays' registers.
@@ -89,7 +90,7 @@ module _ (W : ℕ) (wide : 1 ≤ W) (s : Session) (c : Counts) (o : Operation) (
   unfolding after
   after-sound a =
       turn-sound false W s (processOf o) _ _ t (a .below) (access-in-range W s o t) (session-only W _)
-      (becomes-sound W (s .limit) _ c o _ wide (sound-process false W s (processOf o) t) (a .own))
+      (becomes-sound W (s .limit) _ (s .closed) c o _ wide (sound-process false W s (processOf o) t) (a .own))
 
   -- And so does each operation, accepted or refused.
   pub perform-sound : soundFor W (perform W s c o .session) ≡ true

@@ -2,7 +2,7 @@
 use Rattle.base.specs.Prelude.{ℕ, _-_, _≤_, _<_, arith, _≡_, refl, Bool, true, false, not, drop, drop-set-lt, eqb, leb-true, le-leb}
 use Rattle.model_laws.specs.Types.{Access, Nothing, ReadValue, WriteValue, ReadMark, SetMark, ReadDecision, WriteDecision, Process}
 use Rattle.model_laws.specs.Types.{Session}
-use Rattle.model.specs.Board.{processAt, withProcess, idle, maxProcesses, maxRounds}
+use Rattle.model.specs.Board.{processAt, withProcess, withClosed, idle, maxProcesses, maxRounds}
 use Rattle.model.specs.Step.{stored}
 use Rattle.model.specs.Refusal.{status, isOutside}
 use Rattle.model.specs.Window.{window}
@@ -70,6 +70,11 @@ module _ (poll : Bool) where
   pub sound-few : (s : Session) → soundAs poll s ≡ true → s .n ≤ maxProcesses
   unfolding soundAs
   sound-few s t = sound-facts (window (s .n)) s t .few
+
+-- 02, wish 10, of a session and its closed mark: "Soundness allows both."
+pub closed-sound : (W : ℕ) (s : Session) → soundForAs false W (withClosed s) ≡ soundForAs false W s
+unfolding soundForAs pollRegisters
+closed-sound W s = refl
 
 -- A session has no such rule of its registers.
 pub session-only : (W : ℕ) (s : Session) → pollRegisters false W s ≡ true

@@ -10,7 +10,7 @@ pub use Rattle.model.specs.declared.DecisionAnswer.{DecisionAnswer}
 pub use Rattle.model.specs.declared.Ending.{Ending}
 pub use Rattle.model.specs.declared.Ending.the-variants.{BudgetEnded, Finished, Refused, Rejected}
 pub use Rattle.model.specs.declared.Entry.{Entry}
-pub use Rattle.model.specs.declared.Entry.the-variants.{Malformed, WellFormed}
+pub use Rattle.model.specs.declared.Entry.the-variants.{Acts, Closes, Malformed}
 pub use Rattle.model.specs.declared.Limits.{Limits}
 pub use Rattle.model.specs.declared.Operation.{Operation}
 pub use Rattle.model.specs.declared.Operation.the-variants.{Crash, Learn, Propose, Step}
@@ -23,3 +23,4 @@ pub use Rattle.model.specs.declared.Ran.{Ran}
 pub use Rattle.model.specs.declared.RegisterAnswer.{RegisterAnswer}
 pub use Rattle.model.specs.declared.Session.{Session}
 pub use Rattle.model.specs.declared.Stepped.{Stepped}
+pub use Rattle.model.specs.Machine.{Command, acts, closes}

@@ -1,7 +1,7 @@
 -- How a pass ends (document 02, wish 6): what its sentences say of the machine of polls, at any window, of any poll and counts; and that
 -- sessions and polls with such an end are apart.
-use Rattle.base.specs.Prelude.{ℕ, _+_, _-_, _<_, _≤_, arith, _≡_, refl, sym, ⊎-elim, Bool, true, false, true≢false, length, getD-set-same}
-use Rattle.base.specs.Prelude.{ne-eqb, lt-leb, ltb-true}
+use Rattle.base.specs.Prelude.{ℕ, _+_, _-_, _<_, _≤_, arith, _≡_, refl, sym, _∙_, ⊎-elim, Bool, true, false, true≢false, length}
+use Rattle.base.specs.Prelude.{getD-set-same, ne-eqb, lt-leb, ltb-true}
 use Rattle.model_laws.specs.Types.{Phase, Waiting, CheckMark, CheckValue, Commit, Exhausted, Decided, HasCommitted, HasAdopted, Process}
 use Rattle.model_laws.specs.Types.{Session, Counts, Operation}
 use Rattle.model.specs.declared.Status.the-variants.{Active, Gone}
@@ -18,7 +18,7 @@ use Rattle.model_laws.specs.Answers.{codeAs}
 use Rattle.model_poll.specs.declared.Answer.the-variants.{Pending, Commits, Adopts}
 use Rattle.model_poll.specs.Turn.{withoutDecision, pollAccess, ending, pollNext, answerOf, Carries}
 use Rattle.model_poll.specs.Machine.{turns, crashes, turnAfter, turnCounts, turned, pollPerform}
-use Rattle.model_poll_laws.specs.Sounds.{phase-rule, poll-limit, poll-blank}
+use Rattle.model_poll_laws.specs.Sounds.{phase-rule, poll-limit, poll-blank, poll-open}
 use Rattle.model_poll_laws.specs.Performs.{answer-cases}
 
 module _ (W : ℕ) (s : Session) (c : Counts) (p : ℕ) (below : p < s .n) where
@@ -119,7 +119,8 @@ answered-no-session s p v has =
     let f = process-facts W (s .limit) q (sound-process false W s p t) .phase in
     ⊎-elim (λ e. rw e at f) (λ e. rw e at f) is)
 
--- "L = W, a blank D, no spent or decided seat, gate only below round W": a poll's operations refuse a session that has it otherwise.
+-- "L = W, a blank D, no spent or decided seat, gate only below round W", and "a sound one is open": a poll's operations refuse a session
+-- that has it otherwise.
 module _ (s : Session) where
   pub other-limit-no-poll : (s .limit ≡ window (s .n) → ⊥) → soundPoll s ≡ false
   unfolding soundAs
@@ -128,6 +129,11 @@ module _ (s : Session) where
   pub filled-no-poll : (s .decision ≡ 0 → ⊥) → soundPoll s ≡ false
   unfolding soundAs
   filled-no-poll some = false-if (soundForAs true (window (s .n)) s) (λ t. some (poll-blank (window (s .n)) s t))
+
+  pub closed-no-poll : s .closed ≡ true → soundPoll s ≡ false
+  unfolding soundAs
+  closed-no-poll closed =
+      false-if (soundForAs true (window (s .n)) s) (λ t. true≢false (sym closed ∙ poll-open (window (s .n)) s t))
 
   module _ (p : ℕ) where
     -- The rule of the phase of process p, where the poll is sound.

@@ -1,6 +1,6 @@
 -- What keeps a poll sound: proposals, turns and crashes of its processes.
 use Rattle.base.specs.Prelude.{ℕ, _+_, min, _≤_, _<_, arith, _≡_, refl, sym, Bool, true, false, true≢false, cond, _&&_, leb, ltb, eqb}
-use Rattle.base.specs.Prelude.{leb-true, leb-false, ltb-true, eqb-true, lt-ltb, le-leb, eq-eqb, eqb-false, not-false}
+use Rattle.base.specs.Prelude.{not, leb-true, leb-false, ltb-true, eqb-true, lt-ltb, le-leb, eq-eqb, eqb-false, not-false, not-true}
 use Rattle.base.specs.Bools.{cond-cases, and-left, and-right, and-both}
 use Rattle.model_laws.specs.Types.{Phase, Idle, Waiting, Write, Scan, Adopt, Compare, Flag, CheckMark, CheckValue, Commit, Exhausted}
 use Rattle.model_laws.specs.Types.{Crashed, Decided, HasCommitted, HasAdopted, Process, Access, Nothing, ReadValue, WriteValue, ReadMark}
@@ -181,19 +181,31 @@ poll-access-range W L M q low t = quiet-range M (access L q true) (operation-rea
 -- ---- the poll after a proposal, a turn and a crash
 
 module _ (W : ℕ) (s : Session) (t : soundForAs true W s ≡ true) where
-  -- 02: "L = W, a blank D".
-  pub poll-limit : s .limit ≡ W
+  -- 02: "L = W, a blank D"; "a sound one is open".
+  only : ((s .limit ≡ W) × (s .decision ≡ 0)) × (s .closed ≡ false)
   unfolding pollRegisters
-  poll-limit = eqb-true (s .limit) W (and-left (eqb (s .limit) W) _ (sound-facts true W s t .only))
+  only =
+      let limit = eqb (s .limit) W in
+      let blank = eqb (s .decision) 0 in
+      let all = sound-facts true W s t .only in
+      let two = and-left (limit && blank) (not (s .closed)) all in (
+        (eqb-true (s .limit) W (and-left limit blank two), eqb-true (s .decision) 0 (and-right limit blank two)),
+        not-true (s .closed) (and-right (limit && blank) (not (s .closed)) all),
+      )
+
+  pub poll-limit : s .limit ≡ W
+  poll-limit = only .0 .0
 
   pub poll-blank : s .decision ≡ 0
-  unfolding pollRegisters
-  poll-blank = eqb-true (s .decision) 0 (and-right (eqb (s .limit) W) _ (sound-facts true W s t .only))
+  poll-blank = only .0 .1
 
-  -- Registers with that limit and a blank D.
-  still-only : (u : Session) → u .limit ≡ s .limit → u .decision ≡ s .decision → pollRegisters true W u ≡ true
+  pub poll-open : s .closed ≡ false
+  poll-open = only .1
+
+  -- Registers with that limit and a blank D, of a poll that is open still.
+  still-only : (u : Session) → u .limit ≡ s .limit → u .decision ≡ s .decision → u .closed ≡ s .closed → pollRegisters true W u ≡ true
   unfolding pollRegisters
-  still-only u limit blank = rw (limit, blank) (sound-facts true W s t .only)
+  still-only u limit blank unclosed = rw (limit, blank, unclosed) (sound-facts true W s t .only)
 
   -- A process of the poll that takes a turn, as a session's.
   pub poll-process : (p : ℕ) → isGone (status (processAt s p .phase)) ≡ false → soundProcess W (s .limit) (processAt s p) ≡ true
@@ -207,7 +219,7 @@ module _ (W : ℕ) (s : Session) (t : soundForAs true W s ≡ true) where
       let q = processAt s p in
       turn-sound true W s p _ _ t below
       (poll-access-range W (s .limit) (s .limit) q (omega arith) (poll-process p g))
-      (still-only _ (stored-same s _ _ .limit) (poll-decision s (s .limit) q (q .estimate)))
+      (still-only _ (stored-same s _ _ .limit) (poll-decision s (s .limit) q (q .estimate)) (stored-same s _ _ .closed))
       (rw poll-limit (poll-next-sound W wide q _ o g (rw poll-limit at (sound-process true W s p t))))
 
   -- A record with another phase, an estimate above 0 and a round of at most L.
@@ -223,7 +235,7 @@ module _ (W : ℕ) (s : Session) (t : soundForAs true W s ≡ true) where
       let outside = not-false (isOutside (status (q .phase))) (a .own .1 .0) in
       let f = process-facts W (s .limit) q (poll-process p (outside-here (status (q .phase)) outside)) in
       let start = outside-start W (s .limit) (q .round) (q .phase) outside (f .phase) in
-      turn-sound true W s p _ _ t (a .below) tt (still-only s refl refl)
+      turn-sound true W s p _ _ t (a .below) tt (still-only s refl refl refl)
       (placed Waiting (q .round) v refl (omega (arith, eqb-false v 0 (a .own .0))) (omega arith) (lt-ltb (q .round) W (omega arith)))
 
   pub crashed-sound : (c : Counts) (p : ℕ) → Accepted s c (Crash p) → soundForAs true W (after W s (Crash p)) ≡ true
@@ -231,5 +243,5 @@ module _ (W : ℕ) (s : Session) (t : soundForAs true W s ≡ true) where
   crashed-sound c p a =
       let q = processAt s p in
       let f = process-facts W (s .limit) q (poll-process p (a .own .1 .0)) in
-      turn-sound true W s p _ _ t (a .below) tt (still-only s refl refl)
+      turn-sound true W s p _ _ t (a .below) tt (still-only s refl refl refl)
       (placed Crashed (q .round) (q .estimate) refl (inside-some f (a .own .0)) (f .round) refl)

@@ -1,10 +1,10 @@
 -- A list of calls that breaks the agreement rule at a window: what it shows, and that the rule is then false.
-use Rattle.base.specs.Prelude.{ℕ, _≡_, refl, sym, _∙_, Bool, true, not, _&&_, true≢false, List, [], eqb, ltb, eq-eqb}
+use Rattle.base.specs.Prelude.{ℕ, _≡_, refl, sym, _∙_, Bool, true, not, _&&_, true≢false, List, [], map, eqb, ltb, eq-eqb}
 use Rattle.base.specs.Bools.{and-left, and-right}
 use Rattle.model.specs.declared.Caller.the-variants.{Server}
 use Rattle.model.specs.declared.Operation.{Operation}
 use Rattle.model.specs.Board.{limitsOf}
-use Rattle.model.specs.Machine.{openingFor, processOf}
+use Rattle.model.specs.Machine.{acts, openingFor, processOf}
 use Rattle.model.specs.Sound.{every}
 use Rattle.model_rule.specs.Event.{Event, commit, decision, DecidedOn}
 use Rattle.model_rule.specs.Calls.{sessions}
@@ -31,7 +31,7 @@ happens h c = occurs (commit (c .round) (c .value)) h && occurs (decision (c .pr
 
 -- The past of the row's machine: its opening, within the server's limits, and operations at its window.
 abbrev pub pastOf : Row → List Event
-pastOf r = played (sessions (r .window)) (openingFor (limitsOf Server) (r .window) (r .n) (r .limit) .session) [] (r .operations) .1
+pastOf r = played (sessions (r .window)) (openingFor (limitsOf Server) (r .window) (r .n) (r .limit) .session) [] (map acts (r .operations)) .1
 
 -- Both commits happen, and their values differ.
 unfoldable pub differ : List Event → (first second : Commitment) → Bool

@@ -8,11 +8,11 @@ use Rattle.model.specs.declared.Session.{Session}
 use Rattle.model.specs.declared.Operation.{Operation}
 use Rattle.model.specs.declared.Operation.the-variants.{Step}
 use Rattle.model.specs.Board.{noCounts}
-use Rattle.model.specs.Machine.{openingFor}
+use Rattle.model.specs.Machine.{Command, openingFor}
 use Rattle.model_rule.specs.System.{System, Call, inputs, Run, none, call, machine, events, past, AfterEach}
 use Rattle.model_rule.specs.Event.{Event}
 use Rattle.model_rule.specs.Calls.{Input, sessions, RunWith}
-use Rattle.model_rule.specs.Rule.{Rule, AgreementWithin}
+use Rattle.model_rule.specs.Rule.{Rule, ProposalsStand, AgreementWithin}
 
 -- ---- the machine
 
@@ -82,7 +82,7 @@ abbrev pub works : (p : ℕ) → Operation
 works p = Step p true
 
 -- What the rule says of a list of operations from an accepted opening, within any limits: of the session and the past after it.
-pub played-rule : (most : Limits) (w : ℕ → ℕ) (n L : ℕ) (os : List Operation) →
+pub played-rule : (most : Limits) (w : ℕ → ℕ) (n L : ℕ) (os : List Command) →
     let start = openingFor most (w n) n L in
     let end = played (sessions (w n)) (start .session) [] os in
     start .code ≡ 0 → AgreementWithin most w n L → Rule (end .0) (end .1)
@@ -91,13 +91,13 @@ played-rule most w n L os ok rule =
     let start = openingFor most (w n) n L .session in
     let c : Called (RunWith w start) (fedBy os []) = called (fedBy os []) in
     let all = rule ok (c .calls) (c .left) (c .run) in
-    let holds = at-the-end M (λ s cs. Rule s (past M start (inputs cs))) (c .run) (all .2) in
+    let holds = at-the-end M (λ s cs. Rule s (past M start (inputs cs)) × ProposalsStand (w n) start cs) (c .run) (all .2) .0 in
     subst (λ (end : Session × List Event). Rule (end .0) (end .1)) (sym (played-machine M start os []))
-    (subst (λ (fs : List (Input Operation)). Rule (machine M start fs) (past M start fs)) (c .same)
+    (subst (λ (fs : List (Input Command)). Rule (machine M start fs) (past M start fs)) (c .same)
     (subst (λ (s : Session). Rule s (past M start (inputs (c .calls)))) (all .1) holds))
 
 -- A past that no rule allows: the agreement rule is false within those limits.
-pub breaks-rule : (most : Limits) (w : ℕ → ℕ) (n L : ℕ) (os : List Operation) →
+pub breaks-rule : (most : Limits) (w : ℕ → ℕ) (n L : ℕ) (os : List Command) →
     let start = openingFor most (w n) n L in
     start .code ≡ 0 → ((s : Session) → Rule s (played (sessions (w n)) (start .session) [] os .1) → ⊥) → AgreementWithin most w n L → ⊥
 breaks-rule most w n L os ok never rule = never _ (played-rule most w n L os ok rule)

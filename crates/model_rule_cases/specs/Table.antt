@@ -9,7 +9,7 @@ use Rattle.model.specs.declared.Operation.the-variants.{Propose, Learn}
 use Rattle.model.specs.Board.{opened}
 use Rattle.model.specs.Step.{waitingRule, phaseAccess, access, found, goOn, phaseNext, next, learnt, stored, turn, counted}
 use Rattle.model.specs.Refusal.{full}
-use Rattle.model.specs.Machine.{openingFor, accessOf, becomes, after, countsAfter, answered, perform}
+use Rattle.model.specs.Machine.{openingFor, accessOf, becomes, after, countsAfter, answered, perform, execute}
 use Rattle.model.specs.Sound.{every}
 use Rattle.model_rule_cases.specs.Play.{works, played}
 use Rattle.model_rule_cases.specs.Breaks.{Row, happens, differ, breaks}
@@ -90,5 +90,5 @@ pub short-lists : every breaks table ≡ true
 unfolding
     two three five table played happens differ breaks opened waitingRule phaseAccess access found goOn phaseNext next learnt stored turn
     counted full openingFor
-    accessOf becomes after countsAfter answered perform
+    accessOf becomes after countsAfter answered perform execute
 short-lists = refl

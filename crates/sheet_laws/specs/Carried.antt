@@ -2,14 +2,14 @@
 use Rattle.base.specs.Prelude.{ℕ, suc, zero, _+_, _-_, _≤_, _<_, arith, add-one, _≡_, refl, sym, _∙_, subst₃, Bool, true, false, cond, _||_}
 use Rattle.base.specs.Prelude.{true≢false, List, _∷_, length, leb, ne-eqb, leb-true, leb-false, lt-leb}
 use Rattle.base.specs.Bools.{cond-cases}
-use Rattle.model_laws.specs.Types.{Caller, Limits, Access, Session, Counts, Operation, Entry, WellFormed, Malformed, Finished, Refused}
+use Rattle.model_laws.specs.Types.{Caller, Limits, Access, Session, Counts, Operation, Entry, Acts, Closes, Malformed, Finished, Refused}
 use Rattle.model_laws.specs.Types.{BudgetEnded, Rejected, Ran}
 use Rattle.model.specs.Window.{window}
-use Rattle.model.specs.Board.{limitsOf, UpToServer, processAt, opened, noCounts}
+use Rattle.model.specs.Board.{limitsOf, UpToServer, processAt, opened, noCounts, withClosed}
 use Rattle.model.specs.Step.{found, counted}
 use Rattle.model.specs.Numbers.{noSuchProcess, badEntry}
 use Rattle.model.specs.Refusal.{refusal, full, tests}
-use Rattle.model.specs.Machine.{accessOf, after, countsAfter, answered, perform, processOf}
+use Rattle.model.specs.Machine.{accessOf, after, countsAfter, answered, perform, execute, processOf}
 use Rattle.model.specs.Sound.{soundFor}
 use Rattle.model.specs.Runner.{ran, runBy, runFrom, runWithin, run}
 use Rattle.model.specs.Sheet.{processCount, roundLimit, entries, sheetRefusal}
@@ -18,7 +18,7 @@ use Rattle.model_laws.specs.SheetFacts.{sheet-facts}
 use Rattle.model_laws.specs.Answers.{accepted-counts}
 use Rattle.model_laws.specs.Operations.{opened-sound, after-sound}
 use Rattle.model_laws.specs.Callers.{open-held}
-use Rattle.model_laws.specs.Sounds.{sound-facts}
+use Rattle.model_laws.specs.Sounds.{sound-facts, closed-sound}
 use Rattle.model_laws.specs.Windows.{window-least}
 use Rattle.sheet_laws.specs.declared.Handed.the-variants.{Next, End}
 use Rattle.sheet_laws.specs.Places.{handed, advanced, rest, Inside, Proper}
@@ -75,13 +75,14 @@ run-accepted caller t budget ew e = rw (e, ew)
 module _ (W b k : ℕ) (s : Session) (c : Counts) (o : Operation) (es : List Entry) where
   -- An operation that is not refused is carried out, and the run goes on.
   one-more : refusal (tests s c o) ≡ 0 →
-      runFrom W (suc b) k s c (WellFormed o ∷ es) ≡ runFrom W b (suc k) (after W s o) (countsAfter s c o) es
-  unfolding runBy perform answered
+      runFrom W (suc b) k s c (Acts o ∷ es) ≡ runFrom W b (suc k) (after W s o) (countsAfter s c o) es
+  unfolding runBy execute perform answered
   one-more h = rw h
 
   -- A refused one ends it.
-  one-refused : (r : ℕ) → refusal (tests s c o) ≡ r → (r ≡ 0 → ⊥) → runFrom W (suc b) k s c (WellFormed o ∷ es) ≡ ran k s c (Refused r k)
-  unfolding runBy perform answered
+  one-refused : (r : ℕ) → refusal (tests s c o) ≡ r → (r ≡ 0 → ⊥) →
+      runFrom W (suc b) k s c (Acts o ∷ es) ≡ ran k s c (Refused r k)
+  unfolding runBy execute perform answered
   one-refused zero h some = absurd (some refl)
   one-refused (suc r) h some = rw (h, ne-eqb (suc r) 0 some)
 
@@ -91,7 +92,7 @@ module _ (W b k : ℕ) (s : Session) (c : Counts) (o : Operation) (es : List Ent
 pub record Entered (s : Session) (c : Counts) (o : Operation) (p r : ℕ) : Type 0 where
   pub named : p ≡ processOf o
   pub below : p < s .n
-  pub code : r ≡ refusal (ownTests (processAt s p .phase) c o)
+  pub code : r ≡ refusal (ownTests (s .closed) (processAt s p .phase) c o)
 
 module _ {s : Session} {c : Counts} {o : Operation} {p : ℕ} where
   pub entered-none : {r : ℕ} → Entered s c o p r → r ≡ 0 → Entered s c o p 0
@@ -109,7 +110,7 @@ module _ {s : Session} {c : Counts} {o : Operation} {p : ℕ} where
   -- The counts that the code leaves are the machine's: they are not full.
   pub tallied : {d d′ : Counts} → Entered s c o p 0 → d′ ≡ countsAfter s c o → d ≡ cond (full c) c d′ → d ≡ countsAfter s c o
   unfolding countsAfter
-  tallied f e′ ed = ed ∙ rw e′ (accepted-counts (s .limit) (processAt s (processOf o)) _ c o (entered-accepted f .own))
+  tallied f e′ ed = ed ∙ rw e′ (accepted-counts (s .limit) (processAt s (processOf o)) _ (s .closed) c o (entered-accepted f .own))
 
 -- What the loop keeps: the answer is that of the run from here on, with k entries carried out; the session is sound.
 pub record Carrying (answer : Ran) (t : List ℕ) (budget W : ℕ) (s : Session) (c : Counts) (k : ℕ) (place : ℕ) : Type 0 where
@@ -162,7 +163,24 @@ module _ {answer : Ran} {t : List ℕ} {budget W : ℕ} {s : Session} {c : Count
   unfolding runBy
   malformed next = ended next badEntry (here next)
 
-  module _ {o : Operation} (next : handed t place ≡ Next (WellFormed o)) where
+  -- A close: one more is carried out, or "that next one is not tried".
+  module _ (next : handed t place ≡ Next Closes) where
+    pub close-spent : budget ≤ k → answer ≡ ran k s c BudgetEnded
+    close-spent = spent next
+
+    pub closes : {s₁ : Session} {next-place : ℕ} → k < budget → s₁ ≡ withClosed s → next-place ≡ advanced t place →
+        Carrying answer t budget W s₁ c (k + 1) next-place
+    unfolding runBy execute
+    closes left es ep =
+        carrying-at (sym es) refl (sym ep)
+        (record {
+          same = here next left ∙ rw (add-one k);
+          proper = advanced-proper t place (h .proper);
+          within = omega arith;
+          opened = record { wide = h .opened .wide; sound = closed-sound W s ∙ h .opened .sound };
+        })
+
+  module _ {o : Operation} (next : handed t place ≡ Next (Acts o)) where
     module _ (left : k < budget) where
       -- "with the refusal and the entry's index (from 0) at the first refused one".
       pub refused : {p r : ℕ} → Entered s c o p r → (r ≡ 0 → ⊥) → answer ≡ ran k s c (Refused r k)

@@ -53,7 +53,7 @@ otherAccess (Crash p) = Nothing
 
 module _ (s : Session) (c : Counts) (o : Operation) where
   -- Of a process below n.
-  pub entry-refusal : processOf o < s .n → refusal (tests s c o) ≡ refusal (ownTests (processAt s (processOf o) .phase) c o)
+  pub entry-refusal : processOf o < s .n → refusal (tests s c o) ≡ refusal (ownTests (s .closed) (processAt s (processOf o) .phase) c o)
   entry-refusal low = rw (tests-are s c o, lt-leb (s .n) (processOf o) low)
 
   -- A process n or above is refused by its number.
@@ -61,9 +61,9 @@ module _ (s : Session) (c : Counts) (o : Operation) where
   number-refusal high = rw (tests-are s c o, le-leb (s .n) (processOf o) high)
 
 -- The refusal of a work turn.
-pub step-refusal : (φ : Phase) (c : Counts) {o : Operation} {p : ℕ} {leader : Bool} → o ≡ Step p leader →
-    refusal (stepTests φ c) ≡ refusal (ownTests φ c o)
-step-refusal φ c told = rw told
+pub step-refusal : (closed : Bool) (φ : Phase) (c : Counts) {o : Operation} {p : ℕ} {leader : Bool} → o ≡ Step p leader →
+    refusal (stepTests φ c) ≡ refusal (ownTests closed φ c o)
+step-refusal closed φ c told = rw told
 
 -- What the code leaves after a work turn of a sound session, register by register.
 pub step-leaves : (W : ℕ) (s : Session) (p : ℕ)

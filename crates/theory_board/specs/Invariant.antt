@@ -2,7 +2,7 @@
 -- sound: that stands beside it (`perform-sound`).
 use Rattle.base.specs.Prelude.{ℕ, _<_, arith, ℕ-discrete, _≡_, List, _++_, length-set, getD-set-same, getD-set-other}
 use Rattle.model_laws.specs.Types.{Access, Process, Session}
-use Rattle.model.specs.Board.{processAt, idle}
+use Rattle.model.specs.Board.{processAt, withClosed, idle}
 use Rattle.model.specs.Step.{found, stored, turn}
 use Rattle.model_laws.specs.Operations.{stored-same}
 use Rattle.model_rule.specs.Event.{Event}
@@ -43,5 +43,17 @@ turn-invariant {W} {s} i p a becomes es low board lawful others mine =
             | yes e ↦ rw (e, getD-set-same (s .processes) p _ idle (omega (arith, i .long .processes))) mine
             | no ne ↦ rw (getD-set-other (s .processes) p o _ idle ne) (stands-events es (others o ne) (i .stands o))
           ]);
+      matches = record { values = matches .values; marks = matches .marks; decision = matches .decision };
+    }
+
+-- The closed mark bears on nothing of it.
+pub closed-invariant : {W : ℕ} {s : Session} {h : List Event} → Invariant W s h → Invariant W (withClosed s) h
+closed-invariant i =
+    let long = i .long in
+    let matches = i .matches in
+    record {
+      long = record { values = long .values; marks = long .marks; processes = long .processes };
+      lawful = i .lawful;
+      stands = i .stands;
       matches = record { values = matches .values; marks = matches .marks; decision = matches .decision };
     }

@@ -2,11 +2,11 @@
 use Rattle.base.specs.Prelude.{ℕ, suc, zero, _+_, _-_, _≤_, _<_, arith, _≡_, refl, Bool, true, false, List, [], _∷_, ℕ-discrete, length}
 use Rattle.base.specs.Prelude.{getD, set, getD-set-same, getD-set-other}
 use Rattle.model_laws.specs.Types.{Access, Nothing, ReadValue, WriteValue, ReadMark, SetMark, ReadDecision, WriteDecision, Session, Counts}
-use Rattle.model_laws.specs.Types.{Operation, Process}
+use Rattle.model_laws.specs.Types.{Operation, Command, acts, closes, Process}
 use Rattle.model.specs.Board.{processAt, opened, maxRounds}
 use Rattle.model.specs.Step.{bit, found, stored, turn, newlyMarked, counted}
 use Rattle.model.specs.Refusal.{refusal, tests, stepped}
-use Rattle.model.specs.Machine.{accessOf, after, countsAfter, answered, perform, processOf}
+use Rattle.model.specs.Machine.{accessOf, after, countsAfter, answered, perform, execute, processOf}
 use Rattle.model_laws.specs.Ranges.{InRange}
 use Rattle.model_laws.specs.Operations.{access-in-range}
 use Rattle.model_rule.specs.Event.{Event}
@@ -71,10 +71,12 @@ module _ (s : Session) (c : Counts) (long : s .limit ≤ length (s .marks)) wher
   unfolding perform answered after countsAfter
   perform-adds W o ok = turn-adds (refusal (tests s c o)) _ _ _ (λ e. ok)
 
--- One operation on a session that the machine reached.
-pub reached-adds : {W n L : ℕ} {s : Session} {h : List Event} (c : Counts) (o : Operation) → Reached false W n L s h →
-    let r = perform W s c o in GrowAlike c s (r .counts) (r .session)
-reached-adds {W} {s = s} c o i = perform-adds s c (i .invariant .long .marks) W o (access-in-range W s o (i .sound))
+-- One command to a session that the machine reached.
+pub reached-adds : {W n L : ℕ} {s : Session} {h : List Event} (c : Counts) (x : Command) → Reached false W n L s h →
+    let r = execute W s c x in GrowAlike c s (r .counts) (r .session)
+unfolding execute
+reached-adds {W} {s = s} c (acts o) i = perform-adds s c (i .invariant .long .marks) W o (access-in-range W s o (i .sound))
+reached-adds c closes i = refl
 
 -- ---- lists of calls
 

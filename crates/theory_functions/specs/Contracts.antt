@@ -19,7 +19,7 @@ use Rattle.model.specs.declared.Counts.{Counts}
 use Rattle.model.specs.declared.Operation.{Operation}
 use Rattle.model.specs.declared.Operation.the-variants.{Propose, Step, Learn, Crash}
 use Rattle.model.specs.declared.Changed.{Changed}
-use Rattle.model.specs.Machine.{opening}
+use Rattle.model.specs.Machine.{acts, closes, opening}
 use Rattle.model.specs.Public
 use Rattle.model.specs.Public.{withCounts}
 use Rattle.model_poll.specs.Machine.{proposes, turns, crashes, unanswered, pollOpening}
@@ -29,6 +29,7 @@ use Rattle.model_rule.specs.PollCalls.{pollPromised}
 use Rattle.session_open.proofs.open as opens
 use Rattle.session_propose.proofs.propose as propose
 use Rattle.session_crash.proofs.crash as crash
+use Rattle.session_close.proofs.close as close
 use Rattle.session_step_lent.proofs.step as step
 use Rattle.session_step_lent.proofs.learn as learn
 use Rattle.session_step.proofs.step as step-by-value
@@ -54,6 +55,10 @@ module _ {M : Type 1} (𝓤 : URA M) (H : Heap 𝓤) (A : Atoms 𝓤) (mem : Mem
       poll-opens.clauses 𝓤 H A mem run tt (caller, (n, tt)) ≡ ensures 𝓤 (λ r e. r ≡ pollOpening caller n)
   poll-open-contract caller n = refl
 
+  -- A close names no process, and is lent no counts.
+  pub close-contract : (s : Session) → close.clauses 𝓤 H A mem run tt (s, tt) ≡ ensures 𝓤 (λ r e. r ≡ Public.close s)
+  close-contract s = refl
+
   module _ (s : Session) (p : ℕ) where
     -- A proposal and a crash are lent no counts.
     pub propose-contract : (v : ℕ) → propose.clauses 𝓤 H A mem run tt (s, (p, (v, tt))) ≡ ensures 𝓤 (λ r e. r ≡ Public.propose s p v)
@@ -71,12 +76,12 @@ module _ {M : Type 1} (𝓤 : URA M) (H : Heap 𝓤) (A : Atoms 𝓤) (mem : Mem
     -- A work turn, a look and a poll's turn are: e has the counts as they stand at exit.
     pub step-contract : (κ : Lft) (leader : Bool) (counts : RefT Counts) →
         step.clauses 𝓤 H A mem run (κ, tt) (s, (p, (leader, (counts, tt))))
-        ≡ ensures 𝓤 (λ r e. withCounts r (now (e .1 .1 .1 .0)) ≡ promised s (now counts) (Step p leader))
+        ≡ ensures 𝓤 (λ r e. withCounts r (now (e .1 .1 .1 .0)) ≡ promised s (now counts) (acts (Step p leader)))
     step-contract κ leader counts = refl
 
     pub learn-contract : (κ : Lft) (counts : RefT Counts) →
         learn.clauses 𝓤 H A mem run (κ, tt) (s, (p, (counts, tt)))
-        ≡ ensures 𝓤 (λ r e. withCounts r (now (e .1 .1 .0)) ≡ promised s (now counts) (Learn p))
+        ≡ ensures 𝓤 (λ r e. withCounts r (now (e .1 .1 .0)) ≡ promised s (now counts) (acts (Learn p)))
     learn-contract κ counts = refl
 
     pub turn-contract : (κ : Lft) (counts : RefT Counts) →
@@ -86,11 +91,11 @@ module _ {M : Type 1} (𝓤 : URA M) (H : Heap 𝓤) (A : Atoms 𝓤) (mem : Mem
 
     -- With the counts by value.
     pub step-value-contract : (leader : Bool) (c : Counts) →
-        step-by-value.clauses 𝓤 H A mem run tt (s, (p, (leader, (c, tt)))) ≡ ensures 𝓤 (λ r e. r ≡ promised s c (Step p leader))
+        step-by-value.clauses 𝓤 H A mem run tt (s, (p, (leader, (c, tt)))) ≡ ensures 𝓤 (λ r e. r ≡ promised s c (acts (Step p leader)))
     step-value-contract leader c = refl
 
     pub learn-value-contract : (c : Counts) →
-        learn-by-value.clauses 𝓤 H A mem run tt (s, (p, (c, tt))) ≡ ensures 𝓤 (λ r e. r ≡ promised s c (Learn p))
+        learn-by-value.clauses 𝓤 H A mem run tt (s, (p, (c, tt))) ≡ ensures 𝓤 (λ r e. r ≡ promised s c (acts (Learn p)))
     learn-value-contract c = refl
 
     pub turn-value-contract : (c : Counts) →
@@ -104,11 +109,15 @@ module _ {M : Type 1} (𝓤 : URA M) (H : Heap 𝓤) (A : Atoms 𝓤) (mem : Mem
 
 -- Where no counts are lent, they stand as they stood: what the contract says is what the rule takes.
 pub propose-promised : (s : Session) (c : Counts) (p v : ℕ) (r : Changed) → r ≡ Public.propose s p v →
-    withCounts r c ≡ promised s c (Propose p v)
+    withCounts r c ≡ promised s c (acts (Propose p v))
 propose-promised s c p v r e = ap (λ x. withCounts x c) e
 
-pub crash-promised : (s : Session) (c : Counts) (p : ℕ) (r : Changed) → r ≡ Public.crash s p → withCounts r c ≡ promised s c (Crash p)
+pub crash-promised : (s : Session) (c : Counts) (p : ℕ) (r : Changed) → r ≡ Public.crash s p →
+    withCounts r c ≡ promised s c (acts (Crash p))
 crash-promised s c p r e = ap (λ x. withCounts x c) e
+
+pub close-promised : (s : Session) (c : Counts) (r : Changed) → r ≡ Public.close s → withCounts r c ≡ promised s c closes
+close-promised s c r e = ap (λ x. withCounts x c) e
 
 -- Nor is an answer given by a poll.
 pub poll-propose-promised : (s : Session) (c : Counts) (p v : ℕ) (r : Changed) → r ≡ pollPropose s p v →

@@ -1,23 +1,30 @@
 -- Contested is the number of marked rounds, after every list of calls on one tally and after every sheet.
 use Rattle.base.specs.Prelude.{ℕ, suc, zero, _≤_, arith, _≡_, refl, sym, false, List, [], _∷_, eqb}
 use Rattle.base.specs.Bools.{cond-cases}
-use Rattle.model_laws.specs.Types.{Session, Counts, Entry, WellFormed, Malformed, Ran, Stepped}
+use Rattle.model_laws.specs.Types.{Session, Counts, acts, closes, Entry, Acts, Closes, Malformed, Ran, Stepped}
 use Rattle.model.specs.Window.{window}
 use Rattle.model.specs.Board.{noCounts, opened}
-use Rattle.model.specs.Machine.{perform}
+use Rattle.model.specs.Machine.{execute}
 use Rattle.model.specs.Sheet.{processCount, roundLimit, entries, sheetRefusal}
-use Rattle.model.specs.Runner.{runBy, runFrom, ranOr, runWithin}
+use Rattle.model.specs.Runner.{entryAnswer, runBy, runFrom, ranOr, runWithin}
 use Rattle.model_laws.specs.Windows.{window-least}
 use Rattle.model_laws.specs.Callers.{opening-held}
 use Rattle.model_rule.specs.Event.{Event}
 use Rattle.model_rule.specs.Calls.{sessions}
 use Rattle.model_rule.specs.Contested.{markedRounds, ContestedRule, ContestedRun}
-use Rattle.theory_board.specs.Marks.{reached-adds, opened-unmarked, calls-contested}
-use Rattle.theory_board.specs.Reached.{Reached, operation-reached, machine-reached}
+use Rattle.theory_board.specs.Marks.{GrowAlike, reached-adds, opened-unmarked, calls-contested}
+use Rattle.theory_board.specs.Reached.{Reached, machine-reached}
 use Rattle.theory_agreement.specs.Theorem.{sessions-followed, opening-reached}
-use Rattle.theory_sheet.specs.Runs.{sheet-reached}
+use Rattle.theory_sheet.specs.Runs.{entry-reached, sheet-reached}
 
 module _ {n L : ℕ} (wide : 1 ≤ window n) where
+  -- One entry.
+  entry-adds : {s : Session} {h : List Event} (c : Counts) (e : Entry) → Reached false (window n) n L s h →
+      let a = entryAnswer (execute (window n)) s c e in GrowAlike c s (a .counts) (a .session)
+  entry-adds c (Acts o) i = reached-adds c (acts o) i
+  entry-adds c Closes i = reached-adds c closes i
+  entry-adds c Malformed i = refl
+
   -- Entry after entry.
   runs-contested : {s : Session} {h : List Event} (b k : ℕ) (c : Counts) (es : List Entry) → Reached false (window n) n L s h →
       c .contested ≡ markedRounds s →
@@ -25,13 +32,11 @@ module _ {n L : ℕ} (wide : 1 ≤ window n) where
   unfolding runBy
   runs-contested b k c [] i same = same
   runs-contested zero k c (e ∷ es) i same = same
-  runs-contested (suc b) k c (Malformed ∷ es) i same = same
-  runs-contested {s} (suc b) k c (WellFormed o ∷ es) i same =
-      let a = perform (window n) s c o in
+  runs-contested {s} (suc b) k c (e ∷ es) i same =
+      let a = entryAnswer (execute (window n)) s c e in
       cond-cases (λ (r : Ran). r .counts .contested ≡ markedRounds (r .session)) (eqb (a .code) 0)
       (λ z.
-      runs-contested b (suc k) (a .counts) es (operation-reached wide (record { operation = o; counts = c }) i)
-      (omega (arith, reached-adds c o i)))
+      runs-contested b (suc k) (a .counts) es (entry-reached wide c e i .3) (omega (arith, entry-adds c e i)))
       (λ z. same)
 
 pub contested : ContestedRule

@@ -7,7 +7,7 @@ use Rattle.model.specs.declared.Session.{Session}
 use Rattle.model.specs.Board.{opened}
 use Rattle.model.specs.Step.{waitingRule, phaseAccess, access, found, goOn, phaseNext, next, learnt, stored, turn, counted}
 use Rattle.model.specs.Refusal.{full}
-use Rattle.model.specs.Machine.{accessOf, becomes, after, countsAfter, answered, perform}
+use Rattle.model.specs.Machine.{accessOf, becomes, after, countsAfter, answered, perform, execute}
 use Rattle.model.specs.Sound.{every}
 use Rattle.model_rule.specs.Event.{Event, write, commit}
 use Rattle.model_rule.specs.Calls.{sessions}
@@ -42,5 +42,5 @@ pub all-broken : every broken (from 2 14) ≡ true
 unfolding
     broken afterFirst writtenOver twoDecisions happens differ withWrite goesOn allGoOn onePass epochs atFirst atLast construction
     watched opened waitingRule phaseAccess access found goOn phaseNext next learnt stored turn counted full accessOf becomes after
-    countsAfter answered perform
+    countsAfter answered perform execute
 all-broken = refl

@@ -12,6 +12,7 @@ use lib.Dec.{ltb, eqb}
 use lib.ListN.{replicate}
 use Rattle.model.specs.declared.Operation.{Operation}
 use Rattle.model.specs.declared.Operation.the-variants.{Propose, Learn}
+use Rattle.model.specs.Machine.{Command, acts}
 use Rattle.model_rule_cases.specs.Play.{works}
 
 -- ---- numbers
@@ -191,8 +192,8 @@ lastSteps W m =
 pub record Plan : Type 0 where
   pub one : ℕ
   pub other : ℕ
-  pub first : List Operation
-  pub second : List Operation
+  pub first : List Command
+  pub second : List Command
 
 unfoldable pub construction : (W : ℕ) → Plan
 construction W =
@@ -202,6 +203,6 @@ construction W =
     record {
       one = one;
       other = other;
-      first = s .operations ++ replicate (commitSteps W) (works one) ++ Learn one ∷ works other ∷ [];
-      second = replicate (count (map (lastSteps W) (from 0 W)) - 1) (works other) ++ Learn other ∷ [];
+      first = map acts (s .operations ++ replicate (commitSteps W) (works one) ++ Learn one ∷ works other ∷ []);
+      second = map acts (replicate (count (map (lastSteps W) (from 0 W)) - 1) (works other) ++ Learn other ∷ []);
     }

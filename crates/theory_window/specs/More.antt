@@ -1,6 +1,6 @@
 -- More processes, which take no part, and more rounds, where no process comes to the limit, change nothing of what happens.
-use Rattle.base.specs.Prelude.{ℕ, suc, zero, _+_, _-_, _<_, arith, _≡_, refl, _∙_, ap, Bool, true, false, cond, _&&_, List, [], _∷_, _++_}
-use Rattle.base.specs.Prelude.{eqb, ltb, lt-leb, le-leb, ltb-true}
+use Rattle.base.specs.Prelude.{ℕ, suc, zero, _+_, _-_, _<_, arith, _≡_, refl, sym, _∙_, ap, Bool, true, false, cond, _&&_, List, [], _∷_, _++_}
+use Rattle.base.specs.Prelude.{true≢false, eqb, ltb, lt-leb, le-leb, ltb-true}
 use Rattle.base.specs.Bools.{and-left, and-right}
 use Rattle.model.specs.declared.Access.{Access}
 use Rattle.model.specs.declared.Access.the-variants.{Nothing, ReadValue, WriteValue, ReadMark, SetMark, ReadDecision, WriteDecision}
@@ -15,7 +15,7 @@ use Rattle.model.specs.declared.Process.{Process}
 use Rattle.model.specs.Board.{processAt, noCounts}
 use Rattle.model.specs.Step.{waitingRule, phaseAccess, access, found, phaseNext, next, process, stored, turn}
 use Rattle.model.specs.Refusal.{refusal, tests, stepped}
-use Rattle.model.specs.Machine.{accessOf, becomes, after, answered, perform, processOf}
+use Rattle.model.specs.Machine.{Command, acts, closes, accessOf, becomes, after, answered, perform, execute, processOf}
 use Rattle.model_rule.specs.Event.{Event}
 use Rattle.model_rule.specs.System.{System, events}
 use Rattle.model_rule.specs.Calls.{Input, sessions}
@@ -32,6 +32,7 @@ grown a b s =
       marks = s .marks;
       decision = s .decision;
       processes = s .processes;
+      closed = s .closed;
     }
 
 -- ---- a turn by itself
@@ -192,15 +193,21 @@ module _ {O A : Type 0} (M : System Session (Input O) A Event) (test : Session �
         let rest = watched-same _ _ os end (and-right (test s o) _ all) in
         record { left = rest .left; past = rest .past; holds = rest .holds; played = rw (k .0, k .1) (rest .played) }
 
--- A step of a process of the session that does not come to the limit, or another operation of such a process.
-abbrev pub inside : Session → Operation → Bool
-inside s o = ltb (processOf o) (s .n) && clearOf s o
+-- A step of a process of the session that does not come to the limit, or another operation of such a process. (No list here closes.)
+abbrev pub inside : Session → Command → Bool
+inside s (acts o) = ltb (processOf o) (s .n) && clearOf s o
+inside s closes = false
 
-pub sessions-same : (W a b : ℕ) (s : Session) (h : List Event) (os : List Operation) (end : Session → List Event → Bool) →
+pub sessions-same : (W a b : ℕ) (s : Session) (h : List Event) (os : List Command) (end : Session → List Event → Bool) →
     watched (sessions W) inside s h os end ≡ true → Same (sessions W) inside a b s h os end
-sessions-same W a b =
-    watched-same (sessions W) inside a b
-    (λ s o ok.
-    let below = ltb-true (processOf o) (s .n) (and-left (ltb (processOf o) (s .n)) _ ok) in
-    let k = perform-grown W a b s o below (and-right (ltb (processOf o) (s .n)) _ ok) in
-    (k .0, rw (k .1) refl))
+unfolding execute
+sessions-same W a b = watched-same (sessions W) inside a b one
+  where
+    one : (s : Session) (x : Command) → inside s x ≡ true →
+        (sessions W .state (sessions W .perform (grown a b s) (uncounted x)) ≡ grown a b (sessions W .state (sessions W .perform s (uncounted x))))
+        × (events (sessions W) (grown a b s) (uncounted x) ≡ events (sessions W) s (uncounted x))
+    one s (acts o) ok =
+        let below = ltb-true (processOf o) (s .n) (and-left (ltb (processOf o) (s .n)) _ ok) in
+        let k = perform-grown W a b s o below (and-right (ltb (processOf o) (s .n)) _ ok) in
+        (k .0, rw (k .1) refl)
+    one s closes ok = absurd (true≢false (sym ok))
