@@ -7,17 +7,17 @@ ghost use Rattle.model.specs.Sheet.{entryOf, isMalformed};
 use model::Entry;
 use model::Operation;
 
-// "Kinds: 0 propose (any value), 1 work (value 0 is hint no, 1 is yes), 2 look (0), 3 crash (0)."
+// "Kinds: 0 propose (any value), 1 work (value 0 is hint no, 1 is yes), 2 look (0), 3 crash (0)." 02, wish 10: "kind 4, seat 0, value 0".
 pub fn entry_of(kind: u8, p: u8, value: u32) -> Entry
     ensures { λ r. ⌜ r ≡ entryOf kind p value ⌝ }
 {
     let process = p as usize;
     if kind == 0 {
-        return Entry::WellFormed(Operation::Propose(process, value));
+        return Entry::Acts(Operation::Propose(process, value));
     }
     if kind == 1 {
         if value <= 1 {
-            return Entry::WellFormed(Operation::Step(process, value != 0));
+            return Entry::Acts(Operation::Step(process, value != 0));
         }
         return Entry::Malformed;
     }
@@ -25,21 +25,27 @@ pub fn entry_of(kind: u8, p: u8, value: u32) -> Entry
         return Entry::Malformed;
     }
     if kind == 2 {
-        return Entry::WellFormed(Operation::Learn(process));
+        return Entry::Acts(Operation::Learn(process));
     }
     if kind == 3 {
-        return Entry::WellFormed(Operation::Crash(process));
+        return Entry::Acts(Operation::Crash(process));
     }
-    Entry::Malformed
+    if kind != 4 {
+        return Entry::Malformed;
+    }
+    if p != 0 {
+        return Entry::Malformed;
+    }
+    Entry::Closes
 }
 
-// Whether it is one of these: by the largest value of each kind.
+// Whether it is one of these: by the largest value of each kind, and by the process of a close.
 pub fn formed(kind: u8, p: u8, value: u32) -> bool
     ensures { λ r. ⌜ r ≡ not (isMalformed (entryOf kind p value)) ⌝ }
 {
-    let largest: [u32; 4] = [4294967295, 1, 0, 0];
-    if kind < 4 {
-        value <= largest[kind as usize]
+    let largest: [u32; 5] = [4294967295, 1, 0, 0, 0];
+    if kind < 5 {
+        (value <= largest[kind as usize]) & ((kind != 4) | (p == 0))
     } else {
         false
     }

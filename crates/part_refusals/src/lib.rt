@@ -5,19 +5,20 @@ ghost use Rattle.model.specs.Refusal.{refusal, proposeTests, crashTests};
 use model::Phase;
 use model::Status;
 use model::numbers::BLANK_PROPOSAL;
+use model::numbers::CLOSED_TO_PROPOSALS;
 use model::numbers::PROCESS_GONE;
 use model::numbers::PROCESS_OUT;
 use model::numbers::SECOND_PROPOSAL;
 
-// 01, "Numbers returned", proposal, after the process' number: 5, 6.
-pub fn propose_refusal(v: u32, phase: Phase) -> u32
-    ensures { λ r. ⌜ r ≡ refusal (proposeTests phase v) ⌝ }
+// 01, "Numbers returned", proposal, after the process' number: 5, 6; 02, wish 10: 18, "tested last, after 6".
+pub fn propose_refusal(closed: bool, v: u32, phase: Phase) -> u32
+    ensures { λ r. ⌜ r ≡ refusal (proposeTests closed phase v) ⌝ }
 {
     if v == 0 {
         return BLANK_PROPOSAL;
     }
     match part_status::status(phase) {
-        Status::Outside => 0,
+        Status::Outside => if closed { CLOSED_TO_PROPOSALS } else { 0 },
         Status::Active => SECOND_PROPOSAL,
         Status::Spent => SECOND_PROPOSAL,
         Status::Gone => SECOND_PROPOSAL,

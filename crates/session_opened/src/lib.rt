@@ -7,7 +7,7 @@ use model::Phase;
 use model::Process;
 use model::Session;
 
-// 01, "The board and the seats": a session with all registers blank, all rounds unmarked and every process out.
+// 01, "The board and the seats": a session with all registers blank, all rounds unmarked and every process out; 02, wish 10: open.
 pub fn opened(n: usize, limit: usize) -> Session
     ensures { λ r. ⌜ r ≡ openedOf n limit ⌝ }
 {
@@ -26,6 +26,7 @@ pub fn opened(n: usize, limit: usize) -> Session
         marks: marks,
         decision: 0,
         processes: processes,
+        closed: false,
     }
 }
 

@@ -12,7 +12,7 @@ pub fn propose_as(poll: bool, s: Session, p: usize, v: u32) -> Changed
     let i = p % 64;
     let q = s.processes[i];
     let phase = q.phase;
-    let own = part_refusals::propose_refusal(v, phase);
+    let own = part_refusals::propose_refusal(s.closed, v, phase);
     let code = session_refusal::first_refusal(session_sound::sound_as(poll, s), s.n, p, own);
     let mut after = s;
     if code == 0 {

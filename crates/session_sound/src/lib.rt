@@ -23,7 +23,7 @@ fn blank_from<'a>(values: &'a [u32; 256], marks: &'a [bool; 256], from: usize) -
 }
 
 // "A session is sound if: n is 1 to 64, L is W to 256", the registers and marks past L, and its records, in one pass. A poll, if its own
-// rules hold too: 02, wish 6, it "has L = W, a blank D". 02, wish 9: "soundness, 3, stays with the server's" limits, whoever opened it.
+// rules hold too: 02, wish 6, it "has L = W, a blank D"; wish 10, it "is open". 02, wish 9: "soundness, 3, stays with the server's" limits, whoever opened it.
 pub fn sound_as(poll: bool, s: Session) -> bool
     ensures { λ r. ⌜ r ≡ soundAs poll s ⌝ }
 {
@@ -33,7 +33,7 @@ pub fn sound_as(poll: bool, s: Session) -> bool
         return false;
     }
     let window = part_window::window(n as u8);
-    let only = !poll | ((limit == window) & (s.decision == 0));
+    let only = !poll | ((limit == window) & (s.decision == 0) & !s.closed);
     let rounds = (window <= limit) & (limit <= 256) & only;
     if !(rounds & blank_from(&s.values, &s.marks, limit)) {
         return false;

@@ -51,13 +51,13 @@ pub(crate) fn step_refusal(q: Process, c: Counts) -> u32
     part_refusals_counted::step_refusal(phase, c)
 }
 
-// Its own refusal, after the process' number; 0 for none.
-pub(crate) fn refusal_of(q: Process, c: Counts, o: Operation) -> u32
-    ensures { λ r. ⌜ r ≡ refusal (ownTests (q .phase) c o) ⌝ }
+// Its own refusal, after the process' number, by the closed mark; 0 for none.
+pub(crate) fn refusal_of(closed: bool, q: Process, c: Counts, o: Operation) -> u32
+    ensures { λ r. ⌜ r ≡ refusal (ownTests closed (q .phase) c o) ⌝ }
 {
     let phase = q.phase;
     match o {
-        Operation::Propose(_, v) => part_refusals::propose_refusal(v, phase),
+        Operation::Propose(_, v) => part_refusals::propose_refusal(closed, v, phase),
         Operation::Step(_, _) => part_refusals_counted::step_refusal(phase, c),
         Operation::Learn(_) => part_refusals_counted::learn_refusal(phase, c),
         Operation::Crash(_) => part_refusals::crash_refusal(phase),

@@ -54,8 +54,17 @@ fn carry(sheet: &[u8], budget: usize, window: usize, mut s: Session, mut c: Coun
         let Handed::Next(e) = sheet_reader::entry_at(sheet, place) else {
             return ran(k, s, c, Ending::Finished);
         };
-        let Entry::WellFormed(o) = e else {
-            return ran(k, s, c, entry::halt(budget, k, BAD_ENTRY));
+        let Entry::Acts(o) = e else {
+            let Entry::Closes = e else {
+                return ran(k, s, c, entry::halt(budget, k, BAD_ENTRY));
+            };
+            if budget <= k {
+                return ran(k, s, c, Ending::BudgetEnded);
+            }
+            s.closed = true;
+            k += 1;
+            place = sheet_reader::place_after(sheet, place);
+            continue;
         };
         let p = entry::process_of(o);
         if entry::halts(budget, k, s.n, p) {
@@ -73,7 +82,7 @@ fn carry(sheet: &[u8], budget: usize, window: usize, mut s: Session, mut c: Coun
             s.processes[p] = part_next::next(window, s.limit, q, leader, x);
             c = part_counts::counted(a, x, c);
         } else {
-            let code = entry::refusal_of(q, c, o);
+            let code = entry::refusal_of(s.closed, q, c, o);
             if code != 0 {
                 return ran(k, s, c, Ending::Refused(code, k));
             }

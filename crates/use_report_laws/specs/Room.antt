@@ -1,6 +1,7 @@
 -- The longest report: what each line takes at most, and that the whole fits on a page.
 use Prim.Native.String.{String}
-use Rattle.base.specs.Prelude.{ℕ, suc, _+_, _*_, _≤_, arith, _≡_, List, [], _∷_, _++_, length, take, length-append, length-take}
+use Rattle.base.specs.Prelude.{ℕ, suc, _+_, _*_, _≤_, arith, _≡_, Bool, true, false, List, [], _∷_, _++_}
+use Rattle.base.specs.Prelude.{length, take, length-append, length-take}
 use Rattle.model.specs.declared.Phase.{Phase}
 use Rattle.model.specs.declared.Phase.the-variants.{Idle, Waiting, Write, Scan, Adopt, Compare, Flag, CheckMark}
 use Rattle.model.specs.declared.Phase.the-variants.{CheckValue, Commit, Exhausted, Crashed, Decided, HasCommitted, HasAdopted}
@@ -11,7 +12,7 @@ use Rattle.model.specs.declared.Ending.{Ending}
 use Rattle.model.specs.declared.Ending.the-variants.{Finished, Refused, BudgetEnded, Rejected}
 use Rattle.model.specs.declared.Ran.{Ran}
 use Rattle.model.specs.Board.{maxProcesses, highestFilled}
-use Rattle.model_report.specs.Report.{bytes, field, newline, outcomeLine, tallyLine, boardLine, statusWords, seatLines}
+use Rattle.model_report.specs.Report.{bytes, field, newline, outcomeLine, tallyLine, closedWord, boardLine, statusWords, seatLines}
 use Rattle.model_report.specs.Report.{moreLines, reportOf}
 use Rattle.use_text.specs.Numbers.{withFields, digits-length}
 
@@ -23,9 +24,9 @@ fieldsRoom w n = w + n * (1 + 20)
 abbrev lineRoom : String → (numbers : ℕ) → ℕ
 lineRoom words n = fieldsRoom (length (bytes words)) n + 1
 
--- The longest report: 5,039 bytes.
+-- The longest report: 5,046 bytes.
 abbrev pub reportRoom : ℕ
-reportRoom = lineRoom "outcome refused" 2 + lineRoom "tally" 3 + lineRoom "board" 2 + maxProcesses * lineRoom "seat working" 3
+reportRoom = lineRoom "outcome refused" 2 + lineRoom "tally" 3 + lineRoom "board closed" 2 + maxProcesses * lineRoom "seat working" 3
 
 -- ---- what is taken
 
@@ -35,6 +36,15 @@ fields-low t (v ∷ vs) = omega (arith, fields-low (t ++ field v) vs, length-app
 
 line-low : (words : String) (vs : List ℕ) → length (withFields (bytes words) vs ++ newline) ≤ lineRoom words (length vs)
 line-low words vs = rw length-append (omega (arith, fields-low (bytes words) vs))
+
+-- The longest word of the closed mark is that of a closed session.
+mark-low : (closed : Bool) → length (closedWord closed) ≤ length (bytes " closed")
+mark-low true = omega arith
+mark-low false = omega arith
+
+board-low : (s : Session) → length (boardLine s) ≤ lineRoom "board closed" 2
+board-low s =
+    simp length-append (omega (arith, digits-length 20 (highestFilled s), digits-length 20 (s .decision), mark-low (s .closed)))
 
 -- The longest status is that of a working seat.
 status-low : (φ : Phase) (r e : ℕ) → length (statusWords φ r e) ≤ fieldsRoom (length (bytes " working")) 2
@@ -64,7 +74,7 @@ more-low : (s : Session) (c : Counts) → length (s .processes) ≡ maxProcesses
     → length (tallyLine c ++ boardLine s ++ seatLines 0 (take (s .n) (s .processes))) + lineRoom "outcome refused" 2 ≤ reportRoom
 more-low s c h =
     let tally = line-low "tally" (c .reads ∷ c .writes ∷ c .contested ∷ []) in
-    let board = line-low "board" (highestFilled s ∷ s .decision ∷ []) in
+    let board = board-low s in
     rw (length-append, length-append) (omega (arith, seats-low 0 (take (s .n) (s .processes)), length-take (s .n) (s .processes)))
 
 all-low : (e : Ending) (k : ℕ) (s : Session) (c : Counts) → length (s .processes) ≡ maxProcesses

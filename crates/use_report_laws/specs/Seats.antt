@@ -1,10 +1,10 @@
 -- The seats' lines, one after another.
 use Rattle.base.specs.Prelude.{ℕ, zero, suc, _+_, _≤_, _<_, zero-add, add-zero, add-suc, suc-add, not-suc-le-zero, le-of-suc-le-suc}
-use Rattle.base.specs.Prelude.{add-one, arith, _≡_, sym, ap, _∙_, List, [], _∷_, _++_, append-assoc, append-nil, length, getD, take}
+use Rattle.base.specs.Prelude.{add-one, arith, _≡_, List, [], _∷_, _++_, append-assoc, append-nil, length, getD, take}
 use Rattle.base.specs.Prelude.{take-all}
 use Rattle.model.specs.declared.Process.{Process}
 use Rattle.model_report.specs.Report.{bytes, field, newline, statusWords, seatLine, seatLines}
-use Rattle.use_text.specs.Page.{Put, after, same}
+use Rattle.use_text.specs.Page.{Put, after, after-parts}
 
 abbrev status : Process → List ℕ
 status q = statusWords (q .phase) (q .round) (q .estimate)
@@ -29,8 +29,7 @@ pub seat-put : (l : List Process) (d : Process) (p : ℕ) {a b m r : ℕ} {e x y
     → Put y m (status (getD l p d) ++ newline) z r
     → Put e a (seatLines 0 (take (p + 1) l)) z r
 seat-put l d p h u v w =
-    let line = same (sym (append-assoc (bytes "seat" ++ field p) (status (getD l p d)) newline)) (after v w) in
-    rw (add-one p, seats-more 0 p l d h, zero-add) (after u line)
+    rw (add-one p, seats-more 0 p l d h, zero-add) (after u (after-parts (status (getD l p d)) newline v w))
 
 -- Where every seat is put, none is left.
 pub seats-all : (l : List Process) (p n : ℕ) → length l ≤ p → p ≤ n → take n l ≡ take p l

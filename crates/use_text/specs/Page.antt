@@ -1,7 +1,7 @@
 -- A text put on a page, from a place on.
 use Rattle.base.specs.Prelude.{ℕ, zero, suc, _+_, _-_, _≤_, _<_, add-zero, add-suc, suc-add, zero-add, zero-sub, suc-sub-suc, sub-zero}
-use Rattle.base.specs.Prelude.{add-one, arith, _≡_, refl, sym, ap, _∙_, cond, List, [], _∷_, _++_, length, set, drop, replicate}
-use Rattle.base.specs.Prelude.{length-replicate, sets, sets-eq, ltb, lt-ltb}
+use Rattle.base.specs.Prelude.{add-one, arith, _≡_, refl, sym, ap, _∙_, cond, List, [], _∷_, _++_, append-assoc}
+use Rattle.base.specs.Prelude.{length, set, drop, replicate, length-replicate, sets, sets-eq, ltb, lt-ltb}
 
 -- How many bytes a page has.
 abbrev pub pageSize : ℕ
@@ -43,6 +43,10 @@ after {a} {e = e} {t = t} {u = u} p q =
 -- A text by another name.
 pub same : {a r : ℕ} {e t u x : List ℕ} → t ≡ u → Put e a t x r → Put e a u x r
 same h p = rw (← h) p
+
+-- One text behind another, the second of two parts.
+pub after-parts : {a b r : ℕ} {e t x y : List ℕ} (u v : List ℕ) → Put e a t x b → Put x b (u ++ v) y r → Put e a (t ++ u ++ v) y r
+after-parts {t = t} u v p q = same (sym (append-assoc t u v)) (after p q)
 
 -- No text.
 pub nothing : (e : List ℕ) (a : ℕ) → Put e a [] e a

@@ -4,7 +4,8 @@ use Rattle.base.specs.Prelude.{ℕ, _<_, sub-zero, arith, _≡_, refl, sym, _�
 use types.Run.{OneOf}
 use denote.Enum.Declared as Declared
 use Rattle.model.proofs.Operation as Operations
-use Rattle.model_laws.specs.Types.{Operation, Propose, Step, Learn, Crash, Entry, WellFormed}
+use Rattle.model.proofs.Entry as Entries
+use Rattle.model_laws.specs.Types.{Operation, Propose, Step, Learn, Crash, Entry, Acts, Closes, Malformed}
 use Rattle.model.specs.Runner.{runFrom}
 use Rattle.model.specs.Sheet.{entries}
 use Rattle.sheet_laws.specs.declared.Handed.the-variants.{Next}
@@ -12,7 +13,7 @@ use Rattle.sheet_laws.specs.Places.{handed, rest}
 use Rattle.sheet_laws.specs.PlaceLaws.{begin-rest, begin-proper}
 use Rattle.sheet_laws.specs.Entries.{isStep, step-refusal, step-leaves, step-counts, other-changes, other-stays, other-counts}
 use Rattle.sheet_laws.specs.Carried.{Carrying, Entered, entered-none, tallied}
-use Rattle.sheet_laws.specs.Carried.{ends, row-low, shorter, malformed, halted, due, refused, goes-on}
+use Rattle.sheet_laws.specs.Carried.{ends, row-low, shorter, malformed, close-spent, closes, halted, due, refused, goes-on}
 use Rattle.sheet_run.proofs.carry.Statement.{statement}
 use Rattle.sheet_run.proofs.carry.Tie as tie
 
@@ -26,7 +27,7 @@ abbrev μ-loop : tie.MeasureT-loop
 -- ---- what is known where the entry is to be tried
 
 abbrev Here : Type 0
-Here = tie.Else1 Inv-loop μ-loop
+Here = tie.Else2 Inv-loop μ-loop
 
 abbrev loop-of : Here → tie.At-loop Inv-loop μ-loop
 loop-of c = c .before .before .before .before .before .before .before .before .before .before
@@ -46,14 +47,14 @@ operation-of c = c .before .before .e2 .given .0 .0
 
 next-of : (c : Handed-out) →
     let l = c .before .before .before .before .before .before .before .before in
-    handed (l .before .before .before .args .sheet .now) (l .loop .place) ≡ Next (WellFormed (operation-of c))
+    handed (l .before .before .before .args .sheet .now) (l .loop .place) ≡ Next (Acts (operation-of c))
 next-of c =
     let h = c .before .before .before .before .before in
     sym (h .before .before .entry-at .ensures) ∙ h .e .given .1 ∙ ap Next (c .before .before .e2 .given .1)
 
 -- There is budget left, and its process is one of the n.
 due-of : (c : Here) → (loop-of c .loop .k < start-of c .args .budget) × (process-of c < loop-of c .loop .s .n)
-due-of c = due (loop-of c .loop .inv) (next-of (c .before .before)) (sym (c .before .halts .ensures) ∙ c .if1 .left)
+due-of c = due (loop-of c .loop .inv) (next-of (c .before .before)) (sym (c .before .halts .ensures) ∙ c .if2 .left)
 
 low : (c : Here) → process-of c < 64
 low c = row-low (loop-of c .loop .inv) (due-of c .1)
@@ -67,7 +68,7 @@ step-entered c =
     record {
       named = h .before .before .process-of .ensures;
       below = due-of h .1;
-      code = c .step-refusal .ensures ∙ step-refusal _ _ (c .before .before .o .given .1);
+      code = c .step-refusal .ensures ∙ step-refusal _ _ _ (c .before .before .o .given .1);
     }
 
 abbrev stored-at : tie.After-next Inv-loop μ-loop → Here
@@ -109,6 +110,12 @@ returns c =
     c .ran .ensures ∙ sym (ends (h .before .loop .inv) (sym (h .entry-at .ensures) ∙ c .before .enum-told .given .1))
 
 -- Budget ended, or malformed.
+malformed-tag : (e : Entry) → OneOf (1 ∷ 2 ∷ []) (Declared.tagOf Entries.the-type e) → OneOf (0 ∷ 2 ∷ []) (Declared.tagOf Entries.the-type e) →
+    e ≡ Malformed
+malformed-tag (Acts o) h k = absurd (⊎-elim (λ z. omega arith) (λ z. omega arith) h)
+malformed-tag Closes h k = absurd (⊎-elim (λ z. omega arith) (λ z. omega arith) k)
+malformed-tag Malformed h k = refl
+
 returns-2 : tie.Need-returns-2 Inv-loop μ-loop
 returns-2 c =
     let t = c .before .before in
@@ -116,44 +123,74 @@ returns-2 c =
     let l = h .before .before .before in
     c .ran2 .ensures
     ∙ rw (c .before .halt .ensures)
-    (sym (malformed (l .loop .inv) (sym (h .before .before .entry-at .ensures) ∙ h .e .given .1 ∙ ap Next (t .enum-told2 .given .1))))
+    (sym (malformed (l .loop .inv)
+    (sym (h .before .before .entry-at .ensures) ∙ h .e .given .1 ∙ ap Next (malformed-tag _ (t .before .match2 .keys2) (t .match3 .keys2)))))
 
--- Budget ended, or no such process.
+-- A close: budget ended, or one more is carried out.
+close-of : (c : tie.After-enum-told2 Inv-loop μ-loop) →
+    let l = c .before .before .before .before .before .before .before in
+    handed (l .before .before .before .args .sheet .now) (l .loop .place) ≡ Next Closes
+close-of c =
+    let h = c .before .before .before .before in
+    sym (h .before .before .entry-at .ensures) ∙ h .e .given .1 ∙ ap Next (c .enum-told2 .given .1)
+
 returns-3 : tie.Need-returns-3 Inv-loop μ-loop
 returns-3 c =
-    let t = c .before .before in
-    let h = t .before .before in
-    let l = h .before .before .before .before .before .before .before .before in
-    c .ran3 .ensures
-    ∙ rw (c .before .halt2 .ensures)
-    (sym (halted (l .loop .inv) (next-of h) (h .process-of .ensures) (sym (t .before .halts .ensures) ∙ t .if1 .taken)))
-
--- Refused.
-returns-4 : tie.Need-returns-4 Inv-loop μ-loop
-returns-4 c =
-    let f = c .before .before in
-    let h = f .before .before .before .before .before in
-    c .ran4 .ensures
-    ∙ sym (refused (loop-of h .loop .inv) (next-of (h .before .before)) (due-of h .0) (step-entered f) (c .before .if2 .taken))
-
-returns-5 : tie.Need-returns-5 Inv-loop μ-loop
-returns-5 c =
-    let f = c .before .before in
-    let h = f .before .before .before in
-    c .ran5 .ensures
-    ∙ sym (refused (loop-of h .loop .inv) (next-of (h .before .before)) (due-of h .0) (other-entered f) (c .before .if3 .taken))
+    let t = c .before in
+    let l = t .before .before .before .before .before .before .before .before in
+    c .ran3 .ensures ∙ sym (close-spent (l .loop .inv) (close-of (t .before)) (t .if1 .taken))
 
 add-k : tie.Need-add-k Inv-loop μ-loop
-add-k c = let h = c .before .before in omega (arith, due-of h .0, start-of h .fits .budget)
+add-k c = let l = c .before .before .before .before .before .before .before .before in omega (arith, c .if1 .left, l .before .before .before .fits .budget)
 
 loop-less : tie.Need-loop-less Inv-loop μ-loop
 loop-less c =
-    let h = c .before .before .before in
-    shorter (loop-of h .loop .inv) (next-of (h .before .before)) (c .place-after .ensures)
+    let e = c .before in
+    let l = e .before .before .before .before .before .before .before .before in
+    shorter (l .loop .inv) (close-of (e .before)) (c .place-after .ensures)
 
--- Carried out: a work turn, or any other operation, whose record changes or does not.
 loop-again : tie.Need-loop-again Inv-loop μ-loop
 loop-again c =
+    let e = c .before in
+    let l = e .before .before .before .before .before .before .before .before in
+    closes (l .loop .inv) (close-of (e .before)) (e .if1 .left) refl (c .place-after .ensures)
+
+-- Budget ended, or no such process.
+returns-4 : tie.Need-returns-4 Inv-loop μ-loop
+returns-4 c =
+    let t = c .before .before in
+    let h = t .before .before in
+    let l = h .before .before .before .before .before .before .before .before in
+    c .ran4 .ensures
+    ∙ rw (c .before .halt2 .ensures)
+    (sym (halted (l .loop .inv) (next-of h) (h .process-of .ensures) (sym (t .before .halts .ensures) ∙ t .if2 .taken)))
+
+-- Refused.
+returns-5 : tie.Need-returns-5 Inv-loop μ-loop
+returns-5 c =
+    let f = c .before .before in
+    let h = f .before .before .before .before .before in
+    c .ran5 .ensures
+    ∙ sym (refused (loop-of h .loop .inv) (next-of (h .before .before)) (due-of h .0) (step-entered f) (c .before .if3 .taken))
+
+returns-6 : tie.Need-returns-6 Inv-loop μ-loop
+returns-6 c =
+    let f = c .before .before in
+    let h = f .before .before .before in
+    c .ran6 .ensures
+    ∙ sym (refused (loop-of h .loop .inv) (next-of (h .before .before)) (due-of h .0) (other-entered f) (c .before .if4 .taken))
+
+add-k-2 : tie.Need-add-k-2 Inv-loop μ-loop
+add-k-2 c = let h = c .before .before in omega (arith, due-of h .0, start-of h .fits .budget)
+
+loop-less-2 : tie.Need-loop-less-2 Inv-loop μ-loop
+loop-less-2 c =
+    let h = c .before .before .before in
+    shorter (loop-of h .loop .inv) (next-of (h .before .before)) (c .place-after2 .ensures)
+
+-- Carried out: a work turn, or any other operation, whose record changes or does not.
+loop-again-2 : tie.Need-loop-again-2 Inv-loop μ-loop
+loop-again-2 c =
     let j = c .before in
     let h = j .before .before in
     let l = loop-of h .loop in
@@ -166,7 +203,7 @@ loop-again c =
     (step-entered
     (record {
       before = record {
-        before = record { before = record { before = j .before; match3 = w .0 }; o = w .1 };
+        before = record { before = record { before = j .before; match4 = w .0 }; o = w .1 };
         known-told3 = w .2;
       };
       step-refusal = w .3;
@@ -180,11 +217,11 @@ loop-again c =
     ∙ tallied f (step-counts W (l .s) (process-of h) _ (l .c) (l .inv .opened .sound) told (f .named) (w .5 .ensures) (w .7 .ensures .0)
     (w .9 .ensures .0))
     (w .12 .ensures))
-    (c .place-after .ensures))
+    (c .place-after2 .ensures))
     (λ w.
     let o = operation-of (h .before .before) in
     let other = other-tag o (w .0 .keys2) in
-    let f = entered-none (other-entered (record { before = record { before = j .before; match3 = w .0 }; refusal-of = w .1 }))
+    let f = entered-none (other-entered (record { before = record { before = j .before; match4 = w .0 }; refusal-of = w .1 }))
     (w .2 .left) in
     on f
     (w .8
@@ -193,8 +230,8 @@ loop-again c =
     (λ v. v .1 ∙ other-stays W (l .s) (process-of h) o other (sym (w .3 .ensures) ∙ v .0 .left))
     (w .4 .came))
     (w .7 ∙ tallied f (rw (w .5 .ensures) (other-counts (l .s) (l .c) o _ other)) (w .6 .ensures))
-    (c .place-after .ensures))
-    (j .match3 .came)
+    (c .place-after2 .ensures))
+    (j .match4 .came)
 
 -- In the order of the code.
 pub carry-spec : {M : Type 1} → statement M
@@ -202,10 +239,11 @@ carry-spec =
     tie.close
     (tie.spec Inv-loop μ-loop (λ c κs. search needs) loop-holds (λ c κs. search needs) (λ c. search needs) (λ c. search needs)
     (λ c κs. search needs) returns (λ c. search needs) (λ c. search needs) (λ c κs. search needs) (λ c κs. search needs) returns-2
-    (λ c κs. search needs) (λ c κs. search needs) (λ c κs. search needs) (λ c κs. search needs) returns-3 (λ c. omega (arith, low c)) low
-    (λ c. search needs) (λ c κs. search needs) (λ c κs. search needs) returns-4 (λ c κs. search needs) (λ c κs. search needs)
+    (λ c κs. search needs) returns-3 add-k (λ c κs. search needs) loop-less loop-again
+    (λ c κs. search needs) (λ c κs. search needs) (λ c κs. search needs) (λ c κs. search needs) returns-4 (λ c. omega (arith, low c)) low
+    (λ c. search needs) (λ c κs. search needs) (λ c κs. search needs) returns-5 (λ c κs. search needs) (λ c κs. search needs)
     (λ c κs. search needs) (λ c κs. search needs) (λ c κs. search needs) (λ c. omega (arith, low (stored-at c))) (λ c. low (stored-at c))
-    (λ c κs. search needs) (λ c κs. search needs) (λ c κs. search needs) returns-5 (λ c κs. search needs) (λ c κs. search needs)
+    (λ c κs. search needs) (λ c κs. search needs) (λ c κs. search needs) returns-6 (λ c κs. search needs) (λ c κs. search needs)
     (λ c. omega (arith, low (c .before .before .before .before .before .before .before)))
-    (λ c. low (c .before .before .before .before .before .before .before)) (λ c κs. search needs) (λ c κs. search needs) add-k
-    (λ c κs. search needs) loop-less loop-again)
+    (λ c. low (c .before .before .before .before .before .before .before)) (λ c κs. search needs) (λ c κs. search needs) add-k-2
+    (λ c κs. search needs) loop-less-2 loop-again-2)
