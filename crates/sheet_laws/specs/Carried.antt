@@ -168,11 +168,11 @@ module _ {answer : Ran} {t : List ℕ} {budget W : ℕ} {s : Session} {c : Count
     pub close-spent : budget ≤ k → answer ≡ ran k s c BudgetEnded
     close-spent = spent next
 
-    pub closes : {s₁ : Session} {next-place : ℕ} → k < budget → s₁ ≡ withClosed s → next-place ≡ advanced t place →
-        Carrying answer t budget W s₁ c (k + 1) next-place
+    pub closes : {s₁ : Session} {d : Counts} {next-place : ℕ} → k < budget → s₁ ≡ withClosed s → d ≡ c →
+        next-place ≡ advanced t place → Carrying answer t budget W s₁ d (k + 1) next-place
     unfolding runBy execute
-    closes left es ep =
-        carrying-at (sym es) refl (sym ep)
+    closes left es ed ep =
+        carrying-at (sym es) (sym ed) (sym ep)
         (record {
           same = here next left ∙ rw (add-one k);
           proper = advanced-proper t place (h .proper);

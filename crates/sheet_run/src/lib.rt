@@ -54,7 +54,33 @@ fn carry(sheet: &[u8], budget: usize, window: usize, mut s: Session, mut c: Coun
         let Handed::Next(e) = sheet_reader::entry_at(sheet, place) else {
             return ran(k, s, c, Ending::Finished);
         };
-        let Entry::Acts(o) = e else {
+        if let Entry::Acts(o) = e {
+            let p = entry::process_of(o);
+            if entry::halts(budget, k, s.n, p) {
+                return ran(k, s, c, entry::halt(budget, k, NO_SUCH_PROCESS));
+            }
+            let q = s.processes[p];
+            if let Operation::Step(_, leader) = o {
+                let code = entry::step_refusal(q, c);
+                if code != 0 {
+                    return ran(k, s, c, Ending::Refused(code, k));
+                }
+                let a = part_access::access(s.limit, q, leader);
+                let x = mark(value(&mut s.values, a, q.estimate), &mut s.marks, a);
+                s.decision = part_decision::decision(s.decision, a, q.estimate);
+                s.processes[p] = part_next::next(window, s.limit, q, leader, x);
+                c = part_counts::counted(a, x, c);
+            } else {
+                let code = entry::refusal_of(s.closed, q, c, o);
+                if code != 0 {
+                    return ran(k, s, c, Ending::Refused(code, k));
+                }
+                if entry::changes(s.decision, o) {
+                    s.processes[p] = entry::becomes(q, s.decision, o);
+                }
+                c = part_counts::counted(entry::access_of(o), 0, c);
+            }
+        } else {
             let Entry::Closes = e else {
                 return ran(k, s, c, entry::halt(budget, k, BAD_ENTRY));
             };
@@ -62,34 +88,6 @@ fn carry(sheet: &[u8], budget: usize, window: usize, mut s: Session, mut c: Coun
                 return ran(k, s, c, Ending::BudgetEnded);
             }
             s.closed = true;
-            k += 1;
-            place = sheet_reader::place_after(sheet, place);
-            continue;
-        };
-        let p = entry::process_of(o);
-        if entry::halts(budget, k, s.n, p) {
-            return ran(k, s, c, entry::halt(budget, k, NO_SUCH_PROCESS));
-        }
-        let q = s.processes[p];
-        if let Operation::Step(_, leader) = o {
-            let code = entry::step_refusal(q, c);
-            if code != 0 {
-                return ran(k, s, c, Ending::Refused(code, k));
-            }
-            let a = part_access::access(s.limit, q, leader);
-            let x = mark(value(&mut s.values, a, q.estimate), &mut s.marks, a);
-            s.decision = part_decision::decision(s.decision, a, q.estimate);
-            s.processes[p] = part_next::next(window, s.limit, q, leader, x);
-            c = part_counts::counted(a, x, c);
-        } else {
-            let code = entry::refusal_of(s.closed, q, c, o);
-            if code != 0 {
-                return ran(k, s, c, Ending::Refused(code, k));
-            }
-            if entry::changes(s.decision, o) {
-                s.processes[p] = entry::becomes(q, s.decision, o);
-            }
-            c = part_counts::counted(entry::access_of(o), 0, c);
         }
         k += 1;
         place = sheet_reader::place_after(sheet, place);
