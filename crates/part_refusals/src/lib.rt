@@ -26,10 +26,11 @@ fn is_out(phase: Phase) -> bool
 pub fn propose_refusal(closed: bool, v: u32, phase: Phase) -> u32
     ensures { λ r. ⌜ r ≡ refusal (proposeTests closed phase v) ⌝ }
 {
+    let out = is_out(phase);
     if v == 0 {
         return BLANK_PROPOSAL;
     }
-    if !is_out(phase) {
+    if !out {
         return SECOND_PROPOSAL;
     }
     if closed {

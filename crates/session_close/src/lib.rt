@@ -9,13 +9,13 @@ use model::numbers::UNSOUND;
 pub fn close(s: Session) -> Changed
     ensures { λ r. ⌜ r ≡ closeOf s ⌝ }
 {
-    if !session_sound::sound(s) {
+    let mut after = s;
+    if !session_sound::sound(after) {
         return Changed {
             code: UNSOUND,
-            session: s,
+            session: after,
         };
     }
-    let mut after = s;
     after.closed = true;
     Changed {
         code: 0,

@@ -10,19 +10,19 @@ blank c = rw (eq-eqb _ _ (c .if1 .taken)) refl
 -- 6.
 second : tie.Need-returns-2
 second c =
-    let out = c .before in
-    rw (ne-eqb _ _ (out .before .if1 .left), sym (out .is-out .ensures) ∙ not-true _ (c .if2 .taken)) refl
+    let some = c .before in
+    rw (ne-eqb _ _ (some .if1 .left), sym (some .before .is-out .ensures) ∙ not-true _ (c .if2 .taken)) refl
 
--- 18.
+-- 18, and none.
 closed : tie.Need-returns-3
 closed c =
-    let out = c .before .before in
-    rw (ne-eqb _ _ (out .before .if1 .left), sym (out .is-out .ensures) ∙ not-false _ (c .before .if2 .left), c .if3 .taken) refl
+    let some = c .before .before in
+    rw (ne-eqb _ _ (some .if1 .left), sym (some .before .is-out .ensures) ∙ not-false _ (c .before .if2 .left), c .if3 .taken) refl
 
 accepted : tie.Need-returns-4
 accepted c =
-    let out = c .before .before in
-    rw (ne-eqb _ _ (out .before .if1 .left), sym (out .is-out .ensures) ∙ not-false _ (c .before .if2 .left), c .if3 .left) refl
+    let some = c .before .before in
+    rw (ne-eqb _ _ (some .if1 .left), sym (some .before .is-out .ensures) ∙ not-false _ (c .before .if2 .left), c .if3 .left) refl
 
 pub propose-refusal-spec : {M : Type 1} → statement M
-propose-refusal-spec = tie.close (tie.spec blank (λ c κs. search needs) second closed accepted)
+propose-refusal-spec = tie.close (tie.spec (λ c κs. search needs) blank second closed accepted)
