@@ -97,9 +97,9 @@ static void closes(void)
     end_at(sheet_length - JANUS_ENTRY_LENGTH);
     work(0, janus_turns_alone(2) - 2);
     add(JANUS_LOOK, 0, 0);
-    lines("a decision when closed", "outcome finished 23\ntally 17 4 0\nboard 3 7 closed\nseat 0 decided 7\nseat 1 out\n");
+    lines("a decision when closed", "outcome finished 23\ntally 16 4 0\nboard 3 7 closed\nseat 0 decided 7\nseat 1 out\n");
     add(JANUS_CLOSE, 0, 64);
-    lines("a close with a value", "outcome refused 13 23\ntally 17 4 0\nboard 3 7 closed\nseat 0 decided 7\nseat 1 out\n");
+    lines("a close with a value", "outcome refused 13 23\ntally 16 4 0\nboard 3 7 closed\nseat 0 decided 7\nseat 1 out\n");
 }
 
 /* Both seats mark round 1, as in examples/flag_twice.txt: two register writes, one contested round. */
