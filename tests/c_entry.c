@@ -272,7 +272,7 @@ static void close_again(const char *what)
     written(what, JANUS_FINISHED, entries + 1);
 }
 
-/* All but proposals goes on in a closed session: seat 0 works to its commit, looks and decides as in an open one. */
+/* All but proposals goes on in a closed session: seat 0 works to its commit, looks and decides as in an open one. Nothing opens it. */
 static void closes(void)
 {
     start(2, 3);
@@ -288,13 +288,17 @@ static void closes(void)
     closed_to_proposals();
     out_for_good();
     work(0, 18);
+    closed_to_proposals();
     add(JANUS_LOOK, 0, 0);
     written("a look before the commit, closed", JANUS_FINISHED, ALL);
+    closed_to_proposals();
     work(0, 1);
+    closed_to_proposals();
     close_again("a close behind a commit");
     add(JANUS_LOOK, 0, 0);
     decided[0] = 7;
     written("a look behind the commit, closed", JANUS_FINISHED, ALL);
+    closed_to_proposals();
     close_again("a close behind a decision");
     closed_to_proposals();
     out_for_good();
@@ -303,6 +307,11 @@ static void closes(void)
 /* Spent and crashed seats in a closed session: the same numbers as in an open one. */
 static void ended_when_closed(void)
 {
+    start(2, 3);
+    add(JANUS_PROPOSE, 0, 7);
+    add(JANUS_CLOSE, 0, 0);
+    add(JANUS_CRASH, 0, 0);
+    closed_to_proposals();
     start_solo();
     add(JANUS_CLOSE, 0, 0);
     work(0, 1);
