@@ -1,6 +1,6 @@
 /*
- * Writes a sheet, runs it and prints who decided what: seat 0 proposes 7 and works alone until it has committed; both seats then
- * look, seat 1 after a proposal of its own, 9. C and C++.
+ * Writes a sheet, runs it and prints who decided what: seat 0 proposes 7 and seat 1 proposes 9; the session is closed, so that
+ * nobody else may propose; seat 0 works alone until it has committed; both seats then look. C and C++.
  */
 #include <stdio.h>
 
@@ -32,10 +32,11 @@ int main(void)
     size_t size = 0;
 
     add_entry(JANUS_PROPOSE, 0, 7);
+    add_entry(JANUS_PROPOSE, 1, 9);
+    add_entry(JANUS_CLOSE, 0, 0);
     for (unsigned i = 0; i < janus_turns_alone(SEATS); i++)
         add_entry(JANUS_WORK, 0, JANUS_HINT_YES);
     add_entry(JANUS_LOOK, 0, 0);
-    add_entry(JANUS_PROPOSE, 1, 9);
     add_entry(JANUS_LOOK, 1, 0);
 
     /* All entries in one run. */

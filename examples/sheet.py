@@ -9,6 +9,7 @@ usage: sheet.py [LIST [SHEET]]      standard input and standard output where lef
     work 0 yes         # SEAT HINT, yes or no
     look 0             # SEAT
     crash 1            # SEAT
+    close              # of no seat: the session takes no further proposal (document 02, wish 10)
     entry 9 0 4        # KIND SEAT VALUE, any bytes at all
     run                # the entries below form a new run, with its own pair
 
@@ -26,7 +27,7 @@ import sys
 MOST = {"n": 255, "L": 65_535, "kind": 255, "seat": 255, "value": 4_294_967_295}
 MOST_RUNS = 255
 MOST_PLACE = 65_535
-KINDS = {"propose": 0, "work": 1, "look": 2, "crash": 3}
+KINDS = {"propose": 0, "work": 1, "look": 2, "crash": 3, "close": 4}
 HINTS = {"no": 0, "yes": 1}
 # The words that follow the first one of an entry's line.
 SHAPES = {
@@ -34,6 +35,7 @@ SHAPES = {
     "work": ("seat", "hint"),
     "look": ("seat",),
     "crash": ("seat",),
+    "close": (),
     "entry": ("kind", "seat", "value"),
 }
 # The first words of the other lines.
@@ -72,10 +74,10 @@ def entry(words, kinds=KINDS, shapes=SHAPES, others=(*SIZES, RUN)):
     if shape is None:
         raise Wrong(f"{name} is none of {', '.join([*others, *shapes])}")
     if len(rest) != len(shape):
-        raise Wrong(f"{name} takes {' '.join(shape).upper()}, not {' '.join(rest) or 'nothing'}")
+        raise Wrong(f"{name} takes {' '.join(shape).upper() or 'nothing'}, not {' '.join(rest) or 'nothing'}")
     parts = {what: part(what, word) for what, word in zip(shape, rest)}
     kind = parts.get("kind", kinds.get(name))
-    return struct.pack("<BBI", kind, parts["seat"], parts.get("value", parts.get("hint", 0)))
+    return struct.pack("<BBI", kind, parts.get("seat", 0), parts.get("value", parts.get("hint", 0)))
 
 
 class Lines:

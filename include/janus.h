@@ -1,10 +1,10 @@
 /*
  * janus.h: up to 64 seats agree on one number. For C99 and C++11 and later, on x86-64.
  *
- * A session is one agreement between n seats over rounds 1 to L. A sheet lists what the seats do, in order: propose a number, take
- * a work turn, look at the decision, crash. janus_write makes a sheet of a list of entries. janus_run opens a session, carries the
- * sheet's entries out one after another and writes down which seats have decided, and on what number. janus_report runs a sheet
- * too and writes the board report's text.
+ * A session is one agreement between n seats over rounds 1 to L. A sheet lists what happens, in order: a seat proposes a number,
+ * takes a work turn, looks at the decision or crashes; or the session is closed, and takes no further proposal. janus_write makes
+ * a sheet of a list of entries. janus_run opens a session, carries the sheet's entries out one after another and writes down which
+ * seats have decided, and on what number. janus_report runs a sheet too and writes the board report's text.
  *
  * THE GUARANTEE
  *
@@ -32,6 +32,13 @@
  *   kind 1  work turn  value: the leader hint, 0 no, 1 yes
  *   kind 2  look       value: 0
  *   kind 3  crash      value: 0
+ *   kind 4  close      seat: 0, whatever n is; value: 0
+ *
+ *   A session is open at first. A close is told to the session and to no seat. It closes the session, also where it is closed
+ *   already. From then on every proposal is refused, with 18 where nothing else is wrong with it, and all else goes on as in an open
+ *   session. A close touches no register; it is an entry like the others, in the budget too. (Up to version 1.3 there was no kind 4:
+ *   janus_write refused such an entry with 13, and janus_run stopped at it with 13. A sheet without one is run as before; of its
+ *   report the line "board" has one word more.)
  *
  *   A run may have length 0. Bytes in no run are ignored. A sheet has 4 to 65,535 bytes, so it has 10,921 entries at most.
  *   janus_write makes the header and the pairs, so that nobody counts offsets by hand.
@@ -50,8 +57,8 @@
 #include <stdint.h>
 
 #define JANUS_VERSION_MAJOR 1
-#define JANUS_VERSION_MINOR 3
-#define JANUS_VERSION "1.3"
+#define JANUS_VERSION_MINOR 4
+#define JANUS_VERSION "1.4"
 
 #define JANUS_SEATS_MAX 64
 #define JANUS_ROUNDS_MAX 256
@@ -66,16 +73,16 @@
 /* The bytes of a sheet that janus_write makes of so many runs and entries. */
 #define JANUS_SHEET_SIZE(runs, entries) (4u + 4u * (runs) + 6u * (entries))
 
-enum { JANUS_PROPOSE = 0, JANUS_WORK = 1, JANUS_LOOK = 2, JANUS_CRASH = 3 };
+enum { JANUS_PROPOSE = 0, JANUS_WORK = 1, JANUS_LOOK = 2, JANUS_CRASH = 3, JANUS_CLOSE = 4 };
 enum { JANUS_HINT_NO = 0, JANUS_HINT_YES = 1 };
 
 /*
  * WHAT JANUS_RUN AND JANUS_WRITE RETURN: names, numbers and words
  *
  * The tests of janus_run are made in this order: 15; 10; 1; 2; 11 over all pairs; 12 over all runs. Then entry by entry: 13; for a
- * proposal 4, 5, 6, for a work turn 4, 7, 8, 9, for a look or a crash 4, 7, 8. The first refused entry ends the run. Those of
- * janus_write: 1; 2; 12; 17; 13 over all entries; 15; refused, it changes nothing. The numbers 3, 14 and 16 of the scope document
- * are for callers that hold a session; neither function returns them.
+ * proposal 4, 5, 6, 18, for a work turn 4, 7, 8, 9, for a look or a crash 4, 7, 8, for a close no other. The first refused entry
+ * ends the run. Those of janus_write: 1; 2; 12; 17; 13 over all entries; 15; refused, it changes nothing. The numbers 3, 14 and 16
+ * of the scope document are for callers that hold a session; neither function returns them.
  */
 #define JANUS_RESULTS(X)                                                                                                    \
     X(JANUS_FINISHED, 0, "finished")                                                                                        \
@@ -89,10 +96,11 @@ enum { JANUS_HINT_NO = 0, JANUS_HINT_YES = 1 };
     X(JANUS_BAD_RUN, 12, "length of a run, or of the entries to be written, not a multiple of 6")                           \
     X(JANUS_BAD_CUTS, 17, "over 16 runs or 65,535 bytes to be written, or run lengths that do not add up to the entries")   \
     /* An entry is refused. janus_run: those before it were carried out, and the buffer tells how they left the seats. */   \
-    X(JANUS_BAD_ENTRY, 13, "entry with an unknown kind or a wrong value")                                                   \
+    X(JANUS_BAD_ENTRY, 13, "entry with an unknown kind or a wrong value, or a close with a seat other than 0")              \
     X(JANUS_NO_SUCH_SEAT, 4, "seat number n or above")                                                                      \
     X(JANUS_BLANK_PROPOSAL, 5, "proposal of 0")                                                                             \
     X(JANUS_SECOND_PROPOSAL, 6, "proposal by a seat that has proposed")                                                     \
+    X(JANUS_CLOSED_TO_PROPOSALS, 18, "proposal to a closed session")                                                        \
     X(JANUS_SEAT_OUT, 7, "work turn, look or crash of a seat that has not proposed")                                        \
     X(JANUS_SEAT_GONE, 8, "work turn, look or crash of a seat that has crashed or decided")                                 \
     X(JANUS_SEAT_SPENT, 9, "work turn of a seat whose rounds are spent")
@@ -119,11 +127,12 @@ extern "C" {
  *   12  `entries_length`, in bytes, is a multiple of 6
  *   17  there are 16 runs or less, the sheet has 65,535 bytes or less, and the run lengths add up to the entries; they may be of
  *       any size, and a sum above SIZE_MAX does not add up
- *   13  each entry is of a known kind, with a value that its kind may have
+ *   13  each entry is of a known kind, with a value that its kind may have; a close has seat 0
  *   15  `sheet_length` is the sheet's size or more
  *
- * Nothing else of an entry is tested: a seat of n or above and a proposal of 0 are written, and refused when the sheet is run. No
- * runs and no entries make a sheet of 4 bytes. Entries are carried out alike however they are cut; one run for all will do:
+ * Nothing else of an entry is tested: a seat of n or above, a proposal of 0 and one behind a close are written, and refused when
+ * the sheet is run. No runs and no entries make a sheet of 4 bytes. Entries are carried out alike however they are cut; one run for
+ * all will do:
  *
  *   size_t run = COUNT, size;
  *   uint8_t sheet[JANUS_SHEET_SIZE(1, COUNT)];
@@ -142,7 +151,8 @@ uint32_t janus_write(size_t seats, size_t limit, const uint8_t *entries, size_t 
  * The sheet as a whole is tested whatever the budget. Every call starts from an empty board: to go on, run a longer sheet.
  *
  * After 0, 100 and a refused entry all 256 bytes of the buffer are written: bytes 4s to 4s + 3 hold seat s's decided number,
- * little-endian, or 0 where seat s has not decided (or does not exist), for s from 0 to 63.
+ * little-endian, or 0 where seat s has not decided (or does not exist), for s from 0 to 63. They do not tell whether the session is
+ * closed; the report does.
  */
 uint32_t janus_run(const uint8_t *sheet, size_t sheet_length, size_t budget, uint8_t *buffer, size_t buffer_length) JANUS_NOEXCEPT;
 
@@ -153,7 +163,9 @@ uint32_t janus_run(const uint8_t *sheet, size_t sheet_length, size_t budget, uin
  *
  * The text tells which entry was refused: its first line is then "outcome refused CODE INDEX", with indices from 0. The other
  * first lines are "outcome finished" and the number of entries carried out, and, alone, "sheet refused CODE". The line "tally" has
- * the register reads, the register writes and contested, which is the number of marked rounds on the board.
+ * the register reads, the register writes and contested, which is the number of marked rounds on the board. The line "board" has
+ * three fields: the highest filled round, 0 for none; the number in the decision register, 0 for none; and "open" or "closed", which
+ * the session is at the end. (Up to version 1.3 it had the first two alone.)
  */
 size_t janus_report(const uint8_t *sheet, size_t sheet_length, uint8_t *buffer, size_t buffer_length) JANUS_NOEXCEPT;
 
@@ -227,6 +239,8 @@ static inline const char *janus_result_text(uint32_t number)
  *   The hint is read between rounds only, while rounds are left: with hint no a seat finishes its round, then waits. Seats that get
  *   hint yes by turns may hinder each other until their rounds are spent, so a run may end undecided: 0 is returned and the buffer
  *   holds no number. Run a sheet with a larger L, or one in which the hint stays longer with one seat.
+ *
+ *   A close changes none of these figures: seats that have proposed work and look in a closed session as in an open one.
  *
  *   Work turns after the commit do no harm while rounds are left. Once a seat has finished round L, its next work turn makes it
  *   spent, whatever the hint (up to version 1.1: with hint yes alone), and each one after that stops the sheet with 9. A spent seat

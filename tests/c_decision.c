@@ -1,7 +1,7 @@
 /*
  * Checks what janus.h says of decisions: the window of every number of seats, the turns of a seat that works alone, on an empty
- * board and on one in use, the spent seat, and the guarantee on random sheets. Prints the header's table, for the script to
- * look up.
+ * board and on one in use, the spent seat, all of it in open sessions and in closed ones, and the guarantee on random sheets. Prints
+ * the header's table, for the script to look up.
  */
 #include "c_sheet.h"
 
@@ -12,11 +12,15 @@ static uint32_t run(void)
     return janus_run(sheet, sheet_length, JANUS_ENTRIES_MAX, buffer, sizeof buffer);
 }
 
+static int closed; /* whether the sheet of one seat closes the session behind the proposal */
+
 /* One seat proposes, works alone, goes on with hint no and looks. */
 static uint32_t unled(uint8_t n, uint16_t limit, unsigned turns, unsigned more)
 {
     begin(n, limit);
     add(JANUS_PROPOSE, 0, 7);
+    if (closed)
+        add(JANUS_CLOSE, 0, 0);
     work(0, turns);
     for (unsigned i = 0; i < more; i++)
         add(JANUS_WORK, 0, JANUS_HINT_NO);
@@ -125,7 +129,8 @@ static int guaranteed(void)
 int main(void)
 {
     unsigned decisions = 0;
-    windows();
+    for (closed = 0; closed < 2; closed++)
+        windows();
     named_windows();
     for (int i = 0; i < 500; i++)
         used_board();

@@ -206,8 +206,9 @@ static void refused(const char *what, uint32_t code, uint8_t kind, uint8_t seat,
 static void malformed(void)
 {
     start(1, 2);
-    refused("an unknown kind", JANUS_BAD_ENTRY, 4, 0, 0);
-    refused("an unknown kind of a seat that is not there", JANUS_BAD_ENTRY, 4, 9, 0);
+    refused("an unknown kind", JANUS_BAD_ENTRY, 5, 0, 0);
+    refused("an unknown kind of a seat that is not there", JANUS_BAD_ENTRY, 5, 9, 0);
+    refused("the last kind of a byte", JANUS_BAD_ENTRY, 255, 0, 0);
     refused("a hint of 2", JANUS_BAD_ENTRY, JANUS_WORK, 0, 2);
     refused("a hint of 256", JANUS_BAD_ENTRY, JANUS_WORK, 0, 256);
     refused("a look with a value", JANUS_BAD_ENTRY, JANUS_LOOK, 0, 1);
@@ -227,6 +228,100 @@ static void proposals(void)
     add(JANUS_PROPOSE, 1, 5);
     refused("a second proposal", JANUS_SECOND_PROPOSAL, JANUS_PROPOSE, 1, 5);
     refused("a second proposal, of 0", JANUS_BLANK_PROPOSAL, JANUS_PROPOSE, 1, 0);
+}
+
+/* A close names no seat and has no value: kind 4 with another seat or value is malformed, in an open session and in a closed one. */
+static void malformed_closes(void)
+{
+    refused("a close with seat 1", JANUS_BAD_ENTRY, JANUS_CLOSE, 1, 0);
+    refused("a close with seat n", JANUS_BAD_ENTRY, JANUS_CLOSE, 2, 0);
+    refused("a close with seat 64", JANUS_BAD_ENTRY, JANUS_CLOSE, JANUS_SEATS_MAX, 0);
+    refused("a close with seat 255", JANUS_BAD_ENTRY, JANUS_CLOSE, 255, 0);
+    refused("a close with the value 1", JANUS_BAD_ENTRY, JANUS_CLOSE, 0, 1);
+    refused("a close with the value 256", JANUS_BAD_ENTRY, JANUS_CLOSE, 0, 256);
+    refused("a close with the largest value", JANUS_BAD_ENTRY, JANUS_CLOSE, 0, UINT32_MAX);
+    refused("a close with a seat and a value", JANUS_BAD_ENTRY, JANUS_CLOSE, 255, 1);
+}
+
+/* Of two seats, seat 0 has proposed and seat 1 has not. No proposal is accepted; 4, 5 and 6 are tested before 18. */
+static void closed_to_proposals(void)
+{
+    refused("a late proposal", JANUS_CLOSED_TO_PROPOSALS, JANUS_PROPOSE, 1, 7);
+    refused("a late proposal of the largest number", JANUS_CLOSED_TO_PROPOSALS, JANUS_PROPOSE, 1, UINT32_MAX);
+    refused("a late proposal by seat n", JANUS_NO_SUCH_SEAT, JANUS_PROPOSE, 2, 7);
+    refused("a late proposal of 0 by seat n", JANUS_NO_SUCH_SEAT, JANUS_PROPOSE, 2, 0);
+    refused("a late proposal of 0", JANUS_BLANK_PROPOSAL, JANUS_PROPOSE, 1, 0);
+    refused("a late second proposal", JANUS_SECOND_PROPOSAL, JANUS_PROPOSE, 0, 7);
+    refused("a late second proposal, of 0", JANUS_BLANK_PROPOSAL, JANUS_PROPOSE, 0, 0);
+}
+
+/* A seat that is out when the session is closed stays out. */
+static void out_for_good(void)
+{
+    refused("a work turn of a seat that may not propose", JANUS_SEAT_OUT, JANUS_WORK, 1, JANUS_HINT_YES);
+    refused("its look", JANUS_SEAT_OUT, JANUS_LOOK, 1, 0);
+    refused("its crash", JANUS_SEAT_OUT, JANUS_CRASH, 1, 0);
+}
+
+/* A close counts as an entry, and it is accepted whatever has happened, a second time too. */
+static void close_again(const char *what)
+{
+    const size_t entries = (sheet_length - HEADER) / JANUS_ENTRY_LENGTH;
+    add(JANUS_CLOSE, 0, 0);
+    written(what, JANUS_BUDGET_ENDED, entries);
+    written(what, JANUS_FINISHED, entries + 1);
+}
+
+/* All but proposals goes on in a closed session: seat 0 works to its commit, looks and decides as in an open one. Nothing opens it. */
+static void closes(void)
+{
+    start(2, 3);
+    malformed_closes();
+    close_again("a close of a session just opened");
+    refused("a proposal behind a close", JANUS_CLOSED_TO_PROPOSALS, JANUS_PROPOSE, 0, 7);
+    start(2, 3);
+    add(JANUS_PROPOSE, 0, 7);
+    close_again("a close behind a proposal");
+    malformed_closes();
+    closed_to_proposals();
+    close_again("a second close");
+    closed_to_proposals();
+    out_for_good();
+    work(0, 18);
+    closed_to_proposals();
+    add(JANUS_LOOK, 0, 0);
+    written("a look before the commit, closed", JANUS_FINISHED, ALL);
+    closed_to_proposals();
+    work(0, 1);
+    closed_to_proposals();
+    close_again("a close behind a commit");
+    add(JANUS_LOOK, 0, 0);
+    decided[0] = 7;
+    written("a look behind the commit, closed", JANUS_FINISHED, ALL);
+    closed_to_proposals();
+    close_again("a close behind a decision");
+    closed_to_proposals();
+    out_for_good();
+}
+
+/* Spent and crashed seats in a closed session: the same numbers as in an open one. */
+static void ended_when_closed(void)
+{
+    start(2, 3);
+    add(JANUS_PROPOSE, 0, 7);
+    add(JANUS_CLOSE, 0, 0);
+    add(JANUS_CRASH, 0, 0);
+    closed_to_proposals();
+    start_solo();
+    add(JANUS_CLOSE, 0, 0);
+    work(0, 1);
+    refused("a work turn of a seat spent when closed", JANUS_SEAT_SPENT, JANUS_WORK, 0, JANUS_HINT_NO);
+    add(JANUS_CRASH, 0, 0);
+    written("a crash when closed", JANUS_FINISHED, ALL);
+    close_again("a close behind a crash");
+    refused("a work turn behind a crash, closed", JANUS_SEAT_GONE, JANUS_WORK, 0, JANUS_HINT_YES);
+    refused("a look behind a crash, closed", JANUS_SEAT_GONE, JANUS_LOOK, 0, 0);
+    refused("a proposal behind a crash, closed", JANUS_SECOND_PROPOSAL, JANUS_PROPOSE, 0, 7);
 }
 
 /* Three turns that no seat takes once it has crashed or decided. */
@@ -260,7 +355,7 @@ static void walks(void)
     spent(JANUS_HINT_NO);
     spent(JANUS_HINT_YES);
     gone("a decided seat");
-    refused("an unknown kind after a decision", JANUS_BAD_ENTRY, 4, 0, 0);
+    refused("an unknown kind after a decision", JANUS_BAD_ENTRY, 5, 0, 0);
     refused("a proposal after a decision", JANUS_SECOND_PROPOSAL, JANUS_PROPOSE, 0, 8);
 }
 
@@ -276,6 +371,11 @@ static void fresh_boards(void)
     add(JANUS_PROPOSE, 0, 8);
     add(JANUS_LOOK, 0, 0);
     written("a look at an empty board, after a decision", JANUS_FINISHED, ALL);
+    add(JANUS_CLOSE, 0, 0);
+    written("a close", JANUS_FINISHED, ALL);
+    start(1, 2);
+    add(JANUS_PROPOSE, 0, 8);
+    written("a proposal in an open session, after a closed one", JANUS_FINISHED, ALL);
 }
 
 /* Seat 1 has written first, so seat 0 adopts its number and commits it. */
@@ -309,7 +409,7 @@ static void last_seat(void)
 /* Each number has words of its own, and the numbers are those of the scope document. */
 static void words(void)
 {
-    const uint32_t numbers[] = {0, 1, 2, 4, 5, 6, 7, 8, 9, 10, 11, 12, 13, 15, 17, 100};
+    const uint32_t numbers[] = {0, 1, 2, 4, 5, 6, 7, 8, 9, 10, 11, 12, 13, 15, 17, 18, 100};
     const size_t count = sizeof numbers / sizeof *numbers;
     const char *none = janus_result_text(UINT32_MAX);
     for (size_t i = 0; i < count; i++) {
@@ -320,6 +420,7 @@ static void words(void)
     check(strcmp(janus_result_text(3), none) == 0, "the words of 3", "there are none");
     check(strcmp(janus_result_text(16), none) == 0, "the words of 16", "there are none");
     check(strcmp(janus_result_text(JANUS_BLANK_PROPOSAL), "proposal of 0") == 0, "the words of 5", "as in the table");
+    check(strcmp(janus_result_text(18), "proposal to a closed session") == 0, "the words of 18", "as in the table");
 }
 
 static void version(void)
@@ -341,6 +442,8 @@ int main(void)
     order();
     malformed();
     proposals();
+    closes();
+    ended_when_closed();
     walks();
     fresh_boards();
     agreement();

@@ -40,13 +40,13 @@ static void decision(void)
     work(0, 12);
     add(JANUS_LOOK, 0, 0);
     check(sheet_length == 92, "a decision", "92 bytes");
-    lines("a decision", "outcome finished 14\ntally 10 3 0\nboard 2 7\nseat 0 decided 7\n");
+    lines("a decision", "outcome finished 14\ntally 10 3 0\nboard 2 7 open\nseat 0 decided 7\n");
 }
 
 /* Over the limits of the bedside cart (02, wish 9), within the server's. */
 static void server_limits(void)
 {
-    const char opened[] = "outcome finished 0\ntally 0 0 0\nboard 0 0\nseat 0 out\n";
+    const char opened[] = "outcome finished 0\ntally 0 0 0\nboard 0 0 open\nseat 0 out\n";
     const uint16_t sizes[][2] = {{16, 65}, {17, 64}, {JANUS_SEATS_MAX, JANUS_ROUNDS_MAX}};
     for (size_t i = 0; i < sizeof sizes / sizeof *sizes; i++) {
         header((uint8_t)sizes[i][0], 0, sizes[i][1], 4);
@@ -71,9 +71,35 @@ static void refused_entries(void)
     begin(2, 3);
     add(JANUS_PROPOSE, 0, 4294967295u);
     add(JANUS_PROPOSE, 0, 5);
-    lines("a second proposal", "outcome refused 6 1\ntally 0 0 0\nboard 0 0\nseat 0 working 0 4294967295\nseat 1 out\n");
-    sheet[HEADER] = 4;
-    lines("an unknown kind", "outcome refused 13 0\ntally 0 0 0\nboard 0 0\nseat 0 out\nseat 1 out\n");
+    lines("a second proposal", "outcome refused 6 1\ntally 0 0 0\nboard 0 0 open\nseat 0 working 0 4294967295\nseat 1 out\n");
+    sheet[HEADER] = 5;
+    lines("an unknown kind", "outcome refused 13 0\ntally 0 0 0\nboard 0 0 open\nseat 0 out\nseat 1 out\n");
+}
+
+/* The third field of the board line: "open" until a close is carried out, "closed" from then on, whatever comes. */
+static void closes(void)
+{
+    begin(2, 3);
+    lines("open at first", "outcome finished 0\ntally 0 0 0\nboard 0 0 open\nseat 0 out\nseat 1 out\n");
+    add(JANUS_CLOSE, 1, 0);
+    lines("a close with a seat", "outcome refused 13 0\ntally 0 0 0\nboard 0 0 open\nseat 0 out\nseat 1 out\n");
+    begin(2, 3);
+    add(JANUS_CLOSE, 0, 0);
+    lines("a close", "outcome finished 1\ntally 0 0 0\nboard 0 0 closed\nseat 0 out\nseat 1 out\n");
+    begin(2, 3);
+    add(JANUS_PROPOSE, 0, 7);
+    add(JANUS_CLOSE, 0, 0);
+    add(JANUS_CLOSE, 0, 0);
+    lines("a second close", "outcome finished 3\ntally 0 0 0\nboard 0 0 closed\nseat 0 working 0 7\nseat 1 out\n");
+    work(0, 2);
+    add(JANUS_PROPOSE, 1, 8);
+    lines("a late proposal", "outcome refused 18 5\ntally 1 1 0\nboard 1 0 closed\nseat 0 working 1 7\nseat 1 out\n");
+    end_at(sheet_length - JANUS_ENTRY_LENGTH);
+    work(0, janus_turns_alone(2) - 2);
+    add(JANUS_LOOK, 0, 0);
+    lines("a decision when closed", "outcome finished 23\ntally 16 4 0\nboard 3 7 closed\nseat 0 decided 7\nseat 1 out\n");
+    add(JANUS_CLOSE, 0, 64);
+    lines("a close with a value", "outcome refused 13 23\ntally 16 4 0\nboard 3 7 closed\nseat 0 decided 7\nseat 1 out\n");
 }
 
 /* Both seats mark round 1, as in examples/flag_twice.txt: two register writes, one contested round. */
@@ -87,15 +113,15 @@ static void marks(void)
     work(0, 1);
     work(1, 1);
     work(0, 1);
-    lines("a flag", "outcome finished 7\ntally 3 2 0\nboard 1 0\nseat 0 working 1 3\nseat 1 working 1 8\n");
+    lines("a flag", "outcome finished 7\ntally 3 2 0\nboard 1 0 open\nseat 0 working 1 3\nseat 1 working 1 8\n");
     work(0, 1);
-    lines("a mark", "outcome finished 8\ntally 3 3 1\nboard 1 0\nseat 0 working 1 3\nseat 1 working 1 8\n");
+    lines("a mark", "outcome finished 8\ntally 3 3 1\nboard 1 0 open\nseat 0 working 1 3\nseat 1 working 1 8\n");
     work(1, 1);
     work(0, 2);
     work(1, 5);
-    lines("a second flag", "outcome finished 16\ntally 10 4 1\nboard 2 0\nseat 0 working 2 3\nseat 1 working 2 3\n");
+    lines("a second flag", "outcome finished 16\ntally 10 4 1\nboard 2 0 open\nseat 0 working 2 3\nseat 1 working 2 3\n");
     work(1, 1);
-    lines("a second mark", "outcome finished 17\ntally 10 5 1\nboard 2 0\nseat 0 working 2 3\nseat 1 working 2 3\n");
+    lines("a second mark", "outcome finished 17\ntally 10 5 1\nboard 2 0 open\nseat 0 working 2 3\nseat 1 working 2 3\n");
 }
 
 /* Every word that a seat can get. */
@@ -108,7 +134,7 @@ static void standings(void)
     work(1, 1);
     add(JANUS_CRASH, 2, 0);
     add(JANUS_LOOK, 3, 0);
-    lines("five seats", "outcome finished 44\ntally 32 6 0\nboard 5 10\n"
+    lines("five seats", "outcome finished 44\ntally 32 6 0\nboard 5 10 open\n"
                         "seat 0 spent 10\nseat 1 working 1 11\nseat 2 crashed\nseat 3 decided 10\nseat 4 out\n");
 }
 
@@ -118,20 +144,21 @@ static void last_round(void)
     begin(1, 2);
     add(JANUS_PROPOSE, 0, 7);
     work(0, 12);
-    lines("the gate in round L", "outcome finished 13\ntally 9 3 0\nboard 2 7\nseat 0 working 2 7\n");
+    lines("the gate in round L", "outcome finished 13\ntally 9 3 0\nboard 2 7 open\nseat 0 working 2 7\n");
     add(JANUS_WORK, 0, JANUS_HINT_NO);
-    lines("hint no in round L", "outcome finished 14\ntally 9 3 0\nboard 2 7\nseat 0 spent 7\n");
+    lines("hint no in round L", "outcome finished 14\ntally 9 3 0\nboard 2 7 open\nseat 0 spent 7\n");
     add(JANUS_WORK, 0, JANUS_HINT_NO);
-    lines("a turn after it", "outcome refused 9 14\ntally 9 3 0\nboard 2 7\nseat 0 spent 7\n");
+    lines("a turn after it", "outcome refused 9 14\ntally 9 3 0\nboard 2 7 open\nseat 0 spent 7\n");
 }
 
-/* A long report: 64 seats with the largest numbers. JANUS_REPORT_LENGTH has room for it. */
+/* A long report: 64 seats with the largest numbers, closed. JANUS_REPORT_LENGTH has room for it. */
 static void long_report(void)
 {
     begin(JANUS_SEATS_MAX, JANUS_ROUNDS_MAX);
     for (uint8_t seat = 0; seat < JANUS_SEATS_MAX; seat++)
         add(JANUS_PROPOSE, seat, UINT32_MAX - seat);
-    for (unsigned i = JANUS_SEATS_MAX; i < JANUS_ENTRIES_MAX; i++)
+    add(JANUS_CLOSE, 0, 0);
+    for (unsigned i = JANUS_SEATS_MAX + 1; i < JANUS_ENTRIES_MAX; i++)
         add(JANUS_WORK, (uint8_t)(i % JANUS_SEATS_MAX), JANUS_HINT_YES);
     const size_t size = janus_report(sheet, sheet_length, text, JANUS_REPORT_LENGTH);
     check(size > JANUS_BAD_BUFFER && size <= JANUS_REPORT_LENGTH, "a long report", "the buffer is long enough");
@@ -155,6 +182,7 @@ int main(int argc, char **argv)
     server_limits();
     refused_sheets();
     refused_entries();
+    closes();
     marks();
     standings();
     last_round();

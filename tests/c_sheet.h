@@ -103,14 +103,21 @@ static inline unsigned any(unsigned below)
     return (unsigned)((state >> 33) % below);
 }
 
-/* Seats in each other's way: each proposes a number of its own, then as many work turns, of any seats and with any hints. */
+/*
+ * Seats in each other's way: each proposes a number of its own, then as many work turns, of any seats and with any hints. Every
+ * other time the session is closed behind the proposals or between two turns.
+ */
 static inline void contend(uint8_t n, uint16_t limit, unsigned turns)
 {
+    const unsigned place = any(2 * turns + 1);
     begin(n, limit);
     for (uint8_t seat = 0; seat < n; seat++)
         add(JANUS_PROPOSE, seat, 1000u + seat);
-    for (unsigned i = 0; i < turns; i++)
+    for (unsigned i = 0; i < turns; i++) {
+        if (i == place)
+            add(JANUS_CLOSE, 0, 0);
         add(JANUS_WORK, (uint8_t)any(n), any(4) > 0);
+    }
 }
 
 #endif

@@ -78,12 +78,13 @@ static void *writes(void *unused)
     return __builtin_frame_address(0);
 }
 
-/* Seats in each other's way, then a look and a crash; now and then a byte of the header is another. */
+/* Seats in each other's way, then a look, a close and a crash; now and then a byte of the header is another. */
 static void any_sheet(void)
 {
     const uint8_t n = (uint8_t)(1 + any(JANUS_SEATS_MAX));
     contend(n, JANUS_ROUNDS_MAX, any(2000));
     add(JANUS_LOOK, (uint8_t)any(n), 0);
+    add(JANUS_CLOSE, 0, 0);
     add(JANUS_CRASH, (uint8_t)any(n), 0);
     if (any(4) == 0)
         sheet[any(HEADER)] = (uint8_t)any(256);

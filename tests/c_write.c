@@ -104,7 +104,10 @@ static void entry(uint8_t kind, uint8_t seat, uint32_t value)
 static void add_entries(size_t count)
 {
     for (size_t i = 0; i < count; i++)
-        entry((uint8_t)(i % 4), (uint8_t)(i / 4), i % 4 == 0 ? 0x01020304u * (uint32_t)i : i % 8 == 1);
+        if (i % 5 == JANUS_CLOSE)
+            entry(JANUS_CLOSE, 0, 0);
+        else
+            entry((uint8_t)(i % 5), (uint8_t)(i / 5), i % 5 == 0 ? 0x01020304u * (uint32_t)i : i % 10 == 1);
 }
 
 static void cut(size_t length)
@@ -140,14 +143,20 @@ static void written(const char *what)
     answers(what, 0, JANUS_BAD_BUFFER);
 }
 
-/* The bytes of two small sheets, by the numbers. */
+/* The bytes of three small sheets, by the numbers. */
 static void bytes(void)
 {
     const uint8_t empty[] = {1, 0, 2, 0};
+    const uint8_t close[] = {1, 1, 2, 0, 8, 0, 6, 0, 4, 0, 0, 0, 0, 0};
     const uint8_t two[] = {5, 2, 0, 1, 12, 0, 6, 0, 18, 0, 12, 0, 0, 4, 1, 2, 3, 4, 1, 3, 1, 0, 0, 0, 2, 9, 0, 0, 0, 0};
     start(1, 2);
     written("no runs and no entries");
     check(sheet_length == sizeof empty && memcmp(sheet, empty, sizeof empty) == 0, "no runs and no entries", "4 bytes");
+    start(1, 2);
+    entry(JANUS_CLOSE, 0, 0);
+    cut(1);
+    written("a close");
+    check(sheet_length == sizeof close && memcmp(sheet, close, sizeof close) == 0, "a close", "14 bytes");
     start(5, 256);
     entry(JANUS_PROPOSE, 4, 0x04030201);
     entry(JANUS_WORK, 3, JANUS_HINT_YES);
@@ -284,8 +293,10 @@ static void sizes(void)
 
 static void malformed(void)
 {
-    const struct { uint8_t kind; uint32_t value; } wrong[] = {
-        {4, 0}, {255, 0}, {JANUS_WORK, 2}, {JANUS_WORK, 256}, {JANUS_LOOK, 1}, {JANUS_CRASH, 1}, {JANUS_CRASH, 1u << 31}};
+    const struct { uint8_t kind, seat; uint32_t value; } wrong[] = {
+        {5, 0, 0}, {255, 0, 0}, {JANUS_WORK, 0, 2}, {JANUS_WORK, 0, 256}, {JANUS_LOOK, 0, 1}, {JANUS_CRASH, 0, 1},
+        {JANUS_CRASH, 0, 1u << 31}, {JANUS_CLOSE, 1, 0}, {JANUS_CLOSE, 64, 0}, {JANUS_CLOSE, 255, 0}, {JANUS_CLOSE, 0, 1},
+        {JANUS_CLOSE, 0, 256}, {JANUS_CLOSE, 0, 1u << 31}, {JANUS_CLOSE, 1, 1}};
     for (size_t i = 0; i < sizeof wrong / sizeof *wrong; i++) {
         for (size_t place = 0; place < 5; place++) {
             start(1, 2);
@@ -293,7 +304,7 @@ static void malformed(void)
             run(3);
             const size_t length = entries_length;
             entries_length = JANUS_ENTRY_LENGTH * place;
-            entry(wrong[i].kind, 0, wrong[i].value);
+            entry(wrong[i].kind, wrong[i].seat, wrong[i].value);
             entries_length = length;
             refused("a malformed entry", JANUS_BAD_ENTRY);
         }
@@ -302,7 +313,9 @@ static void malformed(void)
     entry(JANUS_PROPOSE, 255, 0);
     entry(JANUS_PROPOSE, 0, UINT32_MAX);
     entry(JANUS_WORK, 64, JANUS_HINT_NO);
-    cut(3);
+    entry(JANUS_CLOSE, 0, 0);
+    entry(JANUS_PROPOSE, 0, 7);
+    cut(5);
     written("entries that are refused when they are run");
 }
 

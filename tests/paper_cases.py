@@ -6,16 +6,18 @@ usage:
     paper_cases.py write     writes the tables and the texts anew
 
 A table stands between `<!-- NAME -->` and `<!-- end -->`. The page must have them in the order in which one works: board, rules,
-picture, refusals, counts, form, cases, polls, and at the end who opens and what the window saves.
+picture, refusals, counts, form, cases, polls, and at the end who opens, what the window saves and what is reported.
 
 - `rules`, `turns`, `refusals`, `counts`, `windows`, `opening-refusals`, `poll-rules` and `poll-refusals` are made of paper_rules.py.
 - `openings` is worked by them for either caller. Each answer must be the separately written program's.
 - `case NAME` has the turns of examples/NAME.sheet, played by those rules. Each of its lines must be the trace's.
 - `scope` has the starred cases of document 01, with the n and L that they have there, at the window of then and of now. What 01 and
   wish 8 say of each must be found, and each turn must be the trace's.
+- `closes` has turns in a closed session (02, wish 10), by those rules. Each must be the trace's, and get the answer that stands here.
 - `form` is the table of a case with nothing in it.
 - `poll NAME` has the turns of examples/NAME.poll, played by the rules of a poll.
 - `turns-alone` is written and held by turns.py, and here left alone.
+- `report NAME` has the board report of examples/NAME.sheet, played by the rules. It and that of every sample must be the program's.
 
 The text of each examples/NAME.poll as it is played, answers, counts, registers and seats, stands in examples/NAME.out and must be
 the separately written program's. In docs/walk.svg a box is an element with data-stance, an arrow one with data-from and data-to;
@@ -29,7 +31,8 @@ from itertools import zip_longest
 sys.dont_write_bytecode = True
 from paper_lists import LISTS, POLLS, ROOT, poll, poll_texts, printed, read_by, sheet
 from paper_play import POLL, SESSION, Opening, Play, Poll, Turn, shown
-from paper_rules import COUNTS, LIMITS, MOST_SEATS, NEVER_IN_POLLS, OPENING_REFUSALS, RULES, STANCES, WINDOW, window, window_before
+from paper_rules import CLOSE, COUNTS, LIMITS, MOST_SEATS, NEVER_IN_POLLS, OPENING_REFUSALS, RULES, SESSION_STANCES, STANCES, WINDOW
+from paper_rules import window, window_before
 
 EXAMPLES = ROOT / "examples"
 PAGE = ROOT / "docs" / "PAPER-CASES.md"
@@ -84,10 +87,10 @@ def poll_rules_table():
     return f"{never}, and these take the place of those with the same numbers:\n\n" + table(RULE_HEAD, changed)
 
 
-def answer(head, turn):
-    """The rules for a turn of a seat that stands there, or what it is refused with."""
+def answer(head, turn, session=SESSION_STANCES[0]):
+    """The rules for a turn of a seat that stands there, or what it is refused with, in a session that is open or closed."""
     play = Play(1, window(1))
-    play.seats[0].head = head
+    play.seats[0].head, play.session.head = head, session
     refused = play.refused(Turn(play, f"{turn} 0 1"))
     if refused:
         return f"refused with {refused[1]}"
@@ -96,9 +99,16 @@ def answer(head, turn):
 
 
 def turns_table():
-    """Which rules there are for each stance and turn; what is refused."""
-    kinds = SESSION.kinds
-    return table(["Stands at", *kinds], [[stance, *[answer(head, kind) for kind in kinds]] for stance, head in zip(STANCES, SESSION.heads)])
+    """Which rules there are for each stance and turn of a seat; what is refused. Only of proposals it matters whether the session is closed."""
+    rows = []
+    for stance, head in zip(STANCES, SESSION.heads):
+        answers = {kind: [answer(head, kind, session) for session in SESSION_STANCES] for kind in SESSION.kinds if kind != CLOSE}
+        for kind, (opened, closed) in answers.items():
+            if kind != "propose" and opened != closed:
+                sys.exit(f"paper cases: {kind} at {stance}: {opened} in an open session, {closed} in a closed one")
+        proposed, closed = answers.pop("propose")
+        rows.append([stance, proposed, closed, *(opened for opened, _ in answers.values())])
+    return table(["Stands at", "propose", "propose, session closed", *answers], rows)
 
 
 def refusals_table(rules=SESSION):
@@ -184,7 +194,7 @@ def played(play, words):
     register, shown_words = play.turn(words), " ".join([play.rules.kinds[word], *rest])
     if register.startswith("refused"):
         return [shown_words, "", register, *columns(play.board), "", "", "", *play.counts], [register]
-    seat = play.seats[int(words.split()[1])]
+    seat = play.of(words)
     used = ", ".join(str(rule) for rule in play.used[seen:])
     line = [shown_words, used, register, *columns(play.board), seat.stance(), seat.round, seat.own, *play.counts]
     return line, [register, str(seat), " ".join(map(str, play.counts))]
@@ -204,6 +214,79 @@ def played_sheet(name, data, width=None):
 def case_table(name):
     """A case, played by the rules."""
     return table(CASE_HEAD, played_sheet(name, (EXAMPLES / f"{name}.sheet").read_bytes())[1])
+
+
+# ---------------------------------------------------------------- closed sessions
+
+# 02, wish 10, "proposals are then refused and all else goes on": turns of a session with two seats, the last of them in a closed session,
+# and what that one answers, a refusal or its register operation.
+CLOSED = [
+    ("close, propose 0 7", "refused 18"),
+    ("propose 0 7, close, propose 0 8", "refused 6"),
+    ("propose 0 7, crash 0, close, propose 0 8", "refused 6"),
+    ("close, propose 0 0", "refused 5"),
+    ("propose 0 7, close, propose 0 0", "refused 5"),
+    ("close, propose 2 7", "refused 4"),
+    ("close, close", "none"),
+    ("propose 0 7, close, work 0 yes", "T[1] read blank"),
+    ("propose 0 7, work 0 yes, close, work 0 yes", "T[1] written 7"),
+    ("close, work 0 yes", "refused 7"),
+    ("propose 0 7, close, look 0", "D read blank"),
+    ("propose 0 7, close, crash 0", "none"),
+    ("propose 0 7, close, crash 0, close", "none"),
+]
+
+
+def closes_table():
+    """Turns in a closed session, by the rules, beside the trace and the report's board line; each answers as it should."""
+    rows, seats = [], 2
+    for turns, said in CLOSED:
+        data = sheet.sheet(seats, window(seats), [b"".join(sheet.entry(words.split()) for words in turns.split(", "))])
+        play, lines = played_sheet(turns, data)
+        _, turn, rule, register, *_, stance, _, _, reads, writes, contested = lines[-1]
+        if len(lines) != turns.count(",") + 1 or register != said or play.session.head != "closed":
+            sys.exit(f"paper cases: {turns}: the last one should be {said}, in a closed session, and is {lines[-1]}")
+        check_report(turns, play, lines, data)
+        rows.append([turns.rpartition(", ")[0], turn, rule, register, stance, reads, writes, contested])
+    return table(["Before", "Turn", "Rule", "Read or written", "Then stands at", *COUNTED], rows)
+
+
+# ---------------------------------------------------------------- the report
+
+def status(seat):
+    """A seat as the report tells it."""
+    words = {"out": "out", "crashed": "crashed", "spent": f"spent {seat.own}", "decided": f"decided {seat.own}"}
+    return words.get(seat.head, f"working {seat.round} {seat.own}")
+
+
+def reported(play, lines):
+    """The board report of what was played: the outcome, the counts, the board and the seats."""
+    last = lines[-1][3] if lines else ""
+    return [
+        f"outcome {last} {len(lines) - 1}" if last.startswith("refused") else f"outcome finished {len(lines)}",
+        " ".join(["tally", *map(str, play.counts)]),
+        f"board {max(play.board['T'], default=0)} {play.board['D'].get(None, 0)} {play.session}",
+        *[f"seat {number} {status(seat)}" for number, seat in enumerate(play.seats)],
+    ]
+
+
+def check_report(name, play, lines, data):
+    """Fails unless the report is the separately written program's; its lines."""
+    ours, theirs = reported(play, lines), printed("report", data)
+    if ours != theirs:
+        sys.exit(f"paper cases: {name}: by the rules the report is {ours}, and the separately written program's {theirs}")
+    return ours
+
+
+def report_block(name):
+    """The report of a sample, as a block of code."""
+    data = (EXAMPLES / f"{name}.sheet").read_bytes()
+    return "".join(f"    {line}\n" for line in check_report(name, *played_sheet(name, data), data))
+
+
+def check_reports():
+    """Fails unless the report of every sample is the program's; how many there are."""
+    return len([report_block(path.stem) for path in sorted(EXAMPLES.glob("*.sheet"))])
 
 
 # ---------------------------------------------------------------- the scope document's own cases
@@ -305,6 +388,7 @@ TABLES = {
     "counts": counts_table,
     "form": form_table,
     "case": case_table,
+    "closes": closes_table,
     "scope": scope_table,
     "poll-rules": poll_rules_table,
     "poll-refusals": lambda: refusals_table(POLL),
@@ -312,6 +396,7 @@ TABLES = {
     "opening-refusals": opening_refusals_table,
     "openings": openings_table,
     "turns-alone": None,
+    "report": report_block,
 }
 # What another program writes.
 ELSEWHERE = {name for name, make in TABLES.items() if make is None}
@@ -331,6 +416,10 @@ def check_order(page):
 
 # ---------------------------------------------------------------- the picture
 
+# The rules of a seat's walk: all but the close, which moves no seat.
+WALKED = [row for row in RULES if row[1] != CLOSE]
+
+
 def box(words):
     """The box of a stance with its number."""
     return next((stance for stance in STANCES if stance.split()[0] == words.split()[0]), words)
@@ -338,7 +427,7 @@ def box(words):
 
 def ruled_arrows():
     """From, to and words of each arrow that the rules ask for."""
-    for at, turn, when, _, outcomes in RULES:
+    for at, turn, when, _, outcomes in WALKED:
         for found, then in outcomes:
             stance = then.split(";")[0]
             to = at if stance == "as before" else box(stance)
@@ -349,9 +438,9 @@ def ruled_arrows():
 
 def ruled_boxes():
     """Stance and words of each box: its name, and what is done there."""
-    ats = dict.fromkeys([*STANCES, *(row[0] for row in RULES)])
+    ats = dict.fromkeys([*STANCES, *(row[0] for row in WALKED)])
     for at in ats:
-        done = {turn: does for row_at, turn, _, does, _ in RULES if row_at == at and (does or turn != "work")}
+        done = {turn: does for row_at, turn, _, does, _ in WALKED if row_at == at and (does or turn != "work")}
         words = "; ".join(f"{turn}: {does or 'nothing'}" for turn, does in done.items() if turn != "propose")
         yield at, f"{at} {words.removeprefix('work: ')}".strip()
 
@@ -398,9 +487,10 @@ def main():
     for random in f"{LISTS:,} random lists", f"{POLLS:,} random polls":
         if random not in page:
             sys.exit(f"paper cases: the page does not speak of {random}")
-    cases, polls, others = kinds.count("case"), kinds.count("poll"), sum(map(kinds.count, ELSEWHERE))
-    print(f"paper cases: {cases} cases are the trace's, {polls} of a poll and {len(texts) - 1} polls' texts the program's, "
-          f"{len(kinds) - cases - polls - others} tables and {check_picture()} arrows the rules'; document 01 says so of {len(SCOPE)} cases")
+    cases, polls, reports, others = *map(kinds.count, ("case", "poll", "report")), sum(map(kinds.count, ELSEWHERE))
+    print(f"paper cases: {cases} cases and {len(CLOSED)} turns in closed sessions are the trace's, {polls} of a poll, {len(texts) - 1} polls' "
+          f"texts and {check_reports()} reports the program's, {len(kinds) - cases - polls - reports - others} tables and {check_picture()} "
+          f"arrows the rules'; document 01 says so of {len(SCOPE)} cases")
 
 
 if __name__ == "__main__":

@@ -5,7 +5,9 @@ program has: the trace of a list, the text of a poll.
 usage: paper_lists.py [LISTS [SEED]]      and a third as many polls; 3000 lists from seed 1 where left out
 
 Every rule and every refusal must be met, and marks of rounds that are unmarked and of rounds that are marked. Each list and each poll
-must leave as many rounds marked as contested says. Seats must become spent by turns with hint no, and take a further turn. In polls too
+must leave as many rounds marked as contested says. Seats must become spent by turns with hint no, and take a further turn. Sessions must
+be closed, before and after every stance is reached, closed again, worked on, looked at and crashed in, and refuse proposals with each of
+their numbers; after a close no number may join those that were proposed. In polls too
 every rule and every refusal must be met, but for the rules that the page says are never taken; every answer must be a number that
 was proposed, the same for all seats where one has committed, and committed where all propose the same. Some polls are the cart's, with
 its most seats and with more among them. What opening answers to either caller must be the program's for every n.
@@ -23,7 +25,7 @@ sys.path.append(str(ROOT / "examples"))
 import poll
 import sheet
 from paper_play import POLL, SESSION, Opening, Play, Poll
-from paper_rules import ANSWERS, COUNTS, LIMITS, MOST_SEATS, NEVER_IN_POLLS, window
+from paper_rules import ANSWERS, CLOSE, COUNTS, LIMITS, MOST_SEATS, NEVER_IN_POLLS, REFUSALS, STANCES, window
 
 LISTS, SEED = 3000, 1
 POLLS = LISTS // 3
@@ -44,6 +46,8 @@ class Composer:
         self.odds = chance.choice([0, 0.02, 0.1]), chance.choice([0, 0, 0.01]), chance.choice([0, 0, 0.05, 0.4])
         self.asleep = chance.randrange(n) if chance.random() < 0.5 else None
         self.spent, self.later = set(), 0
+        self.closing = chance.choice([0, 0, 0, 0.01, 0.1])
+        self.closed, self.stances, self.proposed = Counter(), set(), []
 
     def opened(self, n):
         """The board that the turns are played on."""
@@ -80,19 +84,29 @@ class Composer:
     def any_words(self):
         """Any turn at all, of a seat that may not be there."""
         seat, kind = self.chance.randint(0, self.play.n), self.chance.choice(list(self.play.rules.kinds))
+        if kind == CLOSE:
+            return kind
         rest = {"propose": [self.chance.randint(0, 1)], "work": [self.chance.choice(["yes", "no"])]}.get(kind, [])
         return " ".join(map(str, [kind, seat, *rest]))
 
     def add(self, words):
         """Plays one turn and keeps the line that the trace should have."""
-        register, number = self.play.turn(words), int(words.split()[1])
+        closed, of, (kind, *rest) = self.play.session.head == "closed", self.play.of(words), words.split()
+        if kind == CLOSE:
+            self.stances |= {seat.head for seat in self.play.seats}
+        register, refused = self.play.turn(words), None
         line = f"{len(self.turns):5} | {words:24} | {register}"
-        if not register.startswith("refused"):
-            seat, counts = self.play.seats[number], " ".join(map(str, self.play.counts))
-            line = f"{len(self.turns):5} | {words:24} | {register:25} | {str(seat):40} | {counts}"
-            if seat.head == "spent" and words.endswith("no"):
-                self.spent.add(number)
-        self.later += register == "refused 9" and number in self.spent
+        if register.startswith("refused"):
+            refused = int(register.split()[1])
+        else:
+            counts = " ".join(map(str, self.play.counts))
+            line = f"{len(self.turns):5} | {words:24} | {register:25} | {str(of):40} | {counts}"
+            if of.head == "spent" and words.endswith("no"):
+                self.spent.add(of)
+            if kind == "propose":
+                self.proposed.append((int(rest[1]), closed))
+        self.later += refused == 9 and of in self.spent
+        self.closed[kind, refused] += closed
         self.turns.append(words)
         self.lines.append(line)
 
@@ -108,13 +122,16 @@ class Composer:
                 self.add(words)
 
     def compose(self):
-        """The whole list: legal turns, some to the end of the last round, then any turns, to the first refused one."""
+        """The whole list: legal turns, some to the end of the last round, then any turns, to the first refused one. Some sessions are closed
+        on the way, and some of these meet a late proposal."""
         for _ in range(self.chance.randrange(MOST_TURNS)):
-            words = self.words()
+            words = CLOSE if self.chance.random() < self.closing else self.words()
             if self.play.legal(words):
                 self.add(words)
         if self.chance.random() < 0.2:
             self.work_to_the_end()
+        if self.play.session.head == "closed" and not self.play.refusals and self.chance.random() < 0.2:
+            self.add(f"propose {self.chance.randrange(self.play.n)} {self.chance.randint(0, 3)}")
         while not self.play.refusals and self.chance.random() < 0.8:
             self.add(self.any_words())
         return self
@@ -239,6 +256,26 @@ def check_spent(lists):
     return spent, later
 
 
+def check_closed(lists):
+    """Fails if a number was proposed in a closed session, if there were few turns of a kind, or few refusals of a proposal, in a closed
+    session, or if there was no close while a seat stood at some stance."""
+    late = [one.proposed for one in lists if any(closed for _, closed in one.proposed)]
+    if late:
+        sys.exit(f"paper lists: proposed, and whether in a closed session: {late[0]}")
+    met = sum((one.closed for one in lists), Counter())
+    wanted = [(kind, None) for kind in SESSION.kinds if kind != "propose"]
+    wanted += [("propose", number) for number, turns, _ in REFUSALS if "propose" in turns.split(", ")]
+    for kind, refused in wanted:
+        if met[kind, refused] * 200 < len(lists):
+            answer = f"refused with {refused}" if refused else "accepted"
+            sys.exit(f"paper lists: in closed sessions {met[kind, refused]} times {kind}, {answer}, is too seldom")
+    stances = set().union(*(one.stances for one in lists))
+    never = [stance for stance, head in zip(STANCES, SESSION.heads) if head not in stances]
+    if never:
+        sys.exit(f"paper lists: no close while a seat stood at {', '.join(never)}")
+    return sum(CLOSE in one.turns for one in lists), met
+
+
 def check_answers(polls):
     """Fails if an answer was not proposed, answers differ where a seat has committed, one is adopted where all propose the same number,
     or few polls have both answers."""
@@ -306,6 +343,9 @@ def main():
     told = checked("list", lists, traces([one.sheet() for one in lists]), SESSION)
     spent, later = check_spent(lists)
     print(f"paper lists: seed {seed}, {told}; {spent} seats spent by hint no, {later} refused a turn after that")
+    closed, met = check_closed(lists)
+    shown = ", ".join(f"{kind} {'refused ' * bool(refused)}{refused or 'accepted'} {times}" for (kind, refused), times in sorted(met.items(), key=str))
+    print(f"paper lists: {closed} lists with a close, at every stance of a seat; in closed sessions: {shown}")
     polls = [PollComposer(chance).compose() for _ in range(count * POLLS // LISTS)]
     told = checked("poll", polls, poll_texts([one.poll() for one in polls]), POLL, NEVER_IN_POLLS)
     carts, full, refused = check_carts(polls)

@@ -6,8 +6,8 @@ program test_poll writes.
 """
 import re
 
-from paper_rules import ANSWERS, COUNTS, LIMITS, OPENING_REFUSALS, POLL_REFUSALS, POLL_RULES, POLL_STANCES, POLL_TURNS
-from paper_rules import REFUSALS, RULES, STANCES, WORKING, window
+from paper_rules import ANSWERS, CLOSE, COUNTS, LIMITS, OPENING_REFUSALS, POLL_REFUSALS, POLL_RULES, POLL_STANCES, POLL_TURNS
+from paper_rules import REFUSALS, RULES, SESSION_STANCES, STANCES, WORKING, window
 
 BLANK = {"T": 0, "C": False, "D": 0}
 
@@ -26,20 +26,31 @@ class Seat:
         return f"{self.stance()} round {self.round} value {self.own}"
 
 
+class Session(Seat):
+    """What the session as a whole is. It has no number, no round and no value."""
+
+    def __init__(self):
+        self.head, self.place, self.round, self.own = SESSION_STANCES[0], None, "", ""
+
+    def __str__(self):
+        return self.head
+
+
 class Turn:
-    """One turn while it is played: the numbers that a row's words name, and the register operation made."""
+    """One turn while it is played: who stands otherwise after it, a seat or, with a close, the session; the numbers that a row's words name;
+    and the register operation made."""
 
     def __init__(self, play, words):
-        word, seat, *self.rest = words.split()
-        self.kind, self.play, seat = play.rules.kinds[word], play, int(seat)
-        self.seat = play.seats[seat] if seat < play.n else None
+        word, *rest = words.split()
+        self.kind, self.play, self.seat = play.rules.kinds[word], play, play.of(words)
+        self.rest = rest[1:]
         self.number = int(self.rest[0]) if self.kind == "propose" else None
         self.found, self.register, self.made = None, "none", []
         self.names = {
             "n": play.n,
             "L": play.limit,
             "W": play.window,
-            "the seat's number": seat,
+            "the seat's number": int(rest[0]) if rest else None,
             "the number proposed": self.number,
         }
         if self.seat:
@@ -87,6 +98,7 @@ ASKED = {
     "another value": lambda turn: turn.found != turn.seat.own,
 }
 COMPARED = [
+    (r"the session is (\w+)", lambda head: lambda turn: turn.play.session.head == head),
     (r"the seat is not (\w+)", lambda head: lambda turn: turn.seat.head != head),
     (r"the seat is (\w+)", lambda head: lambda turn: turn.seat.head == head),
     (r"(.+) is below (.+)", lambda a, b: lambda turn, a=value(a), b=value(b): a(turn) < b(turn)),
@@ -183,13 +195,13 @@ def actions(words):
 
 
 def stands(words, rules):
-    """What moves a seat to the stance that the words name; `go on` is followed, `as before` moves nothing."""
+    """What moves a seat, or the session, to the stance that the words name; `go on` is followed, `as before` moves nothing."""
     if words == "as before":
         return lambda turn: None
     if words == "go on":
         return lambda turn: rules.rows["go on", turn.kind][0].follow(turn)
     head, *number = words.split(" ", 1)
-    assert head in rules.heads, words
+    assert head in rules.heads + SESSION_STANCES, words
     place = value(number[0]) if number else lambda turn: None
 
     def act(turn):
@@ -265,6 +277,8 @@ class Rules:
         for part in at.split(", "):
             if part == "any working stance":
                 yield from (stance.split()[0] for stance in WORKING)
+            elif part == "the session":
+                yield from SESSION_STANCES
             elif part == "go on":
                 yield part
             else:
@@ -305,10 +319,17 @@ class Play:
 
     def __init__(self, n, limit, width=None):
         self.n, self.limit, self.window = n, limit, width or window(n)
-        self.seats = [Seat() for _ in range(n)]
+        self.seats, self.session = [Seat() for _ in range(n)], Session()
         self.board = {row: {} for row in BLANK}
         self.counts = [0] * len(COUNTS)
         self.used, self.refusals, self.made = [], [], []
+
+    def of(self, words):
+        """Whose turn it is: the session's with a close, else the seat's, or None if that is not there."""
+        word, *rest = words.split()
+        if word == CLOSE:
+            return self.session
+        return self.seats[int(rest[0])] if int(rest[0]) < self.n else None
 
     def refused(self, turn):
         """The row of the refusals that a turn meets, or None."""

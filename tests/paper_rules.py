@@ -23,12 +23,19 @@ STANCES = [
     "decided",
 ]
 
+# What a session is: open at first (02, wish 10: "The session gains a closed mark, open at first").
+SESSION_STANCES = ["open", "closed"]
+
+# The one turn that no seat takes: it is told to the session.
+CLOSE = "close"
+
 # The stances at which a seat is working.
 WORKING = STANCES[STANCES.index("gate"):STANCES.index("commit") + 1]
 
 # Stands at, turn, if, does, and for each thing that may be found: what the seat then stands at. Of the rows for a stance and a
 # turn the first one that fits is taken, and of what is found the first one that fits. "go on" is no stance: it is followed in
-# the same turn. "already" is said of a number before anything is done, "now" of one after it.
+# the same turn. "already" is said of a number before anything is done, "now" of one after it. The last row is of no seat: it says what
+# the session is after a close.
 RULES = [
     ("out", "propose", "", "", [("", "gate; the number proposed becomes the own value")]),
     ("gate", "work", "r is already L", "", [("", "spent")]),
@@ -83,6 +90,8 @@ RULES = [
         [("blank", "as before"), ("filled", "decided; it becomes the own value")],
     ),
     ("any working stance, spent", "crash", "", "", [("", "crashed")]),
+    # "A close sets it, also where it is set already"
+    ("the session", CLOSE, "", "", [("", "closed")]),
 ]
 
 # Number, turns, if: tried from top to bottom, before the rules.
@@ -90,6 +99,7 @@ REFUSALS = [
     (4, "propose, work, look, crash", "the seat's number is n or more"),
     (5, "propose", "the number proposed is 0"),
     (6, "propose", "the seat is not out"),
+    (18, "propose", "the session is closed"),
     (7, "work, look, crash", "the seat is out"),
     (8, "work, look, crash", "the seat is crashed"),
     (8, "work, look, crash", "the seat is decided"),
@@ -135,8 +145,8 @@ def window_before(n):
 
 # ---------------------------------------------------------------- polls
 
-# A poll is played by the rules above, with L = W. The lines of its list, and which of the turns above each is: there are no looks, and
-# no turn has a hint, so that none has hint no.
+# A poll is played by the rules above, with L = W. The lines of its list, and which of the turns above each is: there are no looks and
+# no closes, and no turn has a hint, so that none has hint no.
 POLL_TURNS = {"propose": "propose", "turn": "work", "crash": "crash"}
 
 # Where a seat stands that has its answer: that word, with the own value.
@@ -160,11 +170,12 @@ def poll_rule(rule):
 
 
 def poll_refusals():
-    """The refusals of a poll. An answered seat is refused as a decided one is; no seat of a poll is decided, and none spent."""
+    """The refusals of a poll. An answered seat is refused as a decided one is; no seat of a poll is decided, none is spent, and no poll
+    is closed."""
     for number, turns, met in REFUSALS:
         if met == "the seat is decided":
             yield from ((number, turns, f"the seat is {answer}") for answer in ANSWERS)
-        elif met != "the seat is spent":
+        elif met not in ("the seat is spent", "the session is closed"):
             yield number, turns, met
 
 
@@ -173,5 +184,5 @@ POLL_RULES = [poll_rule(rule) for rule in RULES]
 POLL_REFUSALS = list(poll_refusals())
 
 # The outcomes, as the page numbers them, that no turn of a poll has: no seat is at gate in round L, no turn has hint no, and there are
-# no looks.
-NEVER_IN_POLLS = [2, 3, 24, 25]
+# no looks and no closes.
+NEVER_IN_POLLS = [2, 3, 24, 25, 27]
