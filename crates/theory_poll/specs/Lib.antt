@@ -5,3 +5,4 @@ pub mod Unanimous
 pub mod Calls
 pub mod Passes
 pub mod Theorem
+pub mod Open
