@@ -1,5 +1,5 @@
--- The Janus machine (document 01, "One turn at a time" and "The agreement rule"): it is fed operations and never a
--- session. A call that the table refuses leaves it as it is. Its states are sessions; it tests none for soundness.
+-- The Janus machine (document 01, "One turn at a time" and "The agreement rule"): it is fed operations, and closes (02,
+-- wish 10), and never a session. A call that the table refuses leaves it as it is. Its states are sessions; it tests none for soundness.
 use Prim.Native.Nat.{ℕ}
 use mathlib.Core.List.{List}
 use Rattle.model.specs.declared.Phase.the-variants.{Waiting, Crashed}

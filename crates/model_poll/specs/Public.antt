@@ -19,7 +19,7 @@ use Rattle.model_poll.specs.Machine.{turnTests, turned}
 
 -- ---- at any window
 
--- Proposal 3, 4, 5, 6.
+-- Proposal 3, 4, 5, 6. (A sound poll is open, so that none is refused with 18: `theory_poll`, `never-closed`.)
 abbrev pub pollProposeFor : (W : ℕ) → Session → (p v : ℕ) → Changed
 pollProposeFor W s p v = proposeForAs true W s p v
 

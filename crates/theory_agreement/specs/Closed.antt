@@ -1,5 +1,5 @@
 -- After a close the proposals stand (document 02, wish 10): the closed mark stays, and where it is set no proposal is accepted.
-use Rattle.base.specs.Prelude.{ℕ, suc, zero, _≡_, refl, sym, _∙_, ap, true, true≢false, List, _∷_, _++_}
+use Rattle.base.specs.Prelude.{ℕ, suc, zero, _≡_, refl, sym, _∙_, ap, subst, true, true≢false, List, _∷_, _++_}
 use Rattle.model_laws.specs.Types.{Phase, Idle, Waiting, Write, Scan, Adopt, Compare, Flag, CheckMark, CheckValue, Commit, Exhausted}
 use Rattle.model_laws.specs.Types.{Crashed, Decided, HasCommitted, HasAdopted, Session, Counts, Operation, Propose, Step, Learn, Crash}
 use Rattle.model_laws.specs.Types.{Command, acts, closes}
@@ -8,7 +8,8 @@ use Rattle.model.specs.Refusal.{refusal, tests, stepped}
 use Rattle.model.specs.Machine.{processOf, after, countsAfter, answered, perform, execute}
 use Rattle.model_laws.specs.Accepted.{accepted}
 use Rattle.model_laws.specs.Operations.{after-same}
-use Rattle.model_rule.specs.Event.{Event, stepEvents, lookEvents, eventsOf, commandEvents, proposals, Past, here, there}
+use Rattle.model_rule.specs.Event.{Event, proposal, write, flag, commit, decision, stepEvents, lookEvents, commandEvents, proposals}
+use Rattle.model_rule.specs.Event.{Past, here, there, Proposed}
 use Rattle.model_rule.specs.System.{inputs, ifAccepted, machine, past}
 use Rattle.model_rule.specs.Calls.{SessionCall, sessions}
 use Rattle.model_rule.specs.Rule.{ProposalsStand}
@@ -48,6 +49,26 @@ look-proposals : (p x : ℕ) (h : List Event) → proposals (lookEvents p x ++ h
 look-proposals p zero h = refl
 look-proposals p (suc x) h = refl
 
+-- What is listed was proposed, and the other way round. (A number stands in a list where some older part begins with it: `Past`.)
+proposed-listed : {v : ℕ} {h′ h : List Event} → Past (proposal v ∷ h′) h → (vs : List ℕ) × Past (v ∷ vs) (proposals h)
+proposed-listed here = (_, here)
+proposed-listed (there {e = proposal u} k) = let x = proposed-listed k in (x .0, there (x .1))
+proposed-listed (there {e = write p r u} k) = proposed-listed k
+proposed-listed (there {e = flag r} k) = proposed-listed k
+proposed-listed (there {e = commit r u} k) = proposed-listed k
+proposed-listed (there {e = decision p u} k) = proposed-listed k
+
+older : {v : ℕ} {e : Event} {h : List Event} → Proposed v h → Proposed v (e ∷ h)
+older a = record { before = a .before; past = there (a .past) }
+
+listed-proposed : {v : ℕ} {vs : List ℕ} (h : List Event) → Past (v ∷ vs) (proposals h) → Proposed v h
+listed-proposed (proposal u ∷ h) here = record { before = h; past = here }
+listed-proposed (proposal u ∷ h) (there k) = older (listed-proposed h k)
+listed-proposed (write p r u ∷ h) k = older (listed-proposed h k)
+listed-proposed (flag r ∷ h) k = older (listed-proposed h k)
+listed-proposed (commit r u ∷ h) k = older (listed-proposed h k)
+listed-proposed (decision p u ∷ h) k = older (listed-proposed h k)
+
 module _ (W : ℕ) (s : Session) (c : Counts) (h : List Event) (closed : s .closed ≡ true) where
   -- No command to a closed session adds a proposal.
   none-proposed : (x : Command) → proposals (ifAccepted (execute W s c x .code) (commandEvents s x) ++ h) ≡ proposals h
@@ -84,3 +105,9 @@ module _ (W : ℕ) (start : Session) where
 
   pub proposals-stand : {cs : List SessionCall} → ProposalsStand W start cs
   proposals-stand c older at close = since at close .1
+
+  -- In the request's own words, of the set: what was proposed by the end was proposed before the close.
+  pub proposed-before : {c : SessionCall} {older cs : List SessionCall} → Past (c ∷ older) cs → c .input .operation ≡ closes → (v : ℕ) →
+      Proposed v (past (sessions W) start (inputs cs)) → Proposed v (past (sessions W) start (inputs older))
+  proposed-before at close v a =
+      let x = proposed-listed (a .past) in listed-proposed _ (subst (Past (v ∷ x .0)) (since at close .1) (x .1))
