@@ -14,8 +14,7 @@ use Rattle.model_cases.specs.Play.{repeat}
 use Rattle.model_cases.specs.Play.Shows.{answers, hasWindow, hasLimit, register, marked, decision, stands, counts}
 use Rattle.model_poll.specs.declared.Answer.the-variants.{Pending, Commits, Adopts}
 use Rattle.model_poll.specs.Turn.{withoutDecision, pollAccess, ending, pollNext, answerOf}
-use Rattle.model_poll.specs.Machine.{PollOperation, proposes, turns, crashes}
-use Rattle.model_poll.specs.Machine.{pollOpeningFor, turnAfter, turnCounts, turned, pollPerform}
+use Rattle.model_poll.specs.Machine.{PollOperation, proposes, turns, crashes, pollOpeningFor, turnAfter, turnCounts, turned, pollPerform}
 use Rattle.model_poll_cases.specs.Play.{PollCase, holds}
 
 -- n = 1, proposal 7.
@@ -36,8 +35,20 @@ overwritten : List PollOperation
 unfolding stalled
 overwritten = stalled 17 ++ (turns 1 ∷ turns 0 ∷ [])
 
+-- Both have their answers, and one operation more is refused: it changes nothing.
+over : PollOperation → PollCase
+unfolding resumed
+over o =
+    record {
+      n = 2;
+      operations = resumed 14 ++ (o ∷ []);
+      gives = Pending;
+      keeps = Commits 3 ∷ Adopts 3 ∷ [];
+      shows = answers 8 ∷ counts 28 5 1 ∷ [];
+    }
+
 pub table : List PollCase
-unfolding solo stalled resumed overwritten
+unfolding solo stalled resumed over overwritten
 table =
     -- opening
     record { n = 0; operations = []; gives = Pending; keeps = []; shows = answers 1 ∷ [] }
@@ -119,34 +130,10 @@ table =
           ∷ [];
     }
     -- neither takes a further turn or crash
-    ∷ record {
-      n = 2;
-      operations = resumed 14 ++ (turns 0 ∷ []);
-      gives = Pending;
-      keeps = Commits 3 ∷ Adopts 3 ∷ [];
-      shows = answers 8 ∷ counts 28 5 1 ∷ [];
-    }
-    ∷ record {
-      n = 2;
-      operations = resumed 14 ++ (crashes 0 ∷ []);
-      gives = Pending;
-      keeps = Commits 3 ∷ Adopts 3 ∷ [];
-      shows = answers 8 ∷ [];
-    }
-    ∷ record {
-      n = 2;
-      operations = resumed 14 ++ (turns 1 ∷ []);
-      gives = Pending;
-      keeps = Commits 3 ∷ Adopts 3 ∷ [];
-      shows = answers 8 ∷ counts 28 5 1 ∷ [];
-    }
-    ∷ record {
-      n = 2;
-      operations = resumed 14 ++ (crashes 1 ∷ []);
-      gives = Pending;
-      keeps = Commits 3 ∷ Adopts 3 ∷ [];
-      shows = answers 8 ∷ [];
-    }
+    ∷ over (turns 0)
+    ∷ over (crashes 0)
+    ∷ over (turns 1)
+    ∷ over (crashes 1)
     -- a check fails by the value, and no round is marked; the other process crashes (examples/adopted_by_value.poll)
     ∷ record {
       n = 2;

@@ -1,21 +1,17 @@
 -- The answer of a turn, by the number of its first refusal and by what is left where it is 0.
-use Rattle.base.specs.Prelude.{ℕ, suc, zero, _<_, _%_, arith, _≡_, refl, sym, _∙_, ap, Bool, true, false, true≢false, cond, not, List, _∷_}
-use Rattle.base.specs.Prelude.{leb, leb-false, length, set, getD-set-same}
-use Rattle.model_laws.specs.Types.{Process, Session, Counts, Access, Nothing, ReadValue, WriteValue, ReadMark, SetMark, ReadDecision}
-use Rattle.model_laws.specs.Types.{WriteDecision}
+use Rattle.base.specs.Prelude.{ℕ, suc, zero, _<_, _%_, arith, _≡_, refl, sym, _∙_, Bool, true, false, cond, not, _∷_, leb-false}
+use Rattle.model_laws.specs.Types.{Session, Counts}
 use Rattle.model.specs.Window.{window}
-use Rattle.model.specs.Board.{processAt, idle, with, maxRounds}
-use Rattle.model.specs.Step.{access, phaseAccess, counted, found}
+use Rattle.model.specs.Board.{processAt}
 use Rattle.model.specs.Numbers.{unsound}
-use Rattle.model.specs.Refusal.{Test, refusal, status, isOutside, isGone, full, learnTests, stepped}
+use Rattle.model.specs.Refusal.{refusal, status, isOutside, isGone, full, stepped}
 use Rattle.model.specs.Sound.{soundAs, soundPoll}
 use Rattle.model_laws.specs.Accepted.{none-holds}
-use Rattle.model_laws.specs.Sounds.{sound-facts}
-use Rattle.model_laws.specs.Answers.{index-is, stepped-accepted, stepped-refused}
+use Rattle.model_laws.specs.Answers.{index-is}
 use Rattle.model_poll.specs.declared.Answer.{Answer}
 use Rattle.model_poll.specs.declared.Answer.the-variants.{Pending}
-use Rattle.model_poll.specs.Turn.{pollAccess, answerOf}
-use Rattle.model_poll.specs.Machine.{turnTests, turnAfter, turnCounts, given, polled, turned}
+use Rattle.model_poll.specs.Turn.{answerOf}
+use Rattle.model_poll.specs.Machine.{turnTests, turnAfter, turnCounts, polled, turned}
 use Rattle.model_poll.specs.Public.{pollTurnFor, pollTurn}
 
 -- What an accepted turn knows: its process is one of the n, has proposed, is not gone; and the counts are not full.

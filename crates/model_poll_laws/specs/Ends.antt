@@ -29,61 +29,37 @@ module _ (W : ℕ) (s : Session) (c : Counts) (p : ℕ) (below : p < s .n) where
   abbrev read : Counts
   read = record { reads = c .reads + 1; writes = c .writes; contested = c .contested }
 
+  -- The poll in which the record of process p alone has changed, to this phase.
+  abbrev ends : Phase → Session
+  ends φ = withProcess s p (process φ (q .round) (q .estimate))
+
   module _ (long : p < length (s .processes)) (room : full c ≡ false) where
+    -- Its record then.
+    ends-at : (φ : Phase) → processAt (ends φ) p ≡ process φ (q .round) (q .estimate)
+    ends-at φ = getD-set-same (s .processes) p _ idle long
+
     -- 02: "its turn at commit answers committed with its value and writes no D": the record alone changes, and nothing is counted.
     pub commit-answers : q .phase ≡ Commit →
-        pollPerform W s c (turns p)
-        ≡ record {
-          code = 0;
-          session = withProcess s p (process HasCommitted (q .round) (q .estimate));
-          counts = c;
-          answer = Commits (q .estimate);
-        }
+        pollPerform W s c (turns p) ≡ record { code = 0; session = ends HasCommitted; counts = c; answer = Commits (q .estimate) }
     unfolding pollPerform turned turnAfter turnCounts turn pollAccess pollNext access next phaseAccess phaseNext withoutDecision ending
         stored found counted answerOf
-    commit-answers at =
-        rw (lt-leb (s .n) p below, at, room, getD-set-same (s .processes) p (process HasCommitted (q .round) (q .estimate)) idle long) refl
+    commit-answers at = rw (lt-leb (s .n) p below, at, room, ends-at HasCommitted) refl
 
     -- 02: "where a check of that round fails it answers adopted with its value": at a marked round,
     pub marked-adopts : (i : ℕ) → q .phase ≡ CheckMark i → markAt s (q .round - i) ≡ true →
-        pollPerform W s c (turns p)
-        ≡ record {
-          code = 0;
-          session = withProcess s p (process HasAdopted (q .round) (q .estimate));
-          counts = read;
-          answer = Adopts (q .estimate);
-        }
+        pollPerform W s c (turns p) ≡ record { code = 0; session = ends HasAdopted; counts = read; answer = Adopts (q .estimate) }
     unfolding pollPerform turned turnAfter turnCounts turn pollAccess pollNext access next phaseAccess phaseNext withoutDecision ending
         stored found counted answerOf
-    marked-adopts i at marked =
-        rw (
-          lt-leb (s .n) p below,
-          at,
-          room,
-          marked,
-          getD-set-same (s .processes) p
-              (process HasAdopted (q .round) (q .estimate)) idle long,
-        ) refl
+    marked-adopts i at marked = rw (lt-leb (s .n) p below, at, room, marked, ends-at HasAdopted) refl
 
     -- and at another value.
     pub other-adopts : (i : ℕ) → q .phase ≡ CheckValue i → (valueAt s (q .round - i) ≡ q .estimate → ⊥) →
-        pollPerform W s c (turns p)
-        ≡ record {
-          code = 0;
-          session = withProcess s p (process HasAdopted (q .round) (q .estimate));
-          counts = read;
-          answer = Adopts (q .estimate);
-        }
+        pollPerform W s c (turns p) ≡ record { code = 0; session = ends HasAdopted; counts = read; answer = Adopts (q .estimate) }
     unfolding pollPerform turned turnAfter turnCounts turn pollAccess pollNext access next phaseAccess phaseNext withoutDecision ending
         stored found counted answerOf
     other-adopts i at other =
-        rw (
-          lt-leb (s .n) p below,
-          at,
-          room,
-          ne-eqb (valueAt s (q .round - i)) (q .estimate) other,
-          getD-set-same (s .processes) p (process HasAdopted (q .round) (q .estimate)) idle long,
-        ) refl
+        let unlike = ne-eqb (valueAt s (q .round - i)) (q .estimate) other in
+        rw (lt-leb (s .n) p below, at, room, unlike, ends-at HasAdopted) refl
 
   -- A turn of a process that works is refused by 16 alone.
   pub working-turn : status (q .phase) ≡ Active → full c ≡ false → pollPerform W s c (turns p) .code ≡ 0

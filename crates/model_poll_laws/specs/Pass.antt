@@ -1,18 +1,18 @@
 -- One pass: how many turns a process of a poll can have taken, by where it stands. From the definition of a turn alone: whatever the others
 -- do.
-use Rattle.base.specs.Prelude.{ℕ, suc, zero, _+_, _*_, _-_, _≤_, _<_, min, arith, _≡_, refl, sym, Bool, true, false, true≢false, leb, ltb}
+use Rattle.base.specs.Prelude.{ℕ, suc, zero, _+_, _*_, _-_, _≤_, _<_, min, arith, _≡_, refl, sym, true, false, true≢false, leb, ltb}
 use Rattle.base.specs.Prelude.{eqb, leb-true, leb-false, ltb-true, ltb-false}
 use Rattle.base.specs.Bools.{cond-cases}
 use Rattle.base.specs.Squares.{square-le}
 use Rattle.model_laws.specs.Types.{Phase, Idle, Waiting, Write, Scan, Adopt, Compare, Flag, CheckMark, CheckValue, Commit, Exhausted}
 use Rattle.model_laws.specs.Types.{Crashed, Decided, HasCommitted, HasAdopted, Process}
 use Rattle.model.specs.declared.Status.the-variants.{Active}
-use Rattle.model.specs.Step.{waitingRule, goOn, phaseNext, next, process}
+use Rattle.model.specs.Step.{waitingRule, goOn, phaseNext, next}
 use Rattle.model.specs.Refusal.{status, isOutside, isGone}
 use Rattle.model_laws.specs.Phases.{PhaseSound, process-facts}
 use Rattle.model.specs.Sound.{soundPhaseAs, soundProcessAs}
 use Rattle.model_poll_laws.specs.Sounds.{as-session, phase-rule}
-use Rattle.model_poll.specs.Turn.{isWaiting, ending, pollNext, passTurns}
+use Rattle.model_poll.specs.Turn.{ending, pollNext, passTurns}
 
 -- t turns at most were taken by a process that stands in this phase of round r, at window W.
 abbrev pub Taken : (W : ℕ) → (r t : ℕ) → Phase → Type 0
@@ -31,24 +31,6 @@ Taken W r t Crashed = t ≤ passTurns W
 Taken W r t Decided = t ≤ passTurns W
 Taken W r t HasCommitted = t ≤ passTurns W
 Taken W r t HasAdopted = t ≤ passTurns W
-
--- A process that has not proposed has taken none.
-pub taken-none : (W r t : ℕ) (φ : Phase) → isOutside (status φ) ≡ true → Taken W r t φ → t ≡ 0
-taken-none W r t Idle o k = k
-taken-none W r t Waiting o k = absurd (true≢false (sym o))
-taken-none W r t Write o k = absurd (true≢false (sym o))
-taken-none W r t (Scan j) o k = absurd (true≢false (sym o))
-taken-none W r t (Adopt j) o k = absurd (true≢false (sym o))
-taken-none W r t (Compare i) o k = absurd (true≢false (sym o))
-taken-none W r t (Flag i) o k = absurd (true≢false (sym o))
-taken-none W r t (CheckMark i) o k = absurd (true≢false (sym o))
-taken-none W r t (CheckValue i) o k = absurd (true≢false (sym o))
-taken-none W r t Commit o k = absurd (true≢false (sym o))
-taken-none W r t Exhausted o k = absurd (true≢false (sym o))
-taken-none W r t Crashed o k = absurd (true≢false (sym o))
-taken-none W r t Decided o k = absurd (true≢false (sym o))
-taken-none W r t HasCommitted o k = absurd (true≢false (sym o))
-taken-none W r t HasAdopted o k = absurd (true≢false (sym o))
 
 -- The register of round k is blank, and the one below it is taken.
 scan-back : (k t : ℕ) → 1 ≤ k → t + 3 ≤ k * k → suc t + 1 ≤ (k - 1) * (k - 1) + 2 * (k - 1)
@@ -107,24 +89,28 @@ module _ (W : ℕ) where
   taken-next r e t HasCommitted x o g low s w z h = absurd (true≢false g)
   taken-next r e t HasAdopted x o g low s w z h = absurd (true≢false g)
 
-  -- By where it stands: no more turns than a pass has; and fewer, where it works.
+  -- Fewer turns than a pass has, of a process that works.
+  works : {t : ℕ} → t < passTurns W → (t ≤ passTurns W) × (Active ≡ Active → t < passTurns W) × (false ≡ true → t ≡ 0)
+  works few = (omega arith, λ a. few, λ o. absurd (true≢false (sym o)))
+
+  -- By where it stands: no more turns than a pass has; fewer, where it works; and none, where it has not proposed.
   pub taken-low : (r t : ℕ) (φ : Phase) → r ≤ W → (isGone (status φ) ≡ false → PhaseSound W W r φ) → Taken W r t φ →
-      (t ≤ passTurns W) × (status φ ≡ Active → t < passTurns W)
-  taken-low r t Idle low s h = (omega arith, λ a. omega arith)
-  taken-low r t Waiting low s h = let q = square-le r W low in let f = s refl in (omega arith, λ a. omega arith)
-  taken-low r t Write low s h = let q = square-le r W low in let f = s refl in (omega arith, λ a. omega arith)
-  taken-low r t (Scan k) low s h = let q = square-le k W (s refl .2) in let f = s refl in (omega arith, λ a. omega arith)
-  taken-low r t (Adopt k) low s h = let q = square-le k W (s refl .2) in let f = s refl in (omega arith, λ a. omega arith)
-  taken-low r t (Compare i) low s h = let q = square-le r W low in let f = s refl in (omega arith, λ a. omega arith)
-  taken-low r t (Flag i) low s h = let q = square-le r W low in let f = s refl in (omega arith, λ a. omega arith)
-  taken-low r t (CheckMark i) low s h = let q = square-le r W low in let f = s refl in (omega arith, λ a. omega arith)
-  taken-low r t (CheckValue i) low s h = let q = square-le r W low in let f = s refl in (omega arith, λ a. omega arith)
-  taken-low r t Commit low s h = let q = square-le r W low in let f = s refl in (omega arith, λ a. omega arith)
-  taken-low r t Exhausted low s h = (h, λ a. let z : _≡_ {A = ℕ} 0 1 = cc in absurd (omega arith))
-  taken-low r t Crashed low s h = (h, λ a. let z : _≡_ {A = ℕ} 0 1 = cc in absurd (omega arith))
-  taken-low r t Decided low s h = (h, λ a. let z : _≡_ {A = ℕ} 0 1 = cc in absurd (omega arith))
-  taken-low r t HasCommitted low s h = (h, λ a. let z : _≡_ {A = ℕ} 0 1 = cc in absurd (omega arith))
-  taken-low r t HasAdopted low s h = (h, λ a. let z : _≡_ {A = ℕ} 0 1 = cc in absurd (omega arith))
+      (t ≤ passTurns W) × (status φ ≡ Active → t < passTurns W) × (isOutside (status φ) ≡ true → t ≡ 0)
+  taken-low r t Idle low s h = (omega arith, λ a. omega arith, λ o. h)
+  taken-low r t Waiting low s h = let q = square-le r W low in let f = s refl in works (omega arith)
+  taken-low r t Write low s h = let q = square-le r W low in let f = s refl in works (omega arith)
+  taken-low r t (Scan k) low s h = let q = square-le k W (s refl .2) in let f = s refl in works (omega arith)
+  taken-low r t (Adopt k) low s h = let q = square-le k W (s refl .2) in let f = s refl in works (omega arith)
+  taken-low r t (Compare i) low s h = let q = square-le r W low in let f = s refl in works (omega arith)
+  taken-low r t (Flag i) low s h = let q = square-le r W low in let f = s refl in works (omega arith)
+  taken-low r t (CheckMark i) low s h = let q = square-le r W low in let f = s refl in works (omega arith)
+  taken-low r t (CheckValue i) low s h = let q = square-le r W low in let f = s refl in works (omega arith)
+  taken-low r t Commit low s h = let q = square-le r W low in let f = s refl in works (omega arith)
+  taken-low r t Exhausted low s h = (h, λ a. let z : _≡_ {A = ℕ} 0 1 = cc in absurd (omega arith), λ o. absurd (true≢false (sym o)))
+  taken-low r t Crashed low s h = (h, λ a. let z : _≡_ {A = ℕ} 0 1 = cc in absurd (omega arith), λ o. absurd (true≢false (sym o)))
+  taken-low r t Decided low s h = (h, λ a. let z : _≡_ {A = ℕ} 0 1 = cc in absurd (omega arith), λ o. absurd (true≢false (sym o)))
+  taken-low r t HasCommitted low s h = (h, λ a. let z : _≡_ {A = ℕ} 0 1 = cc in absurd (omega arith), λ o. absurd (true≢false (sym o)))
+  taken-low r t HasAdopted low s h = (h, λ a. let z : _≡_ {A = ℕ} 0 1 = cc in absurd (omega arith), λ o. absurd (true≢false (sym o)))
 
   -- A turn of a sound process that works.
   pub taken-turn : (q : Process) (x t : ℕ) → isOutside (status (q .phase)) ≡ false → isGone (status (q .phase)) ≡ false →

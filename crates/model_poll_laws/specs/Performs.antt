@@ -1,24 +1,19 @@
 -- What the machine of polls does in one operation: an accepted one has the session after it, a refused one leaves the poll; and which
 -- records change.
-use Rattle.base.specs.Prelude.{ℕ, suc, zero, _≡_, refl, sym, _∙_, _⊎_, inl, inr, Bool, true, false, true≢false, ℕ-discrete, _<_, length}
+use Rattle.base.specs.Prelude.{ℕ, suc, zero, _≡_, refl, _⊎_, inl, inr, false, true≢false, _<_, length}
 use Rattle.base.specs.Prelude.{getD-set-same, getD-set-other, not-false, ⊎-elim}
 use Rattle.model_laws.specs.Types.{Phase, Idle, Waiting, Write, Scan, Adopt, Compare, Flag, CheckMark, CheckValue, Commit, Exhausted}
-use Rattle.model_laws.specs.Types.{Crashed, Decided, HasCommitted, HasAdopted, Process, Session, Access, Counts, Operation, Propose, Crash}
-use Rattle.model.specs.declared.Status.{Status}
+use Rattle.model_laws.specs.Types.{Crashed, Decided, HasCommitted, HasAdopted, Process, Session, Access, Counts, Propose, Crash}
 use Rattle.model.specs.declared.Status.the-variants.{Gone}
 use Rattle.model.specs.Board.{processAt, idle}
-use Rattle.model.specs.Step.{turn, stored, found, process}
-use Rattle.model.specs.Refusal.{refusal, tests, status, isOutside, isGone, stepped}
-use Rattle.model.specs.Machine.{accessOf, becomes, after, countsAfter, answered, perform}
+use Rattle.model.specs.Step.{turn, found, process}
+use Rattle.model.specs.Refusal.{refusal, status, isOutside, isGone, stepped}
+use Rattle.model.specs.Machine.{accessOf, becomes, after, answered, perform}
 use Rattle.model_laws.specs.Accepted.{Accepted, accepted}
 use Rattle.model_laws.specs.Operations.{stored-same}
 use Rattle.model_laws.specs.Phases.{outside-here}
-use Rattle.model_poll.specs.declared.Answer.{Answer}
-use Rattle.model_poll.specs.declared.Answer.the-variants.{Pending, Commits, Adopts}
-use Rattle.model_poll.specs.declared.PollStepped.{PollStepped}
 use Rattle.model_poll.specs.Turn.{pollAccess, pollNext, phaseAnswer, answerOf, Carries}
-use Rattle.model_poll.specs.Machine.{PollOperation, proposes, turns, crashes, turnTests, turnAfter, turnCounts, given, polled, turned}
-use Rattle.model_poll.specs.Machine.{unanswered, pollPerform}
+use Rattle.model_poll.specs.Machine.{PollOperation, proposes, turns, crashes, turnTests, turnAfter, turnCounts, given, turned, pollPerform}
 use Rattle.model_poll_laws.specs.Answers.{TurnAccepted, turn-accepted}
 
 -- The process of an operation.
@@ -27,12 +22,7 @@ pollProcessOf (proposes p v) = p
 pollProcessOf (turns p) = p
 pollProcessOf (crashes p) = p
 
--- The number of its first refusal, and the poll after it where there is none.
-abbrev pub pollRefusal : Session → Counts → PollOperation → ℕ
-pollRefusal s c (proposes p v) = refusal (tests s c (Propose p v))
-pollRefusal s c (turns p) = refusal (turnTests s c p)
-pollRefusal s c (crashes p) = refusal (tests s c (Crash p))
-
+-- The poll after it, where it is accepted.
 abbrev pub pollAfter : (W : ℕ) → Session → PollOperation → Session
 pollAfter W s (proposes p v) = after W s (Propose p v)
 pollAfter W s (turns p) = turnAfter W s p
@@ -44,37 +34,24 @@ PollAccepted s c (proposes p v) = Accepted s c (Propose p v)
 PollAccepted s c (turns p) = TurnAccepted s c p
 PollAccepted s c (crashes p) = Accepted s c (Crash p)
 
-poll-accepted : (s : Session) (c : Counts) (o : PollOperation) → pollRefusal s c o ≡ 0 → PollAccepted s c o
-poll-accepted s c (proposes p v) e = accepted s c (Propose p v) e
-poll-accepted s c (turns p) e = turn-accepted s c p e
-poll-accepted s c (crashes p) e = accepted s c (Crash p) e
-
 -- The number and the poll that the machine answers with are by the first refusal.
-stepped-session : {k : ℕ} (P : ℕ → Session → Type 0) (m : ℕ) (s t : Session) (c d : Counts) → m ≡ k → (k ≡ 0 → P 0 t) →
-    ((j : ℕ) → P (suc j) s) →
+stepped-session : (P : ℕ → Session → Type 0) (m : ℕ) (s t : Session) (c d : Counts) → (m ≡ 0 → P 0 t) → ((j : ℕ) → P (suc j) s) →
     P (stepped m s t c d .code) (stepped m s t c d .session)
-stepped-session P zero s t c d e done left = done (sym e)
-stepped-session P (suc j) s t c d e done left = left j
+stepped-session P zero s t c d done left = done refl
+stepped-session P (suc j) s t c d done left = left j
 
 -- What holds of the poll after an accepted operation, and of the poll before a refused one, holds of what the machine leaves.
 pub perform-cases : (P : ℕ → Session → Type 0) (W : ℕ) (s : Session) (c : Counts) (o : PollOperation) →
     (PollAccepted s c o → P 0 (pollAfter W s o)) → ((k : ℕ) → P (suc k) s) → P (pollPerform W s c o .code) (pollPerform W s c o .session)
 unfolding pollPerform perform answered turned
-perform-cases P W s c (proposes p v) done left = stepped-session P _ s _ c _ refl (λ e. done (poll-accepted s c (proposes p v) e)) left
-perform-cases P W s c (turns p) done left = stepped-session P _ s _ c _ refl (λ e. done (poll-accepted s c (turns p) e)) left
-perform-cases P W s c (crashes p) done left = stepped-session P _ s _ c _ refl (λ e. done (poll-accepted s c (crashes p) e)) left
+perform-cases P W s c (proposes p v) done left = stepped-session P _ s _ c _ (λ e. done (accepted s c (Propose p v) e)) left
+perform-cases P W s c (turns p) done left = stepped-session P _ s _ c _ (λ e. done (turn-accepted s c p e)) left
+perform-cases P W s c (crashes p) done left = stepped-session P _ s _ c _ (λ e. done (accepted s c (Crash p) e)) left
 
--- ---- n and L stay
-
-turn-same : (s : Session) (p : ℕ) (a : Access) (f : ℕ → Process) → (turn s p a f .n ≡ s .n) × (turn s p a f .limit ≡ s .limit)
-unfolding turn
-turn-same s p a f = (stored-same s _ _ .n, stored-same s _ _ .limit)
-
-pub poll-after-size : (W : ℕ) (s : Session) (o : PollOperation) → pollAfter W s o .n ≡ s .n
-unfolding after turnAfter
-poll-after-size W s (proposes p v) = turn-same s p _ _ .0
-poll-after-size W s (turns p) = turn-same s p _ _ .0
-poll-after-size W s (crashes p) = turn-same s p _ _ .0
+-- A turn leaves n.
+pub turn-size : (W : ℕ) (s : Session) (p : ℕ) → turnAfter W s p .n ≡ s .n
+unfolding turnAfter turn
+turn-size W s p = stored-same s _ _ .n
 
 -- ---- the records
 
@@ -166,11 +143,11 @@ gives W s c (turns p) u has = let a = go (refusal (turnTests s c p)) has in (p, 
     go (suc k) has = absurd has
 gives W s c (crashes p) u has = absurd has
 
--- An accepted turn gives the answer that its process then has.
-pub turn-gives : (W : ℕ) (s : Session) (c : Counts) (p : ℕ) → pollPerform W s c (turns p) .code ≡ 0 →
-    pollPerform W s c (turns p) .answer ≡ answerOf (processAt (pollPerform W s c (turns p) .session) p)
+-- An accepted turn of process p gives the answer that p then has.
+pub turn-gives : (W : ℕ) (s : Session) (c : Counts) (o : PollOperation) (p : ℕ) → o ≡ turns p → pollPerform W s c o .code ≡ 0 →
+    pollPerform W s c o .answer ≡ answerOf (processAt (pollPerform W s c o .session) p)
 unfolding pollPerform turned
-turn-gives W s c p e = rw e refl
+turn-gives W s c o p own e = rw (own, rw own at e) refl
 
 -- An accepted operation is of one of the n processes.
 pub accepted-below : (s : Session) (c : Counts) (o : PollOperation) → PollAccepted s c o → pollProcessOf o < s .n

@@ -27,10 +27,10 @@ back (commit r v) = refl
 back (decision p v) = refl
 
 -- Whether e is the event x.
-abbrev pub is : (x e : Event) → Bool
+abbrev is : (x e : Event) → Bool
 is x e = let a = numbers x in let b = numbers e in eqb (b .0) (a .0) && eqb (b .1) (a .1) && eqb (b .2) (a .2) && eqb (b .3) (a .3)
 
-pub is-only : (x e : Event) → is x e ≡ true → e ≡ x
+is-only : (x e : Event) → is x e ≡ true → e ≡ x
 is-only x e t =
     let a = numbers x in
     let b = numbers e in

@@ -1,12 +1,13 @@
 -- For each part of the rule of polls: what a list of calls and the poll after it may show, by computation, and that the rule is then false
 -- of them (as `Refuted`, of sessions).
-use Rattle.base.specs.Prelude.{ℕ, zero, suc, _≡_, refl, sym, _∙_, Bool, true, false, true≢false, cond, not, _&&_, _||_, List, [], _∷_, _++_}
+use Rattle.base.specs.Prelude.{ℕ, zero, suc, _≡_, refl, sym, _∙_, Bool, true, false, true≢false, cond, _&&_, List, [], _∷_, _++_}
 use Rattle.base.specs.Prelude.{ltb, eqb, ltb-true, ltb-false, eqb-true, eq-eqb, arith}
 use Rattle.base.specs.Bools.{and-left, and-right, cond-cases}
 use Rattle.model.specs.declared.Status.the-variants.{Active}
 use Rattle.model.specs.declared.Session.{Session}
 use Rattle.model.specs.Board.{processAt}
 use Rattle.model.specs.Refusal.{status}
+use Rattle.model.specs.Sound.{every}
 use Rattle.model_poll.specs.declared.Answer.{Answer}
 use Rattle.model_poll.specs.declared.Answer.the-variants.{Pending, Commits, Adopts}
 use Rattle.model_poll.specs.Turn.{answerOf, Carries, passTurns}
@@ -15,7 +16,7 @@ use Rattle.model_rule.specs.Event.{Event, proposal, write, flag, commit, decisi
 use Rattle.model_rule.specs.System.{inputs, machine, events, past}
 use Rattle.model_rule.specs.PollCalls.{polls, PollCall, isTurnOf, turnsOf}
 use Rattle.model_rule.specs.PollRule.{Gave, PollRule}
-use Rattle.model_rule_cases.specs.Events.{is, is-only, occurs, past-occurs}
+use Rattle.model_rule_cases.specs.Events.{occurs, past-occurs}
 use Rattle.model_rule_cases.specs.Refuted.{unlike}
 
 -- ---- the answers that the calls gave
@@ -40,7 +41,7 @@ back (Adopts v) = refl
 abbrev pub isAnswer : (a b : Answer) → Bool
 isAnswer a b = eqb (numbers b .0) (numbers a .0) && eqb (numbers b .1) (numbers a .1)
 
-answer-only : (a b : Answer) → isAnswer a b ≡ true → b ≡ a
+pub answer-only : (a b : Answer) → isAnswer a b ≡ true → b ≡ a
 answer-only a b t =
     let k = numbers a in
     let l = numbers b in
@@ -91,24 +92,21 @@ gave-gives p a g = go (g .stood)
 
 -- ---- what was proposed
 
--- Whether nothing but v was proposed.
-abbrev isProposal : Event → Bool
-isProposal (proposal v) = true
-isProposal (write p r v) = false
-isProposal (flag r) = false
-isProposal (commit r v) = false
-isProposal (decision p v) = false
+-- Whether an event is no proposal of another number.
+abbrev noOther : (v : ℕ) → Event → Bool
+noOther v (proposal w) = eqb w v
+noOther v (write p r u) = true
+noOther v (flag r) = true
+noOther v (commit r u) = true
+noOther v (decision p u) = true
 
+-- Whether nothing but v was proposed.
 abbrev pub onlyProposed : (v : ℕ) → List Event → Bool
-onlyProposed v [] = true
-onlyProposed v (e ∷ h) = (not (isProposal e) || is (proposal v) e) && onlyProposed v h
+onlyProposed v h = every (noOther v) h
 
 pub only-proposed : (v w : ℕ) {h′ h : List Event} → onlyProposed v h ≡ true → Past (proposal w ∷ h′) h → w ≡ v
-only-proposed v w {h′} t here =
-    let e : proposal w ≡ proposal v = is-only (proposal v) (proposal w) (and-left (is (proposal v) (proposal w)) (onlyProposed v h′) t) in
-    cc
-only-proposed v w t (there {e = e} {h = h} k) = only-proposed v w
-    (and-right (not (isProposal e) || is (proposal v) e) (onlyProposed v h) t) k
+only-proposed v w t here = eqb-true w v (and-left (eqb w v) _ t)
+only-proposed v w t (there {e = e} k) = only-proposed v w (and-right (noOther v e) _ t) k
 
 -- What was proposed before a call was proposed.
 added : (es : List Event) {h′ h : List Event} → Past h′ h → Past h′ (es ++ h)

@@ -7,7 +7,7 @@ use lib.Dec.{eqb}
 use Rattle.model.specs.declared.Caller.{Caller}
 use Rattle.model.specs.declared.CountAnswer.{CountAnswer}
 use Rattle.model.specs.Board.{limitsOf}
-use Rattle.model_write.specs.Write.{WriteResult, writeResult}
+use Rattle.model_write.specs.Write.{writeResult}
 
 -- What C gets: the code, what the output buffer holds, and the lent number.
 pub record WriteExport : Type 0 where

@@ -1,6 +1,6 @@
 -- Runs laid out without gaps: one run more.
-use Rattle.base.specs.Prelude.{ℕ, suc, zero, _+_, _*_, _≤_, _<_, arith, add-one, le-of-lt, _≡_, refl, ap, _∙_, List, [], _∷_, _++_}
-use Rattle.base.specs.Prelude.{append-assoc, length, length-append, getD, take, take-suc, length-take-le, sets}
+use Rattle.base.specs.Prelude.{ℕ, suc, zero, _+_, _*_, _≤_, _<_, arith, add-one, le-of-lt, _≡_, ap, _∙_, List, [], _∷_, _++_}
+use Rattle.base.specs.Prelude.{length, getD, take, take-suc, length-take-le, sets}
 use Rattle.base.specs.Arrays.{sets-append}
 use Rattle.model.specs.Bytes.{bytes16}
 use Rattle.model.specs.Sheet.{EntryRun}

@@ -1,10 +1,9 @@
 -- A sheet that is stored part by part, and what the call then gives.
-use Rattle.base.specs.Prelude.{ℕ, zero, suc, _+_, _*_, _≤_, arith, zero-add, _≡_, refl, sym, _∙_, ap, List, _∷_, _++_, length, drop, set}
+use Rattle.base.specs.Prelude.{ℕ, zero, suc, _+_, _*_, _≤_, zero-add, _≡_, refl, sym, _∙_, ap, List, _∷_, _++_, length, drop, set}
 use Rattle.base.specs.Prelude.{sets, sets-eq}
 use Rattle.base.specs.Arrays.{sets-append}
-use Rattle.model_laws.specs.Types.{Caller, Limits}
+use Rattle.model_laws.specs.Types.{Caller, CountAnswer, Limits}
 use Rattle.model.specs.Bytes.{bytes16}
-use Rattle.model.specs.declared.CountAnswer.{CountAnswer}
 use Rattle.model.specs.Board.{limitsOf}
 use Rattle.model_write.specs.Write.{laidOut, pairBytes, sheetOf, writeRefusal, WriteResult, wrote, writeResult}
 use Rattle.model_write.specs.WriteExport.{exportOf, sizeLeft, writeExport}

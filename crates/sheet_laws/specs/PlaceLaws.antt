@@ -1,13 +1,12 @@
 -- Document 01, "Turn sheets": the reader hands out the sheet's entries, each once and in their order.
-use Rattle.base.specs.Prelude.{ℕ, suc, zero, _+_, _-_, _*_, _/_, _%_, _≤_, _<_, add-one, suc-sub-suc, sub-zero, arith, _≡_, refl, sym}
-use Rattle.base.specs.Prelude.{subst, _∙_, Bool, true, false, cond, true≢false, List, [], _∷_, leb, leb-true, leb-false}
+use Rattle.base.specs.Prelude.{ℕ, suc, zero, _+_, _-_, _*_, _/_, _%_, _≤_, add-one, suc-sub-suc, sub-zero, arith, _≡_, refl, sym}
+use Rattle.base.specs.Prelude.{subst, _∙_, true, false, true≢false, List, [], _∷_, leb, leb-true, leb-false}
 use Rattle.base.specs.Bools.{cond-cases}
 use Rattle.model.specs.declared.Entry.{Entry}
-use Rattle.model.specs.Sheet.{runAt, runCount, runsFrom, entryAt, entriesAt, entriesOf, entries}
+use Rattle.model.specs.Sheet.{runAt, runCount, runsFrom, entryAt, entriesOf, entries}
 use Rattle.sheet_layout.specs.Runs.{runs-none}
-use Rattle.sheet_laws.specs.Places.{Position, encode, decode, Within, hasEntry, openedRun, between, openFrom, settled}
+use Rattle.sheet_laws.specs.Places.{Position, encode, decode, Within, hasEntry, between, openFrom, settled}
 use Rattle.sheet_laws.specs.Places.{passed, restFrom, begin, handed, advanced, rest, before, Inside, Proper}
-use Rattle.sheet_laws.specs.declared.Handed.{Handed}
 use Rattle.sheet_laws.specs.declared.Handed.the-variants.{Next, End}
 
 -- ---- a place is a position

@@ -1,8 +1,8 @@
 -- Document 01, "Turn sheets": where the next place is, case by case.
-use Rattle.base.specs.Prelude.{ℕ, _+_, _-_, _*_, _/_, _%_, _≤_, _<_, arith, _≡_, List, le-leb, lt-leb}
+use Rattle.base.specs.Prelude.{ℕ, _+_, _-_, _*_, _%_, _≤_, _<_, arith, _≡_, List, le-leb, lt-leb}
 use Rattle.base.specs.Bools.{cond-cases}
 use Rattle.model.specs.Sheet.{runCount}
-use Rattle.sheet_laws.specs.Places.{encode, decode, hasEntry, passed, openFrom, settled, advanced}
+use Rattle.sheet_laws.specs.Places.{encode, decode, hasEntry, openFrom, settled, advanced}
 
 -- The entries left stand above the offset and below the run: a multiple of 65,536 says how many there are.
 module _ (p n : ℕ) where

@@ -2,7 +2,7 @@
 use Rattle.base.specs.Prelude.{ℕ, _≤_, _≡_, refl, List, [], _∷_, _⊎_, inl, inr, ⊎-elim, length, le-refl, arith}
 use Rattle.model_rule.specs.Event.{Event, write, Past, Happened}
 use Rattle.model_rule.specs.Event.Past.{here, there}
-use Rattle.theory_board.specs.Epoch.{top, HappenedIn, Compared, ComparedBy, Passed, PassedBy}
+use Rattle.theory_board.specs.Epoch.{top, HappenedIn, ComparedBy, Passed, PassedBy}
 
 -- A part of a part is a part.
 pub past-trans : {a b c : List Event} → Past a b → Past b c → Past a c
@@ -50,15 +50,16 @@ module _ {h h′ : List Event} (q : Past h h′) where
   in-past : {e : ℕ} {x : Event} → HappenedIn e x h → HappenedIn e x h′
   in-past x = record { before = x .before; past = past-trans (x .past) q; epoch = x .epoch }
 
-  pub compared-past : {i j v : ℕ} → Compared i j v h → Compared i j v h′
-  compared-past (inl x) = inl (x .0, x .1, in-past (x .2))
-  compared-past (inr x) = inr (record { moment = x .moment; past = past-trans (x .past) q; epoch = x .epoch; holds = x .holds })
-
-  pub passed-past : {W i v : ℕ} → Passed W i v h → Passed W i v h′
+  -- Whoever passed the round.
+  pub passed-past : {W p i v : ℕ} → PassedBy W p i v h → Passed W i v h′
   passed-past x =
       record {
         written = (x .written .0, in-past (x .written .1));
-        compared = λ j a b c. compared-past (x .compared j a b c);
+        compared =
+            λ j a b c.
+            ⊎-elim (λ y. inl (y .0, y .1, in-past (y .2)))
+            (λ y. inr (record { moment = y .moment; past = past-trans (y .past) q; epoch = y .epoch; holds = y .holds }))
+            (x .compared j a b c);
       }
 
 -- ---- what the newest event can add
@@ -104,14 +105,4 @@ passed-event none a =
     record {
       written = (a .written .0, in-past (there here) (a .written .1));
       compared = λ j b c d. compared-event none (a .compared j b c d);
-    }
-
--- Whoever it was.
-pub passed-any : {W p i v : ℕ} {h : List Event} → PassedBy W p i v h → Passed W i v h
-passed-any a =
-    record {
-      written = a .written;
-      compared =
-          λ j b c d.
-          ⊎-elim inl (λ x. inr (record { moment = x .moment; past = x .past; epoch = x .epoch; holds = x .holds })) (a .compared j b c d);
     }

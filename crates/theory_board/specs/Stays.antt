@@ -2,7 +2,7 @@
 use Rattle.base.specs.Prelude.{ℕ, suc, _≡_, refl, List, [], _∷_, _++_, ⊎-elim, arith}
 use Rattle.model_laws.specs.Types.{Phase, Idle, Waiting, Write, Scan, Adopt, Compare, Flag, CheckMark, CheckValue, Commit, Exhausted}
 use Rattle.model_laws.specs.Types.{Crashed, Decided, HasCommitted, HasAdopted, Process}
-use Rattle.model_rule.specs.Event.{Event, proposal, write, flag, commit, decision, Past}
+use Rattle.model_rule.specs.Event.{Event, proposal, write, flag, commit, decision}
 use Rattle.model_rule.specs.Event.Past.{here, there}
 use Rattle.theory_board.specs.Lawful.{Unflagged}
 use Rattle.theory_board.specs.Past.{happened-past, NoWrite, compared-event, passed-event, happened-cases, in-cases}

@@ -24,11 +24,10 @@ module _ (W n : ℕ) (h : List Event) (wide : 2 ≤ W) (few : n < threshold W) (
         | no other ↦ same-register committed (written-in (walked lawful written (omega arith) (omega arith) .written))
       ]
 
-  -- A commit in the round of another or in a higher one has its value.
-  agreed-above : {R v R′ v′ : ℕ} → Committed R v h → Committed R′ v′ h → R ≤ R′ → v′ ≡ v
-  agreed-above c c′ = agreed c (commit-lawful lawful c′ .written)
-
-  -- Two commits have one value.
+  -- Two commits have one value: that of the higher round is written there.
   pub agreed-commits : {R v R′ v′ : ℕ} → Committed R v h → Committed R′ v′ h → v ≡ v′
   agreed-commits {R} {R′} c c′ =
-      elim (decLe R R′) [ yes low ↦ sym (agreed-above c c′ low) | no high ↦ agreed-above c′ c (omega arith) ]
+      elim (decLe R R′) [
+        | yes low ↦ sym (agreed c (commit-lawful lawful c′ .written) low)
+        | no high ↦ agreed c′ (commit-lawful lawful c .written) (omega arith)
+      ]

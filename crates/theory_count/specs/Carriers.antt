@@ -1,14 +1,14 @@
 -- The processes that carry a value to the register above the middle of the window, and the last writers of the epoch before: of two values,
 -- one is carried by none of these.
-use Rattle.base.specs.Prelude.{ℕ, suc, zero, _+_, _*_, _≤_, _<_, arith, _≡_, refl, sym, _∙_, subst, List, _∷_, inl, inr, ⊎-elim}
+use Rattle.base.specs.Prelude.{ℕ, suc, _+_, _≤_, _<_, arith, _≡_, refl, sym, _∙_, subst, List, _∷_, inl, inr, ⊎-elim}
 use Rattle.model_rule.specs.Event.{Event, write, Past, Written}
-use Rattle.theory_board.specs.Epoch.{top, last, Wrote, HeldBy}
+use Rattle.theory_board.specs.Epoch.{top, last, Wrote}
 use Rattle.theory_board.specs.Lawful.{lawful-at}
 use Rattle.theory_board.specs.Past.{past-trans, past-before, past-total, past-cons, past-older}
 use Rattle.theory_board.specs.Registers.{top-le, last-since}
 use Rattle.model_rule.specs.Event.Past.{here}
 use Rattle.theory_count.specs.Ends.{upTo, up-past, up-top, up-most, Newest, newest-write, newest-holds}
-use Rattle.theory_count.specs.Rivals.{Rivals, held-at, cell, walked}
+use Rattle.theory_count.specs.Rivals.{Rivals, held-at, cell}
 
 -- In two epochs one after the other each of two values is written to a register of the window.
 pub carried-twice : {W n R u v c d : ℕ} {h : List Event} (i j : ℕ) → Rivals W n R u v h → Written R c h → Written R d h → (c ≡ d → ⊥) →

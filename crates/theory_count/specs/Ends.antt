@@ -1,6 +1,5 @@
 -- The end of an epoch: the longest older part of a past in which no higher round is written, and the newest write to a register in a past.
-use Rattle.base.specs.Prelude.{ℕ, _≤_, arith, ℕ-discrete, _≡_, refl, sym, _∙_, ap, cond, List, [], _∷_, _⊎_, inl, inr, ⊎-elim, leb, eqb}
-use Rattle.base.specs.Prelude.{leb-true, leb-false, le-leb, eq-eqb}
+use Rattle.base.specs.Prelude.{ℕ, _≤_, arith, ℕ-discrete, _≡_, refl, _∙_, ap, cond, List, [], _∷_, ⊎-elim, leb, leb-true, leb-false, eq-eqb}
 use Rattle.base.specs.Bools.{cond-cases}
 use Rattle.model_rule.specs.Event.{Event, proposal, write, flag, commit, decision, Past}
 use Rattle.model_rule.specs.Event.Past.{here, there}

@@ -1,5 +1,5 @@
 -- The count: two values at the register of a commit take more processes than there are below the threshold.
-use Rattle.base.specs.Prelude.{ℕ, suc, zero, max, _+_, _*_, _-_, _/_, _%_, _≤_, _<_, arith, ℕ-discrete, decLe, decLt, mod-lt}
+use Rattle.base.specs.Prelude.{ℕ, suc, zero, _+_, _*_, _-_, _/_, _%_, _≤_, _<_, arith, ℕ-discrete, decLe, decLt, mod-lt}
 use Rattle.base.specs.Prelude.{div-lt-iff-lt-mul, _≡_, List}
 use Rattle.model_rule.specs.Event.{Event}
 use Rattle.model_rule.specs.Safe.{threshold}

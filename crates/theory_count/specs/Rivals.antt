@@ -3,7 +3,7 @@ use Rattle.base.specs.Prelude.{ℕ, suc, zero, _+_, _≤_, _<_, arith, ℕ-disc
 use Rattle.model_rule.specs.Event.{Event, Written}
 use Rattle.theory_board.specs.Epoch.{Wrote, Held, Passed}
 use Rattle.theory_board.specs.Lawful.{CommitLawful, Lawful, lawful-at}
-use Rattle.theory_board.specs.Past.{past-before, passed-past, passed-any}
+use Rattle.theory_board.specs.Past.{past-before, passed-past}
 use Rattle.theory_board.specs.Registers.{written-in}
 use Rattle.theory_count.specs.TwoValues.{two-values}
 
@@ -12,7 +12,7 @@ pub walked : {W n i r v : ℕ} {h : List Event} → Lawful W n h → Written r v
 walked {r = zero} lawful w low below = absurd (omega arith)
 walked {i} {r = suc r} lawful w low below =
     let past = w .1 .past in
-    let pass = passed-past (past-before past) (passed-any (lawful-at lawful past .passed r refl (omega arith))) in
+    let pass = passed-past (past-before past) (lawful-at lawful past .passed r refl (omega arith)) in
     elim (ℕ-discrete i r) [
       | yes same ↦ rw same pass
       | no other ↦ walked lawful (written-in (pass .written)) low (omega arith)

@@ -1,10 +1,9 @@
 -- The sharp count: beside the writes of the grid, the processes that carry one of the two values to the register above it.
 use Rattle.base.specs.Prelude.{ℕ, suc, zero, _+_, _*_, _-_, _/_, _%_, _≤_, _<_, arith, ℕ-discrete, decLe, decLt, mod-lt, div-lt-iff-lt-mul}
-use Rattle.base.specs.Prelude.{_≡_, refl, sym, List, _⊎_, inl, inr}
+use Rattle.base.specs.Prelude.{_≡_, sym, List, _⊎_, inl, inr}
 use Rattle.model_rule.specs.Event.{Event, Written}
 use Rattle.theory_board.specs.Epoch.{Wrote}
 use Rattle.theory_board.specs.Lawful.{lawful-at}
-use Rattle.theory_board.specs.Registers.{top-le}
 use Rattle.theory_count.specs.Pigeon.{holes}
 use Rattle.theory_count.specs.Apart.{same-write, grid-once}
 use Rattle.theory_count.specs.Rivals.{Rivals, walked, cell}

@@ -1,13 +1,13 @@
 -- The calls follow the machine, and what they answered stands in the records.
-use Rattle.base.specs.Prelude.{ℕ, _≤_, arith, _≡_, refl, sym, _∙_, ap, subst, ℕ-discrete, true, List, [], _∷_, _++_, _⊎_, inl, inr, ⊎-elim}
+use Rattle.base.specs.Prelude.{ℕ, _≤_, arith, _≡_, refl, sym, _∙_, ap, subst, ℕ-discrete, true, List, [], _∷_, _⊎_, inl, inr, ⊎-elim}
 use Rattle.model_laws.specs.Types.{Session, Counts, Process, Propose, Crash}
 use Rattle.model.specs.Board.{processAt, idle}
 use Rattle.model.specs.Machine.{answered, perform}
 use Rattle.model.specs.Sound.{soundForAs}
 use Rattle.model_laws.specs.Accepted.{returned, never-three}
 use Rattle.model_laws.specs.Answers.{stepped-code, operate-sound, propose-counts, crash-counts}
-use Rattle.model_rule.specs.Event.{Event, proposal, stepEvents, Past, here, there, Proposed}
-use Rattle.model_rule.specs.System.{inputs, machine, events, past, EachAsTheMachine}
+use Rattle.model_rule.specs.Event.{Event, proposal, Past, here, there, Proposed}
+use Rattle.model_rule.specs.System.{inputs, machine, past, EachAsTheMachine}
 use Rattle.model_rule.specs.Calls.{Input}
 use Rattle.model_poll.specs.declared.Answer.{Answer}
 use Rattle.model_poll.specs.declared.PollStepped.{PollStepped}
@@ -74,12 +74,6 @@ held W start v each (there {e = d} {h = cs} stood) has =
     (subst (λ (a : Answer). Carries a v) (sym (h .2)) has) in
     (h .0, h .1, ap answerOf still ∙ h .2)
 
--- The events of an accepted turn.
-turn-events : (W : ℕ) (m : Session) (f : Input PollOperation) (p : ℕ) → f .operation ≡ turns p →
-    pollPerform W m (f .counts) (f .operation) .code ≡ 0 →
-    let q = processAt m p in events (polls W) m f ≡ stepEvents p (q .round) (q .estimate) (q .phase)
-turn-events W m f p own accepted = rw (accepted, own) refl
-
 -- The answer of the newest call is of a value that was proposed before it.
 newest-proposed : {W n : ℕ} {start : Session} → 1 ≤ W → Reached true W n W start [] →
     (f : Input PollOperation) (fs : List (Input PollOperation)) (v : ℕ) →
@@ -90,7 +84,7 @@ newest-proposed {W} {n} {start} wide i f fs v has =
     let q = processAt m (g .0) in
     let known = answer-known (poll-reached wide i (f ∷ fs)) (g .0) v (subst (λ (a : Answer). Carries a v) (g .3) has) .0 in
     step-older (proposal v) (g .0) (q .round) (q .estimate) (q .phase) (λ z. z)
-    (subst (λ (es : List Event). Proposed v (es ++ past (polls W) start fs)) (turn-events W m f (g .0) (g .1) (g .2)) known)
+    (rw (g .2, g .1) at known)
 
 -- "Each answer was proposed", by an accepted call before it.
 pub answers-proposed : {W n : ℕ} {start : Session} {c : PollCall} {older cs : List PollCall} → 1 ≤ W → Reached true W n W start [] →
@@ -127,11 +121,6 @@ new-answer {W} {n} {m} i c o p v =
     by-turn (turns j) p e has = rw e refl
     by-turn (crashes j) p e has = absurd has
 
--- An accepted turn of process p gives the answer that p then has.
-own-gives : (W : ℕ) (m : Session) (c : Counts) (o : PollOperation) (p : ℕ) → o ≡ turns p → pollPerform W m c o .code ≡ 0 →
-    pollPerform W m c o .answer ≡ answerOf (processAt (pollPerform W m c o .session) p)
-own-gives W m c o p e accepted = rw e (turn-gives W m c p (rw e at accepted))
-
 -- No process of the poll that the calls began with has proposed.
 abbrev pub Fresh : Session → Type 0
 Fresh start = (p : ℕ) → processAt start p ≡ idle
@@ -155,6 +144,6 @@ shown-given {W} {n} {start} wide i fresh (c ∷ cs) each p v has =
       older = cs;
       stood = here;
       own = own .0;
-      answer = ap (λ (x : PollStepped). x .answer) (each .0) ∙ own-gives W m (c .input .counts) o p (own .0) (own .1);
+      answer = ap (λ (x : PollStepped). x .answer) (each .0) ∙ turn-gives W m (c .input .counts) o p (own .0) (own .1);
     })
     (new-answer (poll-reached wide i (inputs cs)) (c .input .counts) o p v has)

@@ -1,8 +1,7 @@
 -- What is known of a poll that the machine came to, at any window W, and of the answers that its records hold.
-use Rattle.base.specs.Prelude.{ℕ, _≤_, _<_, arith, _≡_, refl, _∙_, List, [], _++_, ⊎-elim, true, false, eqb-true}
-use Rattle.model_laws.specs.Types.{Phase, HasCommitted, HasAdopted, Session, Counts, Process, Propose, Crash}
+use Rattle.base.specs.Prelude.{ℕ, _≤_, _<_, arith, _≡_, refl, _∙_, List, [], _++_, _⊎_, inl, inr, ⊎-elim, true, eqb-true}
+use Rattle.model_laws.specs.Types.{HasCommitted, HasAdopted, Session, Counts, Process, Propose, Crash}
 use Rattle.model.specs.Board.{processAt, opened, maxProcesses, maxRounds}
-use Rattle.model.specs.Refusal.{status, isOutside}
 use Rattle.model.specs.Sound.{soundPhaseAs}
 use Rattle.model_laws.specs.Sounds.{sound-process}
 use Rattle.model_rule.specs.Event.{Event, Proposed, Written, Committed}
@@ -15,9 +14,8 @@ use Rattle.model_poll.specs.Machine.{PollOperation, proposes, turns, crashes, t
 use Rattle.model_rule.specs.PollCalls.{pollEventsOf, polls}
 use Rattle.model_poll_laws.specs.Opening.{opened-poll-sound}
 use Rattle.model_poll_laws.specs.Sounds.{phase-rule, poll-limit, poll-process, turn-after-sound, proposed-sound, crashed-sound}
-use Rattle.model_poll_laws.specs.Performs.{PollAccepted, pollAfter, perform-cases, poll-after-size, accepted-here, answer-cases}
+use Rattle.model_poll_laws.specs.Performs.{PollAccepted, pollAfter, perform-cases, turn-size, accepted-here, answer-cases, answer-gone}
 use Rattle.theory_board.specs.Lawful.{commit-lawful}
-use Rattle.theory_board.specs.Place.{Placed}
 use Rattle.theory_board.specs.Reached.{Reached, accepted-reached, opened-reached}
 use Rattle.theory_board.specs.Lists.{machine-kept}
 use Rattle.theory_count.specs.Agreed.{agreed}
@@ -34,7 +32,7 @@ accepted-poll {W} {n} {s} wide c (turns p) i a =
     let sound = turn-after-sound W s (i .sound) wide p (a .below) (a .inside) (a .here) in
     record {
       sound = sound;
-      size = poll-after-size W s (turns p) ∙ i .size;
+      size = turn-size W s p ∙ i .size;
       rounds = poll-limit W (turnAfter W s p) sound;
       invariant = turn-kept (i .invariant) wide (i .sound) c p a;
     }
@@ -64,36 +62,32 @@ module _ {W n : ℕ} {s : Session} {h : List Event} (i : Reached true W n W s h)
   abbrev q : Process
   q = processAt s p
 
-  -- The phase is one of the two, the round is W, and the estimate is v.
-  phase-is : (φ : Phase) → q .phase ≡ φ → isOutside (status φ) ≡ false →
-      (soundPhaseAs true W (s .limit) (q .round) φ ≡ true → q .round ≡ W) → q .estimate ≡ v →
-      Proposed v h × Placed W p W v φ h
-  phase-is φ e o rule same =
-      let inside : isOutside (status (q .phase)) ≡ false = rw e o in
-      let placed = i .invariant .stands p .placed inside in
-      let round = rule (rw e at (phase-rule W (s .limit) q (sound-process true W s p (i .sound)))) in
-      (rw same at (placed .0), rw (e, round, same) at (placed .1))
+  -- The phase is one of the two, and tells of round W and of v.
+  answer-placed : Proposed v h × (((q .phase ≡ HasCommitted) × Committed W v h) ⊎ ((q .phase ≡ HasAdopted) × Written W v h))
+  unfolding answerOf soundPhaseAs
+  answer-placed =
+      let a = answer-cases (q .phase) (q .estimate) v has in
+      let rule = phase-rule W (s .limit) q (sound-process true W s p (i .sound)) in
+      let placed = i .invariant .stands p .placed (rw (answer-gone q v has) refl) in (
+        rw (a .1) at (placed .0),
+        ⊎-elim
+            (λ e. inl (e, rw (e, eqb-true (q .round) W (rw e at rule), a .1) at (placed .1)))
+            (λ e. inr (e, rw (e, eqb-true (q .round) W (rw e at rule), a .1) at (placed .1)))
+            (a .0),
+      )
 
   -- An answer's value was proposed, and written to the register of round W.
   pub answer-known : Proposed v h × Written W v h
-  unfolding answerOf soundPhaseAs
   answer-known =
-      let a = answer-cases (q .phase) (q .estimate) v has in
-      ⊎-elim
-      (λ e. let k = phase-is HasCommitted e refl (λ t. eqb-true (q .round) W t)
-      (a .1) in (k .0, commit-lawful (i .invariant .lawful) (k .1) .written))
-      (λ e. phase-is HasAdopted e refl (λ t. eqb-true (q .round) W t) (a .1))
-      (a .0)
+      (answer-placed .0, ⊎-elim (λ c. commit-lawful (i .invariant .lawful) (c .1) .written) (λ a. a .1) (answer-placed .1))
 
   -- A committed one was committed in round W.
   pub answer-committed : answerOf q ≡ Commits v → Committed W v h
-  unfolding answerOf soundPhaseAs
+  unfolding answerOf
   answer-committed e =
-      let a = answer-cases (q .phase) (q .estimate) v has in
-      ⊎-elim
-      (λ c. phase-is HasCommitted c refl (λ t. eqb-true (q .round) W t) (a .1) .1)
-      (λ c. let other : Adopts (q .estimate) ≡ Commits v = rw c at e in let z : _≡_ {A = ℕ} 0 1 = cc in absurd (omega arith))
-      (a .0)
+      ⊎-elim (λ c. c .1)
+      (λ a. let other : Adopts (q .estimate) ≡ Commits v = rw (a .0) at e in let z : _≡_ {A = ℕ} 0 1 = cc in absurd (omega arith))
+      (answer-placed .1)
 
 -- "If one answer is committed v, every answer carries v", where the window is wide enough.
 pub answers-agree : {W n : ℕ} {s : Session} {h : List Event} → Reached true W n W s h → 2 ≤ W → n < threshold W → (p q u v : ℕ) →

@@ -16,7 +16,7 @@ use Rattle.model_rule.specs.PollCalls.{polls, PollCall, isTurnOf, turnsOf}
 use Rattle.model_poll_laws.specs.Sounds.{as-session, round-rule, poll-limit}
 use Rattle.model_poll_laws.specs.Performs.{PollAccepted, pollProcessOf, pollBecomes, perform-cases, others-stay, own-becomes}
 use Rattle.model_poll_laws.specs.Performs.{accepted-below}
-use Rattle.model_poll_laws.specs.Pass.{Taken, taken-none, taken-low, taken-turn}
+use Rattle.model_poll_laws.specs.Pass.{Taken, taken-low, taken-turn}
 use Rattle.theory_board.specs.Reached.{Reached}
 use Rattle.theory_poll.specs.Machine.{poll-reached}
 use Rattle.theory_poll.specs.Calls.{Fresh}
@@ -37,7 +37,9 @@ module _ {W n : ℕ} {m : Session} {h : List Event} (i : Reached true W n W m h)
   sound-at p = rw (poll-limit W m (i .sound)) at (sound-process true W m p (i .sound))
 
   -- What soundness says of a record, for the count.
-  pub taken-pass : (p t : ℕ) → TakenBy W (processAt m p) t → (t ≤ passTurns W) × (status (processAt m p .phase) ≡ Active → t < passTurns W)
+  pub taken-pass : (p t : ℕ) → TakenBy W (processAt m p) t →
+      let σ = status (processAt m p .phase) in
+      (t ≤ passTurns W) × (σ ≡ Active → t < passTurns W) × (isOutside σ ≡ true → t ≡ 0)
   taken-pass p t k =
       let q = processAt m p in
       let sound = sound-at p in
@@ -46,9 +48,7 @@ module _ {W n : ℕ} {m : Session} {h : List Event} (i : Reached true W n W m h)
   -- What an accepted operation makes of the record of its process, with the turn counted if it is one.
   own-taken : (c : Counts) (o : PollOperation) (t : ℕ) → PollAccepted m c o → TakenBy W (processAt m (pollProcessOf o)) t →
       TakenBy W (pollBecomes W m o) (cond (isTurnOf (pollProcessOf o) o) (suc t) t)
-  own-taken c (proposes p v) t a k =
-      let q = processAt m p in
-      omega (arith, taken-none W (q .round) t (q .phase) (not-false (isOutside (status (q .phase))) (a .own .1 .0)) k)
+  own-taken c (proposes p v) t a k = omega (arith, taken-pass p t k .2 (not-false _ (a .own .1 .0)))
   own-taken c (turns p) t a k =
       rw (eq-eqb p p refl, poll-limit W m (i .sound)) (taken-turn W (processAt m p) _ t (a .inside) (a .here) (sound-at p) k)
   own-taken c (crashes p) t a k = taken-pass p t k .0

@@ -1,5 +1,5 @@
 -- The rule of polls holds at every window that is wide enough, and so in service; and contested is the number of marked rounds.
-use Rattle.base.specs.Prelude.{ℕ, _*_, _≤_, _<_, arith, _≡_, refl, sym, _∙_, subst, List, [], _∷_, _+_, true}
+use Rattle.base.specs.Prelude.{ℕ, _*_, _≤_, _<_, arith, _≡_, refl, sym, _∙_, subst, List, [], true}
 use Rattle.model_laws.specs.Types.{Session, Counts, Propose, Crash}
 use Rattle.model.specs.Window.{window}
 use Rattle.model.specs.Board.{limitsOf, processAt, idle, opened, maxProcesses}
@@ -14,12 +14,12 @@ use Rattle.model_poll.specs.Machine.{turns, PollOperation, proposes, crashes, t
 use Rattle.model_poll_laws.specs.Opening.{poll-opened}
 use Rattle.model_poll_laws.specs.Answers.{turn-accepted}
 use Rattle.model_poll_laws.specs.Sounds.{poll-access-range, poll-process}
-use Rattle.model_rule.specs.Event.{Past, Event}
+use Rattle.model_rule.specs.Event.{Event}
 use Rattle.model_rule.specs.Safe.{threshold, PollBelowThreshold}
 use Rattle.model_rule.specs.System.{inputs, machine, past, EachAsTheMachine}
 use Rattle.model_rule.specs.PollCalls.{polls, PollCall, PollRunWith}
 use Rattle.model_rule.specs.PollRule.{Gave, PollRule, PollClaimWith, EveryPollWindow, PollClaim, CallerPollClaim}
-use Rattle.model_rule.specs.Contested.{markedRounds, PollContestedRule}
+use Rattle.model_rule.specs.Contested.{PollContestedRule}
 use Rattle.theory_board.specs.Marks.{GrowAlike, turn-adds, perform-adds, opened-unmarked, calls-contested}
 use Rattle.theory_board.specs.Opening.{same-everywhere}
 use Rattle.theory_board.specs.Lists.{after-each}
@@ -29,9 +29,6 @@ use Rattle.theory_poll.specs.Machine.{poll-reached, opened-poll, answers
 use Rattle.theory_poll.specs.Unanimous.{AllCalm, machine-calm, opened-calm, calm-answer}
 use Rattle.theory_poll.specs.Calls.{Fresh, polls-followed, held, answers-proposed, shown-given}
 use Rattle.theory_poll.specs.Passes.{taken-pass, calls-taken}
-
-turns-of : {p q : ℕ} → turns p ≡ turns q → p ≡ q
-turns-of e = cc
 
 -- ---- of the machine, at any window W with 2 ≤ W and a threshold above n
 
@@ -47,15 +44,12 @@ module _ {W n : ℕ} {start : Session} (wide : 2 ≤ W) (few : n < threshold W) 
   here : Reached true W n W m (past (polls W) start (inputs cs))
   here = poll-reached some i (inputs cs)
 
-  -- The process of a call that gave an answer, with that answer.
-  still : {c : PollCall} {older : List PollCall} (v : ℕ) → Past (c ∷ older) cs → Carries (c .answer .answer) v →
-      (p : ℕ) × (c .input .operation ≡ turns p) × (answerOf (processAt m p) ≡ c .answer .answer)
-  still v stood has = held W start v each stood has
-
   kept-answer : {p : ℕ} {a : Answer} (v : ℕ) → Gave p a cs → Carries a v → answerOf (processAt m p) ≡ a
   kept-answer {p} {a} v gave has =
-      let k = still v (gave .stood) (subst (λ (x : Answer). Carries x v) (sym (gave .answer)) has) in
-      subst (λ (o : ℕ). answerOf (processAt m o) ≡ a) (turns-of (sym (k .1) ∙ gave .own)) (k .2 ∙ gave .answer)
+      let k = held W start v each (gave .stood) (subst (λ (x : Answer). Carries x v) (sym (gave .answer)) has) in
+      let own : turns (k .0) ≡ turns p = sym (k .1) ∙ gave .own in
+      let same : k .0 ≡ p = cc in
+      rw same at (k .2 ∙ gave .answer)
 
   pub calls-rule : PollRule W start cs m
   calls-rule =
@@ -63,12 +57,12 @@ module _ {W n : ℕ} {start : Session} (wide : 2 ≤ W) (few : n < threshold W) 
         validity = λ v stood has. answers-proposed some i v each stood has;
         agreement =
             λ u v one other committed has.
-            let a = still v one (rw committed refl) in
-            let b = still u other has in
+            let a = held W start v each one (rw committed refl) in
+            let b = held W start u each other has in
             answers-agree here wide few (a .0) (b .0) u v (a .2 ∙ committed) (subst (λ (x : Answer). Carries x u) (sym (b .2)) has);
         unanimity =
             λ u v only stood has.
-            let a = still u stood has in
+            let a = held W start u each stood has in
             sym (a .2) ∙ calm-answer here v only (machine-calm some i calm v (inputs cs) only) (a .0) u
             (subst (λ (x : Answer). Carries x u) (sym (a .2)) has);
         kept = λ v gave has. kept-answer v gave has;

@@ -10,7 +10,7 @@ use Rattle.model.specs.Step.{waitingRule, access, phaseAccess, goOn, next, phas
 use Rattle.model_laws.specs.Phases.{PhaseSound, process-facts}
 use Rattle.model_rule.specs.Event.{Event, flag, stepEvents, Happened, Proposed, Written}
 use Rattle.model_rule.specs.Event.Past.{there, here}
-use Rattle.model_poll.specs.Turn.{withoutDecision, pollAccess, ending, pollNext, phaseAnswer, answerOf, Carries}
+use Rattle.model_poll.specs.Turn.{withoutDecision, pollAccess, ending, pollNext, answerOf, Carries}
 use Rattle.theory_board.specs.Epoch.{last}
 use Rattle.theory_board.specs.Past.{past-before, past-none, happened-past, happened-older}
 use Rattle.theory_board.specs.Registers.{wrote-round, last-written}
@@ -190,9 +190,6 @@ unfolding opened
 opened-calm W n =
     record { calm = λ p. rw (same-everywhere maxProcesses p idle) tt; none = λ j f. past-none (f .past) }
 
-committed-is : (φ : Phase) (e v : ℕ) → φ ≡ HasCommitted → e ≡ v → phaseAnswer φ e ≡ Commits v
-committed-is φ e v a b = rw (a, b) refl
-
 -- An answer of a calm process is committed, and carries v.
 pub calm-answer : {W n : ℕ} {s : Session} {h : List Event} → Reached true W n W s h → (v : ℕ) → Only v h → AllCalm s h → (p u : ℕ) →
     Carries (answerOf (processAt s p)) u → answerOf (processAt s p) ≡ Commits v
@@ -201,4 +198,4 @@ calm-answer {s = s} i v only k p u has =
     let q = processAt s p in
     let a = answer-cases (q .phase) (q .estimate) u has in
     let same : q .estimate ≡ v = a .1 ∙ only u (answer-known i p u has .0) in
-    ⊎-elim (λ e. committed-is (q .phase) (q .estimate) v e same) (λ e. absurd (rw e at (k .calm p))) (a .0)
+    ⊎-elim (λ (e : q .phase ≡ HasCommitted). rw (e, same) refl) (λ e. absurd (rw e at (k .calm p))) (a .0)

@@ -10,9 +10,7 @@ use mathlib.Core.Bool.{Bool, true, cond, not, _||_}
 use mathlib.Core.List.{List, [], _∷_, _++_, map}
 use lib.Dec.{ltb, eqb}
 use lib.ListN.{replicate}
-use Rattle.model.specs.declared.Operation.{Operation}
-use Rattle.model.specs.declared.Operation.the-variants.{Propose, Learn}
-use Rattle.model.specs.Machine.{Command, acts}
+use Rattle.model_laws.specs.Types.{Command, acts, Operation, Propose, Learn}
 use Rattle.model_rule_cases.specs.Play.{works}
 
 -- ---- numbers

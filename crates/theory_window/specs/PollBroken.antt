@@ -1,13 +1,10 @@
 -- By computation: the list of calls of each window from 2 to 15 (`theory_window`, `Construction`) breaks the rule of polls at that window.
 use Prim.Native.Nat.{ℕ, _-_}
 use mathlib.Core.Path.{_≡_, refl}
-use mathlib.Core.Bool.{Bool, true, false, _&&_}
+use mathlib.Core.Bool.{Bool, true, _&&_}
 use mathlib.Core.List.{List, [], _++_, map}
-use lib.Dec.{eqb}
 use lib.ListN.{replicate}
-use Rattle.model.specs.declared.Session.{Session}
-use Rattle.model.specs.declared.Operation.{Operation}
-use Rattle.model.specs.declared.Operation.the-variants.{Propose, Step, Learn, Crash}
+use Rattle.model_laws.specs.Types.{Session, Operation, Propose, Step, Learn, Crash}
 use Rattle.model.specs.Board.{opened, processAt}
 use Rattle.model.specs.Step.{waitingRule, phaseAccess, access, found, goOn, phaseNext, next, learnt, stored, turn, counted}
 use Rattle.model.specs.Refusal.{full}
@@ -15,10 +12,10 @@ use Rattle.model.specs.Machine.{accessOf, becomes, after, countsAfter, answered
 use Rattle.model.specs.Sound.{every}
 use Rattle.model_rule.specs.Safe.{threshold}
 use Rattle.model_rule.specs.PollCalls.{polls}
-use Rattle.model_poll.specs.declared.Answer.{Answer}
-use Rattle.model_poll.specs.declared.Answer.the-variants.{Pending, Commits, Adopts}
+use Rattle.model_poll.specs.declared.Answer.the-variants.{Commits, Adopts}
 use Rattle.model_poll.specs.Turn.{withoutDecision, pollAccess, ending, pollNext, answerOf}
 use Rattle.model_poll.specs.Machine.{PollOperation, proposes, turns, crashes, turnAfter, turnCounts, turned, pollPerform}
+use Rattle.model_rule_cases.specs.PollRefuted.{isAnswer}
 use Rattle.theory_window.specs.Construction.{from, withWrite, goesOn, allGoOn, onePass, epochs, atFirst, atLast, withOne, withTwo}
 use Rattle.theory_window.specs.Construction.{commitSteps, lastSteps}
 use Rattle.theory_window.specs.More.{watched}
@@ -38,19 +35,9 @@ operations W =
     let s = atLast W in
     map turnOf (s .operations) ++ replicate (commitSteps W) (turns (withOne W s)) ++ replicate (lastSteps W 0) (turns (withTwo W s))
 
-abbrev pub isCommitted : (v : ℕ) → Answer → Bool
-isCommitted v Pending = false
-isCommitted v (Commits u) = eqb u v
-isCommitted v (Adopts u) = false
-
-abbrev pub isAdopted : (v : ℕ) → Answer → Bool
-isAdopted v Pending = false
-isAdopted v (Commits u) = false
-isAdopted v (Adopts u) = eqb u v
-
 -- One record shows that 1 is committed, and another that 2 is adopted.
 unfoldable pub answersDiffer : Session → (one other : ℕ) → Bool
-answersDiffer s one other = isCommitted 1 (answerOf (processAt s one)) && isAdopted 2 (answerOf (processAt s other))
+answersDiffer s one other = isAnswer (Commits 1) (answerOf (processAt s one)) && isAnswer (Adopts 2) (answerOf (processAt s other))
 
 -- The list of window W breaks the rule there, with as many processes as break it for sessions.
 unfoldable pub broken : (W : ℕ) → Bool

@@ -1,7 +1,6 @@
 -- More processes, which take no part in a poll, change nothing of what it comes to.
 use Rattle.base.specs.Prelude.{ℕ, _+_, _<_, arith, add-zero, _≡_, refl, _∙_, ap, Bool, true, List, ltb, lt-leb, ltb-true}
-use Rattle.model.specs.declared.Session.{Session}
-use Rattle.model.specs.declared.Operation.the-variants.{Propose, Crash}
+use Rattle.model_laws.specs.Types.{Session, Propose, Crash}
 use Rattle.model.specs.Board.{processAt, noCounts}
 use Rattle.model.specs.Step.{turn}
 use Rattle.model.specs.Refusal.{refusal}

@@ -2,8 +2,7 @@
 use Rattle.base.specs.Prelude.{ℕ, suc, zero, _+_, _*_, _-_, _/_, _≤_, _<_, arith, mul-le-mul, add-zero, add-assoc, _≡_, refl, sym, _∙_, ap}
 use Rattle.base.specs.Prelude.{ap₂, subst, ℕ-discrete, decLe, lt-of-not-le, Bool, true, cond, _&&_, List, [], _∷_, _++_, leb, ltb, le-leb}
 use Rattle.base.specs.Bools.{and-left, and-right}
-use Rattle.model.specs.declared.Limits.{Limits}
-use Rattle.model.specs.declared.Session.{Session}
+use Rattle.model_laws.specs.Types.{Limits, Session}
 use Rattle.model.specs.Window.{window, rootUp, rootFrom}
 use Rattle.model.specs.Board.{UpToServer, opened, maxProcesses}
 use Rattle.model.specs.Machine.{openingFor}

@@ -11,8 +11,7 @@ use prog.Wp.{Heap}
 use ghost.Atoms.{Atoms}
 use contract.Monad.{Fun}
 use denote.Ref.{RefT, now}
-use Rattle.model_laws.specs.Types.{Caller}
-use Rattle.model.specs.declared.CountAnswer.{CountAnswer}
+use Rattle.model_laws.specs.Types.{Caller, CountAnswer}
 use Rattle.model.specs.Board.{limitsOf}
 use Rattle.model.specs.Bytes.{byteAt, word16}
 use Rattle.model.specs.Sheet.{sheetRefusal}

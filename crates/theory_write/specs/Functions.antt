@@ -3,15 +3,13 @@
 use lib.ListN.{getD}
 use Rattle.base.specs.Prelude.{ℕ, suc, zero, _+_, _/_, _≤_, _<_, arith, add-zero, zero-add, _≡_, refl, ap, sym, subst, _∙_, true}
 use Rattle.base.specs.Prelude.{List, [], _∷_, _++_, length, take, drop}
-use Rattle.model_laws.specs.Types.{Caller}
-use Rattle.model.specs.declared.Entry.{Entry}
-use Rattle.model.specs.declared.CountAnswer.{CountAnswer}
+use Rattle.model_laws.specs.Types.{Caller, CountAnswer, Entry}
 use Rattle.model.specs.Board.{limitsOf}
 use Rattle.model.specs.Bytes.{byteAt}
 use Rattle.model.specs.ReadOut.{countAnswer}
 use Rattle.model.specs.Sheet.{runAt, runsFrom, runCount, processCount, roundLimit, entries}
 use Rattle.model_laws.specs.Callers.{caller-limits}
-use Rattle.model_write.specs.Write.{WriteResult, bufferEntries, wellFormed, wrote, writeResult}
+use Rattle.model_write.specs.Write.{WriteResult, bufferEntries, wellFormed, wrote}
 use Rattle.model_write.specs.RoundTrip.{lengths, lengthsOf, entryBytes, gapless, ReadsAs}
 use Rattle.sheet_layout.specs.declared.Span.{Span}
 use Rattle.sheet_laws.specs.declared.Handed.{Handed}

@@ -1,7 +1,6 @@
 -- The seats' lines, one after another.
 use Rattle.base.specs.Prelude.{ℕ, zero, suc, _+_, _≤_, _<_, zero-add, add-zero, add-suc, suc-add, not-suc-le-zero, le-of-suc-le-suc}
-use Rattle.base.specs.Prelude.{add-one, arith, _≡_, List, [], _∷_, _++_, append-assoc, append-nil, length, getD, take}
-use Rattle.base.specs.Prelude.{take-all}
+use Rattle.base.specs.Prelude.{add-one, arith, _≡_, List, [], _∷_, _++_, append-assoc, append-nil, length, getD, take, take-all}
 use Rattle.model.specs.declared.Process.{Process}
 use Rattle.model_report.specs.Report.{bytes, field, newline, statusWords, seatLine, seatLines}
 use Rattle.use_text.specs.Page.{Put, after, after-parts}
