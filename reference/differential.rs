@@ -100,7 +100,7 @@ impl<'r> Composer<'r> {
             look: random.pick(&[0, 0, 500, 100, 25, 6]),
             crash: random.pick(&[0, 0, 800, 150, 30]),
             hint_no: random.pick(&[0, 0, 40, 8, 2]),
-            close: random.pick(&[0, 0, 0, 0, 600, 100, 20]),
+            close: random.pick(&[0, 0, 0, 0, 0, 600, 100, 20]),
             current: random.below(n),
             asleep: random.word(),
             runner: None,
@@ -307,7 +307,7 @@ impl<'r> Composer<'r> {
         }
         match self.random.below(9) {
             0..=2 => self.refused(),
-            3 => self.late(),
+            3 | 4 => self.late(),
             _ => {}
         }
     }
@@ -334,11 +334,15 @@ impl<'r> Composer<'r> {
         }
     }
 
-    /// A close, mostly, or two, and a proposal that is then refused: by a process that is
-    /// out, if there is one, or by any.
+    /// A close, mostly, or two; now and then an entry of any kind; and a proposal: by a
+    /// process that is out, if there is one, or by any.
     fn late(&mut self) {
-        for _ in 0..self.random.pick(&[0, 1, 1, 1, 2]) {
-            self.offer(Operation::Close);
+        let closes = self.random.pick(&[0, 1, 1, 1, 2]);
+        self.entries.extend([CLOSE].repeat(closes));
+        if self.random.once_in(3) {
+            let kind = self.random.pick(&[1, 1, 2, 3]);
+            let process = self.random.below(self.n());
+            self.entries.push(raw(kind, process, u32::from(kind == 1)));
         }
         let (n, first) = (self.n(), self.random.below(self.n()));
         let out = |p: &usize| self.session.processes[*p].phase == Phase::Idle;
@@ -347,7 +351,7 @@ impl<'r> Composer<'r> {
             Some(process) if !self.random.once_in(3) => process,
             _ => self.any_process(),
         };
-        let value = self.random.pick(&[0, 1, 1, 7, u32::MAX]);
+        let value = self.random.pick(&[0, 0, 1, 1, 7, u32::MAX]);
         self.entries.push(raw(0, process, value));
     }
 
@@ -422,7 +426,7 @@ fn short(random: &mut Random) -> Vec<u8> {
     composer.contend(target);
     match composer.random.below(6) {
         0..=2 => composer.refused(),
-        3 => composer.late(),
+        3 | 4 => composer.late(),
         _ => {}
     }
     composer.sheet()
@@ -711,17 +715,17 @@ events! {
     LookBlank: "look, D blank",
     LookSame: "look, D has the own value",
     LookOther: "look, D has another value",
-    CloseFirst: "close, no seat has proposed",
-    CloseBetween: "close, some seats have proposed",
-    CloseAll: "close, every seat has proposed",
-    CloseCommit: "close, D filled, no seat decided",
-    CloseDecided: "close, a seat decided",
-    CloseAgain: "close, closed already",
-    WorkClosed: "work, closed",
-    CommitClosed: "commit, closed",
-    LookBlankClosed: "look, D blank, closed",
-    LookClosed: "look, D filled, closed",
-    CrashClosed: "crash, closed",
+    CloseFirst: "close, no seat has proposed" at least 5_000,
+    CloseBetween: "close, some seats have proposed" at least 20_000,
+    CloseAll: "close, every seat has proposed" at least 50_000,
+    CloseCommit: "close, D filled, no seat decided" at least 10_000,
+    CloseDecided: "close, a seat decided" at least 10_000,
+    CloseAgain: "close, closed already" at least 50_000,
+    WorkClosed: "work, closed" at least 1_000_000,
+    CommitClosed: "commit, closed" at least 10_000,
+    LookBlankClosed: "look, D blank, closed" at least 10_000,
+    LookClosed: "look, D filled, closed" at least 10_000,
+    CrashClosed: "crash, closed" at least 5_000,
     Shorter: "opened, L below 01's window" at least 10_000,
     ShorterCommit: "commit, L below 01's window" at least 5_000,
     ShorterLook: "look, D filled, L below 01's window" at least 5_000,
@@ -755,14 +759,14 @@ events! {
     SpentYesLater: "9: hint yes, spent by hint no" at least 100,
     SpentNoLater: "9: hint no, spent by hint no" at least 100,
     SpentLook: "look, spent by hint no" at least 100,
-    LateFirst: "18: no seat has proposed",
-    Late: "18: some seats have proposed",
-    LateCommit: "18: D filled",
-    LateAgain: "18: closed twice or more",
-    NoSeatClosed: "4: proposal, closed",
-    BlankClosed: "5 where 18 would follow",
-    BlankTwiceClosed: "5 where 6 would follow, closed",
-    TwiceClosed: "6 where 18 would follow",
+    LateFirst: "18: no seat has proposed" at least 100,
+    Late: "18: some seats have proposed" at least 500,
+    LateCommit: "18: D filled" at least 50,
+    LateAgain: "18: closed twice or more" at least 200,
+    NoSeatClosed: "4: proposal, closed" at least 500,
+    BlankClosed: "5 where 18 would follow" at least 200,
+    BlankTwiceClosed: "5 where 6 would follow, closed" at least 1_000,
+    TwiceClosed: "6 where 18 would follow" at least 1_000,
     TooShort: "10: under 4 bytes",
     TooLong: "10: over 65,535 bytes",
     ManyPairs: "10: over 16 pairs",
@@ -778,12 +782,12 @@ events! {
     WrongWork: "13: value of work",
     WrongLook: "13: value of look",
     WrongCrash: "13: value of crash",
-    WrongCloseSeat: "13: seat of close",
-    WrongCloseValue: "13: value of close",
-    WrongClose: "13: seat and value of close",
+    WrongCloseSeat: "13: seat of close" at least 500,
+    WrongCloseValue: "13: value of close" at least 500,
+    WrongClose: "13: seat and value of close" at least 500,
     ThirteenFirst: "13 where 4 would follow",
-    CloseThirteenFirst: "13: seat of close, n or above",
-    CloseSeat64: "13: seat of close, 64 or above",
+    CloseThirteenFirst: "13: seat of close, n or above" at least 300,
+    CloseSeat64: "13: seat of close, 64 or above" at least 200,
     Buffer0: "15: 0 bytes",
     Buffer255: "15: 255 bytes",
     Buffer257: "15: 257 bytes",
@@ -794,14 +798,14 @@ events! {
     BudgetEnded: "100",
     BudgetZero: "100, budget 0",
     BudgetLast: "100, one entry short",
-    FinishedClosed: "0, closed",
-    ExactlyClosed: "0, budget just enough, a close carried out",
-    BudgetClose: "100, the next entry a close",
-    BudgetCloseFirst: "100, the next entry the first close",
-    BudgetClosed: "100, a close carried out",
-    ReportOpen: "report: open",
-    ReportClosed: "report: closed",
-    ReportLate: "report: 18, closed",
+    FinishedClosed: "0, closed" at least 2_000,
+    ExactlyClosed: "0, budget just enough, a close carried out" at least 200,
+    BudgetClose: "100, the next entry a close" at least 1_000,
+    BudgetCloseFirst: "100, the next entry the first close" at least 1_000,
+    BudgetClosed: "100, a close carried out" at least 3_000,
+    ReportOpen: "report: open" at least 10_000,
+    ReportClosed: "report: closed" at least 10_000,
+    ReportLate: "report: 18, closed" at least 300,
     Marked: "session with marked rounds" at least 10_000,
     MarkedAgain: "session with a round marked again" at least 10_000,
     MarkedByTwo: "session with a round marked by two seats" at least 10_000,
@@ -813,10 +817,10 @@ events! {
     CartDecided: "cart: a seat decided" at least 10_000,
     CartRefused: "cart: entry refused" at least 1_000,
     CartBudget: "cart: 100" at least 1_000,
-    CartReportOpen: "cart: report: open",
-    CartReportClosed: "cart: report: closed",
-    CartLate: "cart: report: 18, closed",
-    CartBudgetClosed: "cart: 100, closed",
+    CartReportOpen: "cart: report: open" at least 10_000,
+    CartReportClosed: "cart: report: closed" at least 10_000,
+    CartLate: "cart: report: 18, closed" at least 300,
+    CartBudgetClosed: "cart: 100, closed" at least 3_000,
     CartNoSeats: "cart: 1, no seats" at least 100,
     CartSeventeen: "cart: 1, n = 17, the server opens" at least 500,
     CartManySeats: "cart: 1, n = 18 to 64, the server opens" at least 1_000,

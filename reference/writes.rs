@@ -27,7 +27,9 @@ use harness::{
 };
 use janus_reference::runner::BUFFER;
 use janus_reference::sheet::{ENTRY, MAX_BYTES};
-use janus_reference::{entry, report_of, window, write, Caller, Operation, Refusal, Sheet};
+use janus_reference::{
+    entry, report_of, run, window, write, Caller, Counts, Operation, Refusal, Sheet,
+};
 
 // ---------------------------------------------------------------- calls
 
@@ -105,8 +107,8 @@ fn alone(random: &mut Random, count: usize) -> Vec<u8> {
 }
 
 /// So many well-formed entries. Mostly all propose first, so that many sheets are
-/// not refused at once when they are run, and now and then one works alone; or there are
-/// closes alone.
+/// not refused at once when they are run; a close may come before some of them. Now and
+/// then one works alone, or there are closes alone.
 fn some_entries(random: &mut Random, n: usize, count: usize) -> Vec<u8> {
     if random.once_in(10) {
         return alone(random, count);
@@ -115,8 +117,12 @@ fn some_entries(random: &mut Random, n: usize, count: usize) -> Vec<u8> {
         return CLOSE.repeat(count);
     }
     let proposals = if random.once_in(5) { 0 } else { n };
+    let close = random.once_in(30).then(|| random.below(n));
     let turns = if random.once_in(3) { 1 } else { n };
     let entry = |place| {
+        if close == Some(place) {
+            return CLOSE;
+        }
         if place < proposals {
             return raw(0, place, random.between(1, 3) as u32);
         }
@@ -344,10 +350,10 @@ events! {
     WrongWork: "13: value of work" at least 100,
     WrongLook: "13: value of look" at least 100,
     WrongCrash: "13: value of crash" at least 100,
-    WrongCloseSeat: "13: seat of close",
-    WrongCloseSeat64: "13: seat of close, 64 or above",
-    WrongCloseValue: "13: value of close",
-    WrongClose: "13: seat and value of close",
+    WrongCloseSeat: "13: seat of close" at least 100,
+    WrongCloseSeat64: "13: seat of close, 64 or above" at least 100,
+    WrongCloseValue: "13: value of close" at least 100,
+    WrongClose: "13: seat and value of close" at least 100,
     WrongFirst: "13: the first entry" at least 100,
     WrongBetween: "13: an entry in between" at least 100,
     WrongLast: "13: the last entry alone" at least 100,
@@ -381,8 +387,8 @@ events! {
     SixteenRuns: "written: 16 runs" at least 100,
     Largest: "written: 65,534 bytes, the most there are" at least 10,
     LargestOneRun: "written: 10,921 entries" at least 10,
-    Closes: "written: with a close",
-    OnlyCloses: "written: closes alone",
+    Closes: "written: with a close" at least 1_000,
+    OnlyCloses: "written: closes alone" at least 100,
     LeastLimit: "written: L = W" at least 100,
     Shorter: "written: L below 01's window" at least 10_000,
     OneSeat: "written: n = 1, L = 2" at least 1_000,
@@ -390,9 +396,9 @@ events! {
     MostSeats: "written: the most seats" at least 10,
     RunFinished: "run to its end" at least 1_000,
     RunRefused: "run to a refused entry" at least 1_000,
-    RunLate: "run to a proposal refused with 18",
+    RunLate: "run to a proposal refused with 18" at least 100,
     RunDecided: "run to a decision" at least 100,
-    RunClosed: "run to a decision, closed",
+    RunClosed: "run to a decision, closed" at least 50,
     RunShorter: "run to a decision, L below 01's window" at least 200,
     RunOneSeat: "run to a decision, n = 1, L = 2" at least 50,
 }
@@ -710,6 +716,14 @@ fn run_cart(caller: u8, sheet: &[u8], fill: u8) -> Result<(u32, bool), String> {
     Ok((code.unwrap_or(0), text.contains(" decided ")))
 }
 
+/// Whether a sheet that was written leaves its session closed.
+fn leaves_closed(caller: Caller, sheet: &[u8]) -> bool {
+    let sheet = Sheet::read(caller, sheet).expect("a sheet in order");
+    let (mut session, mut counts) = (sheet.open(), Counts::default());
+    run(&sheet, u64::MAX, &mut session, &mut counts);
+    session.closed
+}
+
 /// Both sides run the sheet of a call as its caller.
 fn run_both(call: &Call, sheet: &[u8], fill: u8, reached: &mut Reached) -> Result<(), String> {
     let (code, decided) = match call.caller {
@@ -722,8 +736,8 @@ fn run_both(call: &Call, sheet: &[u8], fill: u8, reached: &mut Reached) -> Resul
     });
     let late = Refusal::ClosedToProposals.code();
     reached.note_if(code == late, Event::RunLate);
-    let closed = code == 0 && call.closes().any(|close| close);
-    reached.note_if(decided && closed, Event::RunClosed);
+    let closed = decided && leaves_closed(call.caller(), sheet);
+    reached.note_if(closed, Event::RunClosed);
     let (n, limit) = (call.n, call.limit);
     reached.note_if(decided, Event::RunDecided);
     reached.note_if(decided && shorter(n, limit), Event::RunShorter);
