@@ -323,7 +323,7 @@ impl<'r> Composer<'r> {
     /// An entry that may well be refused, and some after it.
     fn refused(&mut self) {
         let process = self.any_process();
-        let kind = self.random.pick(&[0, 0, 1, 1, 2, 2, 3, 3, 4, 4, 5, 255]);
+        let kind = self.random.pick(&[0, 0, 1, 1, 2, 2, 3, 3, 4, 4, 4, 5, 255]);
         let value = self.random.pick(&[0, 0, 0, 1, 1, 2, 256, 1 << 31]);
         self.entries.push(raw(kind, process, value));
         for _ in 0..self.random.below(4) {
@@ -340,8 +340,8 @@ impl<'r> Composer<'r> {
         let closes = self.random.pick(&[0, 1, 1, 1, 2]);
         self.entries.extend([CLOSE].repeat(closes));
         if self.random.once_in(3) {
-            let kind = self.random.pick(&[1, 1, 2, 3]);
-            let process = self.random.below(self.n());
+            let kind = self.random.pick(&[1, 1, 1, 2, 3, 4, 4]);
+            let process = self.any_process();
             self.entries.push(raw(kind, process, u32::from(kind == 1)));
         }
         let (n, first) = (self.n(), self.random.below(self.n()));
