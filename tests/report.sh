@@ -72,7 +72,9 @@ same "a close with value 1" < <(entries 4 0 1 0 0 0 "${close[@]}")
 says_first "refused 13 0" "0 0 open"
 same "a sheet of 65,536 bytes" < <(head -c 65536 /dev/zero)
 [[ $(cat "$out/ours.txt") == "sheet refused 10" ]]
-(head -c 60 examples/solo.sheet; sleep 0.2; tail -c +61 examples/solo.sheet) | "$program" | cmp - "crates/$crate/stdout"
+# Its stored run, in two pieces.
+stored=crates/$crate
+(head -c 60 "$stored/stdin"; sleep 0.2; tail -c +61 "$stored/stdin") | "$program" | cmp - "$stored/stdout"
 says() { # the words on standard error; what was printed is in ours.txt
     [[ $(cat "$out/said.txt") == "report: $1" ]] || { echo "report: it should say '$1'"; exit 1; }
 }
