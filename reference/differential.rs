@@ -1206,7 +1206,9 @@ impl Coverage {
 /// How many processes of a session have proposed.
 fn proposed(session: &Session) -> usize {
     let seated = session.processes[..session.n].iter();
-    seated.filter(|process| process.phase != Phase::Idle).count()
+    seated
+        .filter(|process| process.phase != Phase::Idle)
+        .count()
 }
 
 /// What is wrong with an entry of kind 4.

@@ -159,7 +159,10 @@ fn list() -> Vec<Operation> {
         },
     ];
     list.extend([0, 1, 0, 1, 0, 0, 1, 0, 0, 1, 1, 1, 2, 9].map(step));
-    list.extend([Operation::Learn { process: 1 }, Operation::Learn { process: 2 }]);
+    list.extend([
+        Operation::Learn { process: 1 },
+        Operation::Learn { process: 2 },
+    ]);
     list.extend([step(0); 80]);
     list.push(Operation::Crash { process: 1 });
     list.extend([step(1), step(0), Operation::Learn { process: 0 }, step(0)]);
@@ -290,13 +293,7 @@ fn ends(bytes: &[u8], budget: u64) -> (Ending, bool) {
 /// A close is an entry: it is counted among those carried out, and in the budget.
 #[test]
 fn budgets_with_closes() {
-    let entries = [
-        raw(0, 0, 7),
-        close(),
-        raw(1, 0, YES),
-        close(),
-        raw(0, 1, 8),
-    ];
+    let entries = [raw(0, 0, 7), close(), raw(1, 0, YES), close(), raw(0, 1, 8)];
     let bytes = sheet(2, 3, &entries);
     for budget in 0..=4 {
         let closed = budget > 1;
@@ -367,7 +364,8 @@ fn the_third_field_of_the_board_line() {
     assert_eq!(open.lines().next(), Some("outcome refused 13 1"));
     assert_eq!(board(&open), "board 0 0 open");
     let closed = of(&[raw(0, 0, 7), close(), raw(0, 1, 7)]);
-    let text = "outcome refused 18 2\ntally 0 0 0\nboard 0 0 closed\nseat 0 working 0 7\nseat 1 out\n";
+    let text =
+        "outcome refused 18 2\ntally 0 0 0\nboard 0 0 closed\nseat 0 working 0 7\nseat 1 out\n";
     assert_eq!(closed, text);
     assert_eq!(report(&[0, 0, 0, 0]), "sheet refused 1\n");
 }
@@ -386,7 +384,11 @@ fn the_third_field_under_budgets() {
 
 #[test]
 fn traces_of_closes() {
-    let text = trace(&sheet(2, 3, &[raw(0, 0, 7), close(), close(), raw(0, 1, 7)]));
+    let text = trace(&sheet(
+        2,
+        3,
+        &[raw(0, 0, 7), close(), close(), raw(0, 1, 7)],
+    ));
     let lines: Vec<&str> = text.lines().collect();
     let line = "    1 | close                    | none                      | closed                                   | 0 0 0";
     assert_eq!(lines[1], line);
@@ -440,8 +442,8 @@ fn a_closed_session_is_no_sound_poll() {
 #[test]
 fn a_closed_opening_is_no_sound_poll() {
     for n in 1..=64 {
-        let mut session = Session::open(Caller::Server, n, window(n) as usize)
-            .expect("an opening within bounds");
+        let mut session =
+            Session::open(Caller::Server, n, window(n) as usize).expect("an opening within bounds");
         let mut poll = Poll::of(&session);
         assert_eq!(poll.propose(0, 7), Ok(()));
         assert_eq!(session.close(), Ok(()));
