@@ -1,7 +1,8 @@
 //! Runs random sheets through the library under test and through the reference
 //! and compares what the C entry answers and leaves in its buffer, and the board
 //! report's text, which has the counts. Contested must be the number of marked
-//! rounds of the session that a sheet leaves. The report is compared once more of each
+//! rounds of the session that a sheet leaves, and the mark closed where a close is among
+//! the entries carried out. (02, wish 10.) The report is compared once more of each
 //! sheet that is run as the bedside cart. (02, wish 9.)
 //!
 //! `differential [COUNT] [SEED]`: so many sheets (100,000 where left out) from
@@ -28,7 +29,7 @@ use std::time::{Duration, Instant};
 
 use harness::{
     cart, cart_size, ends, least_limit, most, raw, same_bytes, same_text, shorter, size, text_by,
-    ByN, Comparison, Entry, Random, Reached, GUARD, MOST_ENTRIES, ONE_SEAT,
+    ByN, Comparison, Entry, Random, Reached, CLOSE, GUARD, MOST_ENTRIES, ONE_SEAT,
 };
 use janus_reference::runner::BUFFER;
 use janus_reference::sheet::MAX_BYTES;
@@ -45,6 +46,7 @@ fn encode(operation: Operation) -> Entry {
         Operation::Step { process, leader } => raw(1, process, u32::from(leader)),
         Operation::Learn { process } => raw(2, process, 0),
         Operation::Crash { process } => raw(3, process, 0),
+        Operation::Close => CLOSE,
     }
 }
 
@@ -75,10 +77,11 @@ struct Composer<'r> {
     current: usize,
     asleep: u64,
     runner: Option<usize>,
-    /// Odds of a look, a crash and a hint of no at each turn.
+    /// Odds of a look, a crash, a hint of no and a close at each turn.
     look: usize,
     crash: usize,
     hint_no: usize,
+    close: usize,
 }
 
 impl<'r> Composer<'r> {
@@ -97,6 +100,7 @@ impl<'r> Composer<'r> {
             look: random.pick(&[0, 0, 500, 100, 25, 6]),
             crash: random.pick(&[0, 0, 800, 150, 30]),
             hint_no: random.pick(&[0, 0, 40, 8, 2]),
+            close: random.pick(&[0, 0, 0, 0, 0, 600, 100, 20]),
             current: random.below(n),
             asleep: random.word(),
             runner: None,
@@ -134,11 +138,16 @@ impl<'r> Composer<'r> {
         }
     }
 
-    /// Most processes propose, all the same value now and then.
+    /// Most processes propose, all the same value now and then; before some of them, or
+    /// before all, the session may be closed.
     fn proposals(&mut self) {
         let alike = self.random.once_in(8).then(|| self.value());
         let skipped = self.random.pick(&[0, 0, 2, 5]);
+        let close = self.random.once_in(15).then(|| self.random.below(self.n()));
         for process in 0..self.n() {
+            if close == Some(process) {
+                self.offer(Operation::Close);
+            }
             if !self.random.once_in(skipped) {
                 let value = alike.unwrap_or_else(|| self.value());
                 self.offer(Operation::Propose { process, value });
@@ -214,6 +223,9 @@ impl<'r> Composer<'r> {
     }
 
     fn next_operation(&mut self) -> Operation {
+        if self.random.once_in(self.close) {
+            return Operation::Close;
+        }
         let process = self.next_process();
         if self.session.processes[process].phase == Phase::Idle {
             let value = self.value();
@@ -293,26 +305,54 @@ impl<'r> Composer<'r> {
                 self.looks();
             }
         }
-        if self.random.once_in(3) {
-            self.refused();
+        match self.random.below(9) {
+            0..=2 => self.refused(),
+            3 | 4 => self.late(),
+            _ => {}
+        }
+    }
+
+    /// Any process, there or not.
+    fn any_process(&mut self) -> usize {
+        match self.random.below(6) {
+            0 => self.random.pick(&[self.n(), 63, 64, 255]),
+            _ => self.random.below(self.n()),
         }
     }
 
     /// An entry that may well be refused, and some after it.
     fn refused(&mut self) {
-        let process = match self.random.below(6) {
-            0 => self.random.pick(&[self.n(), 63, 64, 255]),
-            _ => self.random.below(self.n()),
-        };
-        let kind = self.random.pick(&[0, 0, 1, 1, 2, 2, 3, 3, 4, 255]);
+        let process = self.any_process();
+        let kind = self.random.pick(&[0, 0, 1, 1, 2, 2, 3, 3, 4, 4, 4, 5, 255]);
         let value = self.random.pick(&[0, 0, 0, 1, 1, 2, 256, 1 << 31]);
         self.entries.push(raw(kind, process, value));
         for _ in 0..self.random.below(4) {
             let process = self.random.below(self.n());
-            let kind = self.random.pick(&[0, 1, 2, 2, 3]);
+            let kind = self.random.pick(&[0, 1, 2, 2, 3, 4]);
             let value = u32::from(kind < 2);
             self.entries.push(raw(kind, process, value));
         }
+    }
+
+    /// A close, mostly, or two; now and then an entry of any kind; and a proposal: by a
+    /// process that is out, if there is one, or by any.
+    fn late(&mut self) {
+        let closes = self.random.pick(&[0, 1, 1, 1, 2]);
+        self.entries.extend([CLOSE].repeat(closes));
+        if self.random.once_in(3) {
+            let kind = self.random.pick(&[1, 1, 1, 2, 3, 4, 4]);
+            let process = self.any_process();
+            self.entries.push(raw(kind, process, u32::from(kind == 1)));
+        }
+        let (n, first) = (self.n(), self.random.below(self.n()));
+        let out = |p: &usize| self.session.processes[*p].phase == Phase::Idle;
+        let out = (0..n).map(|place| (first + place) % n).find(out);
+        let process = match out {
+            Some(process) if !self.random.once_in(3) => process,
+            _ => self.any_process(),
+        };
+        let value = self.random.pick(&[0, 0, 1, 1, 7, u32::MAX]);
+        self.entries.push(raw(0, process, value));
     }
 
     /// The sheet of the list, in some way of cutting it into runs.
@@ -384,8 +424,10 @@ fn short(random: &mut Random) -> Vec<u8> {
     }
     let target = composer.random.below(20);
     composer.contend(target);
-    if composer.random.once_in(2) {
-        composer.refused();
+    match composer.random.below(6) {
+        0..=2 => composer.refused(),
+        3 | 4 => composer.late(),
+        _ => {}
     }
     composer.sheet()
 }
@@ -673,6 +715,17 @@ events! {
     LookBlank: "look, D blank",
     LookSame: "look, D has the own value",
     LookOther: "look, D has another value",
+    CloseFirst: "close, no seat has proposed" at least 5_000,
+    CloseBetween: "close, some seats have proposed" at least 20_000,
+    CloseAll: "close, every seat has proposed" at least 50_000,
+    CloseCommit: "close, D filled, no seat decided" at least 10_000,
+    CloseDecided: "close, a seat decided" at least 10_000,
+    CloseAgain: "close, closed already" at least 50_000,
+    WorkClosed: "work, closed" at least 1_000_000,
+    CommitClosed: "commit, closed" at least 10_000,
+    LookBlankClosed: "look, D blank, closed" at least 10_000,
+    LookClosed: "look, D filled, closed" at least 10_000,
+    CrashClosed: "crash, closed" at least 5_000,
     Shorter: "opened, L below 01's window" at least 10_000,
     ShorterCommit: "commit, L below 01's window" at least 5_000,
     ShorterLook: "look, D filled, L below 01's window" at least 5_000,
@@ -706,6 +759,14 @@ events! {
     SpentYesLater: "9: hint yes, spent by hint no" at least 100,
     SpentNoLater: "9: hint no, spent by hint no" at least 100,
     SpentLook: "look, spent by hint no" at least 100,
+    LateFirst: "18: no seat has proposed" at least 100,
+    Late: "18: some seats have proposed" at least 500,
+    LateCommit: "18: D filled" at least 50,
+    LateAgain: "18: closed twice or more" at least 200,
+    NoSeatClosed: "4: proposal, closed" at least 500,
+    BlankClosed: "5 where 18 would follow" at least 200,
+    BlankTwiceClosed: "5 where 6 would follow, closed" at least 1_000,
+    TwiceClosed: "6 where 18 would follow" at least 1_000,
     TooShort: "10: under 4 bytes",
     TooLong: "10: over 65,535 bytes",
     ManyPairs: "10: over 16 pairs",
@@ -721,7 +782,12 @@ events! {
     WrongWork: "13: value of work",
     WrongLook: "13: value of look",
     WrongCrash: "13: value of crash",
+    WrongCloseSeat: "13: seat of close" at least 500,
+    WrongCloseValue: "13: value of close" at least 500,
+    WrongClose: "13: seat and value of close" at least 500,
     ThirteenFirst: "13 where 4 would follow",
+    CloseThirteenFirst: "13: seat of close, n or above" at least 300,
+    CloseSeat64: "13: seat of close, 64 or above" at least 200,
     Buffer0: "15: 0 bytes",
     Buffer255: "15: 255 bytes",
     Buffer257: "15: 257 bytes",
@@ -732,6 +798,14 @@ events! {
     BudgetEnded: "100",
     BudgetZero: "100, budget 0",
     BudgetLast: "100, one entry short",
+    FinishedClosed: "0, closed" at least 2_000,
+    ExactlyClosed: "0, budget just enough, a close carried out" at least 200,
+    BudgetClose: "100, the next entry a close" at least 1_000,
+    BudgetCloseFirst: "100, the next entry the first close" at least 1_000,
+    BudgetClosed: "100, a close carried out" at least 3_000,
+    ReportOpen: "report: open" at least 10_000,
+    ReportClosed: "report: closed" at least 10_000,
+    ReportLate: "report: 18, closed" at least 300,
     Marked: "session with marked rounds" at least 10_000,
     MarkedAgain: "session with a round marked again" at least 10_000,
     MarkedByTwo: "session with a round marked by two seats" at least 10_000,
@@ -743,6 +817,10 @@ events! {
     CartDecided: "cart: a seat decided" at least 10_000,
     CartRefused: "cart: entry refused" at least 1_000,
     CartBudget: "cart: 100" at least 1_000,
+    CartReportOpen: "cart: report: open" at least 10_000,
+    CartReportClosed: "cart: report: closed" at least 10_000,
+    CartLate: "cart: report: 18, closed" at least 300,
+    CartBudgetClosed: "cart: 100, closed" at least 3_000,
     CartNoSeats: "cart: 1, no seats" at least 100,
     CartSeventeen: "cart: 1, n = 17, the server opens" at least 500,
     CartManySeats: "cart: 1, n = 18 to 64, the server opens" at least 1_000,
@@ -890,6 +968,7 @@ impl Coverage {
             flags: Vec::new(),
             seen: [0; 64],
             spent_by_no: [false; 64],
+            closes: 0,
         };
         self.opened(&observer.session);
         let (mut done, total) = (0, sheet.entries().count() as u64);
@@ -898,6 +977,10 @@ impl Coverage {
                 self.note(Event::BudgetEnded);
                 self.note_if(budget == 0, Event::BudgetZero);
                 self.note_if(budget + 1 == total, Event::BudgetLast);
+                let (next, closed) = (entry == CLOSE, observer.closes > 0);
+                self.note_if(next, Event::BudgetClose);
+                self.note_if(next && !closed, Event::BudgetCloseFirst);
+                self.note_if(closed, Event::BudgetClosed);
                 break;
             }
             if !observer.entry(entry, self) {
@@ -910,6 +993,9 @@ impl Coverage {
             self.note(Event::Finished);
             self.note_if(done == budget, Event::FinishedExactly);
             self.note_if(done == 0, Event::FinishedEmpty);
+            let closed = observer.closes > 0;
+            self.note_if(closed, Event::FinishedClosed);
+            self.note_if(closed && done == budget, Event::ExactlyClosed);
         }
         self.left(observer)
     }
@@ -1041,6 +1127,7 @@ impl Coverage {
         }
     }
 
+    /// Notes why an entry was refused, and that of a closed session.
     fn entry_refused(&mut self, entry: &[u8], session: &Session, refusal: Refusal) {
         let (kind, number) = (usize::from(entry[0]), usize::from(entry[1]));
         let phase = session.processes[number.min(63)].phase;
@@ -1056,11 +1143,33 @@ impl Coverage {
             Refusal::ProcessGone => [DecidedWork, DecidedLook, DecidedCrash][kind - 1],
             Refusal::ProcessSpent if entry[2] == 1 => SpentYes,
             Refusal::ProcessSpent => SpentNo,
-            _ if kind > 3 => WrongKind,
+            Refusal::ClosedToProposals if proposed(session) == 0 => LateFirst,
+            Refusal::ClosedToProposals => Late,
+            _ if kind > 4 => WrongKind,
+            _ if kind == 4 => wrong_close(entry),
             _ => [WrongKind, WrongWork, WrongLook, WrongCrash][kind],
         });
-        let beyond = number >= session.n;
-        self.note_if(refusal == Refusal::BadEntry && beyond, ThirteenFirst);
+        let (malformed, beyond) = (refusal == Refusal::BadEntry, number >= session.n);
+        self.note_if(malformed && beyond, ThirteenFirst);
+        let close = malformed && kind == 4;
+        self.note_if(close && beyond, CloseThirteenFirst);
+        self.note_if(close && number >= 64, CloseSeat64);
+        if kind == 0 && session.closed {
+            self.late(session, phase, refusal);
+        }
+    }
+
+    /// Notes why a proposal to a closed session was refused, by a process of that phase.
+    fn late(&mut self, session: &Session, phase: Phase, refusal: Refusal) {
+        use Event::*;
+        let filled = session.registers.decision != 0;
+        match refusal {
+            Refusal::NoSuchProcess => self.note(NoSeatClosed),
+            Refusal::BlankProposal if phase == Phase::Idle => self.note(BlankClosed),
+            Refusal::BlankProposal => self.note(BlankTwiceClosed),
+            Refusal::SecondProposal => self.note(TwiceClosed),
+            _ => self.note_if(filled, LateCommit),
+        }
     }
 
     /// Notes what a case reaches under one of its budgets.
@@ -1072,6 +1181,17 @@ impl Coverage {
         Ok(())
     }
 
+    /// Notes the mark of a report.
+    fn reported(&mut self, text: &str) {
+        let Some([_, _, mark]) = board(text) else {
+            return;
+        };
+        let closed = mark == CLOSED;
+        self.note_if(!closed, Event::ReportOpen);
+        self.note_if(closed, Event::ReportClosed);
+        self.note_if(closed && text.starts_with(LATE), Event::ReportLate);
+    }
+
     fn wrong_buffer(&mut self, case: &Case) {
         self.note(match case.buffer {
             0 => Event::Buffer0,
@@ -1080,6 +1200,23 @@ impl Coverage {
         });
         let refused = Sheet::read(Caller::Server, &case.sheet).is_err();
         self.note_if(refused, Event::FifteenFirst);
+    }
+}
+
+/// How many processes of a session have proposed.
+fn proposed(session: &Session) -> usize {
+    let seated = session.processes[..session.n].iter();
+    seated
+        .filter(|process| process.phase != Phase::Idle)
+        .count()
+}
+
+/// What is wrong with an entry of kind 4.
+fn wrong_close(entry: &[u8]) -> Event {
+    match (entry[1], &entry[2..]) {
+        (0, _) => Event::WrongCloseValue,
+        (_, [0, 0, 0, 0]) => Event::WrongCloseSeat,
+        _ => Event::WrongClose,
     }
 }
 
@@ -1106,9 +1243,13 @@ impl Coverage {
         let ended = !refused && budget < sheet.entries().count() as u64;
         self.note_if(refused, Event::CartRefused);
         self.note_if(ended, Event::CartBudget);
-        let board = text.lines().find(|line| line.starts_with("board "));
-        let commit = board.is_some_and(|line| !line.ends_with(" 0"));
-        let decision = text.contains(" decided ");
+        let [_, decided, mark] = board(text).expect("a board line");
+        let (commit, decision) = (decided != "0", text.contains(" decided "));
+        let closed = mark == CLOSED;
+        self.note_if(!closed, Event::CartReportOpen);
+        self.note_if(closed, Event::CartReportClosed);
+        self.note_if(closed && text.starts_with(LATE), Event::CartLate);
+        self.note_if(closed && ended, Event::CartBudgetClosed);
         self.note_if(commit, Event::CartCommit);
         self.note_if(decision, Event::CartDecided);
         self.cart.commits.note_if(commit, n);
@@ -1179,6 +1320,8 @@ struct Observer {
     seen: [u32; 64],
     /// Whether each process was spent by a turn with hint no.
     spent_by_no: [bool; 64],
+    /// The closes carried out.
+    closes: usize,
 }
 
 impl Observer {
@@ -1191,7 +1334,10 @@ impl Observer {
                 return false;
             }
         };
-        let number = operation.process();
+        let Some(number) = operation.process() else {
+            self.close(coverage);
+            return true;
+        };
         let before = self.session.processes[number.min(63)];
         let overwritten = self.overwritten(&before);
         let mut access = None;
@@ -1203,14 +1349,19 @@ impl Observer {
             self.later(operation, refusal, coverage);
             return false;
         }
-        let after = self.session.processes[number];
+        let (after, closed) = (self.session.processes[number], self.session.closed);
         let at = &mut coverage.stances[stance(before.phase)];
         match operation {
+            Operation::Close => unreachable!("a close is for no process"),
             Operation::Propose { .. } => coverage.note(Event::Proposed),
-            Operation::Crash { .. } => at.crashes += 1,
+            Operation::Crash { .. } => {
+                at.crashes += 1;
+                coverage.note_if(closed, Event::CrashClosed);
+            }
             Operation::Learn { .. } => self.look(number, before, after, coverage),
             Operation::Step { leader, .. } => {
                 at.works += 1;
+                coverage.note_if(closed, Event::WorkClosed);
                 let event = match self.step(number, before, after, access, overwritten) {
                     Event::GateYesSpent if !leader => Event::GateNoSpent,
                     event => event,
@@ -1223,16 +1374,39 @@ impl Observer {
         true
     }
 
+    /// Carries out and notes a close.
+    fn close(&mut self, coverage: &mut Coverage) {
+        let (proposed, n) = (proposed(&self.session), self.session.n);
+        coverage.note(match proposed {
+            0 => Event::CloseFirst,
+            _ if proposed < n => Event::CloseBetween,
+            _ => Event::CloseAll,
+        });
+        let filled = self.session.registers.decision != 0;
+        let decided = |process: &Process| process.phase == Phase::Decided;
+        let decided = self.session.processes.iter().any(decided);
+        coverage.note_if(filled && !decided, Event::CloseCommit);
+        coverage.note_if(decided, Event::CloseDecided);
+        coverage.note_if(self.closes > 0, Event::CloseAgain);
+        let close = Operation::Close;
+        let answer = self.session.apply_trusted(close, &mut self.counts, |_| {});
+        answer.expect("a close is not refused");
+        self.closes += 1;
+    }
+
     /// Notes a look.
     fn look(&self, number: usize, before: Process, after: Process, coverage: &mut Coverage) {
         let spent = before.phase == Phase::Exhausted;
         coverage.note_if(spent && self.spent_by_no[number], Event::SpentLook);
+        let closed = self.session.closed;
         let at = &mut coverage.stances[stance(before.phase)];
         if after.phase != Phase::Decided {
             at.blank += 1;
+            coverage.note_if(closed, Event::LookBlankClosed);
             return coverage.note(Event::LookBlank);
         }
         at.filled += 1;
+        coverage.note_if(closed, Event::LookClosed);
         coverage.note(if before.estimate == after.estimate {
             Event::LookSame
         } else {
@@ -1241,12 +1415,15 @@ impl Observer {
         coverage.decided(&self.session);
     }
 
-    /// Notes a 9 after the process was spent by a turn with hint no.
+    /// Notes a 9 after the process was spent by a turn with hint no, and an 18 after two
+    /// closes.
     fn later(&self, operation: Operation, refusal: Refusal, coverage: &mut Coverage) {
         if let (Operation::Step { process, leader }, Refusal::ProcessSpent) = (operation, refusal) {
             let event = [Event::SpentNoLater, Event::SpentYesLater][usize::from(leader)];
             coverage.note_if(self.spent_by_no[process], event);
         }
+        let late = refusal == Refusal::ClosedToProposals;
+        coverage.note_if(late && self.closes > 1, Event::LateAgain);
     }
 
     /// What a write of this process would go over: T[r], C[r - i] or D.
@@ -1306,7 +1483,10 @@ impl Observer {
             }
             (_, Some(Access::Marked(round))) => self.flags.push((round, number)),
             (Phase::Adopt(_), _) => coverage.note_if(after.round > before.round, Event::TakeAhead),
-            (Phase::Commit, _) => coverage.committed(&self.session),
+            (Phase::Commit, _) => {
+                coverage.committed(&self.session);
+                coverage.note_if(self.session.closed, Event::CommitClosed);
+            }
             _ => {}
         }
     }
@@ -1389,6 +1569,12 @@ impl Coverage {
 
 // ---------------------------------------------------------------- the comparison
 
+/// The third field of the board line. (02, wish 10.)
+const OPEN: &str = "open";
+const CLOSED: &str = "closed";
+/// How a report begins where a proposal was refused with 18.
+const LATE: &str = "outcome refused 18 ";
+
 /// The time spent in the calls of either side. No benchmark: each sheet is run
 /// once, and the reference, which goes first, meets it cold.
 #[derive(Default)]
@@ -1422,9 +1608,9 @@ fn compare(case: &Case, budget: u64, fill: u8, clock: &mut Clock) -> Result<(), 
     same_bytes(&format!("code {answer}, buffer"), &theirs, &ours)
 }
 
-/// Compares the report's text, and its contested with the marked rounds of the
-/// session that the sheet leaves.
-fn compare_report(case: &Case, fill: u8, clock: &mut Clock) -> Result<(), String> {
+/// Compares the report's text, its contested with the marked rounds of the session that
+/// the sheet leaves, and its mark with the entries carried out.
+fn compare_report(case: &Case, fill: u8, clock: &mut Clock) -> Result<String, String> {
     let text = text_by(fill, |buffer| {
         let start = Instant::now();
         let size = library::report(&case.sheet, buffer);
@@ -1438,7 +1624,8 @@ fn compare_report(case: &Case, fill: u8, clock: &mut Clock) -> Result<(), String
             "report: contested {contested:?}, marked rounds {marked:?}"
         ));
     }
-    Ok(())
+    check_mark(Caller::Server, &case.sheet, &text)?;
+    Ok(text)
 }
 
 /// Compares the text of the sheet's report as the cart under a budget.
@@ -1457,7 +1644,39 @@ fn compare_cart(
     })?;
     clock.carts += 1;
     same_text(&text, &report_of(Caller::Cart, budget, &case.sheet))?;
+    check_mark(Caller::Cart, &case.sheet, &text)?;
     Ok(text)
+}
+
+/// The words of a report's board line: the highest filled round, D and the mark; none
+/// where the sheet is refused.
+fn board(text: &str) -> Option<[&str; 3]> {
+    let line = text.lines().find_map(|line| line.strip_prefix("board "))?;
+    let words: Vec<&str> = line.split(' ').collect();
+    words.try_into().ok()
+}
+
+/// The number of entries that a report tells as carried out; none where the sheet is
+/// refused.
+fn carried_out(text: &str) -> Option<usize> {
+    let outcome = text.lines().next()?.strip_prefix("outcome ")?;
+    outcome.rsplit(' ').next()?.parse().ok()
+}
+
+/// A report has "closed" where a close is among the entries carried out, and "open" where
+/// none is; no mark where the sheet is refused. (02, wish 10.)
+fn check_mark(caller: Caller, bytes: &[u8], text: &str) -> Result<(), String> {
+    let closed = |sheet: Sheet| {
+        let mut entries = sheet.entries().take(carried_out(text).unwrap_or(0));
+        entries.any(|entry| entry == CLOSE)
+    };
+    let closed = Sheet::read(caller, bytes).ok().map(closed);
+    let expected = closed.map(|closed| if closed { CLOSED } else { OPEN });
+    let mark = board(text).map(|[_, _, mark]| mark);
+    if mark != expected {
+        return Err(format!("report: {mark:?}, by its entries {expected:?}"));
+    }
+    Ok(())
 }
 
 /// The third number of a report's tally line; none where the sheet is refused.
@@ -1554,7 +1773,8 @@ impl Comparison for Sheets {
                 .and_then(|()| self.coverage.case(case, budget))
                 .map_err(|words| format!("budget {budget}, buffer {}: {words}", case.buffer))?;
         }
-        compare_report(case, fill, clock)?;
+        let text = compare_report(case, fill, clock)?;
+        self.coverage.reported(&text);
         let caller = cart(random);
         for &budget in &case.budgets {
             let text = compare_cart(case, caller, budget, fill, clock)

@@ -24,6 +24,9 @@ pub fn raw(kind: u8, process: usize, value: u32) -> Entry {
     [kind, process as u8, a, b, c, d]
 }
 
+/// The entry of a close. (02, wish 10: "kind 4, seat 0, value 0".)
+pub const CLOSE: Entry = [4, 0, 0, 0, 0, 0];
+
 /// The most entries a sheet can hold.
 pub const MOST_ENTRIES: usize = 10_921;
 

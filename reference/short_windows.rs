@@ -345,9 +345,11 @@ impl Play {
         })
     }
 
-    /// One call. It tests the soundness of what the call before left.
+    /// One call. It tests the soundness of what the call before left. The lists here have
+    /// no closes.
     fn call(&mut self, call: Operation) -> Result<(), Refusal> {
-        let before = self.session.processes[call.process()];
+        let process = call.process().expect("a call of a process");
+        let before = self.session.processes[process];
         self.session.apply_at(self.window, call, &mut self.counts)?;
         let done = (before.round, before.estimate);
         match (call, before.phase) {

@@ -23,11 +23,13 @@ use std::process::ExitCode;
 
 use harness::{
     cart, cart_size, ends, least_limit, most, raw, same_bytes, same_text, shorter, size, text_by,
-    word, ByN, Comparison, Entry, Random, Reached, GUARD, MOST_ENTRIES, ONE_SEAT, SERVER,
+    word, ByN, Comparison, Entry, Random, Reached, CLOSE, GUARD, MOST_ENTRIES, ONE_SEAT, SERVER,
 };
 use janus_reference::runner::BUFFER;
 use janus_reference::sheet::{ENTRY, MAX_BYTES};
-use janus_reference::{entry, report_of, window, write, Caller, Operation, Refusal, Sheet};
+use janus_reference::{
+    entry, report_of, run, window, write, Caller, Counts, Operation, Refusal, Sheet,
+};
 
 // ---------------------------------------------------------------- calls
 
@@ -86,15 +88,18 @@ fn some_entry(random: &mut Random, process: usize) -> Entry {
             let value = [random.word() as u32, random.below(2) as u32, 0, 0];
             raw(kind, random.below(256), value[usize::from(kind)])
         }
+        8 => CLOSE,
         turn => raw(1, process, u32::from(turn > 12)),
     }
 }
 
 /// One process alone, so many entries: it proposes, then works and looks by turns, and so
-/// is decided right after its commit.
-fn alone(count: usize) -> Vec<u8> {
+/// is decided right after its commit. Now and then there is a close in between.
+fn alone(random: &mut Random, count: usize) -> Vec<u8> {
+    let close = random.once_in(3).then(|| random.between(1, 20));
     let entry = |place| match place {
         0 => raw(0, 0, 7),
+        _ if close == Some(place) => CLOSE,
         _ if place % 2 == 1 => raw(1, 0, 1),
         _ => raw(2, 0, 0),
     };
@@ -102,14 +107,22 @@ fn alone(count: usize) -> Vec<u8> {
 }
 
 /// So many well-formed entries. Mostly all propose first, so that many sheets are
-/// not refused at once when they are run, and now and then one works alone.
+/// not refused at once when they are run; a close may come before some of them. Now and
+/// then one works alone, or there are closes alone.
 fn some_entries(random: &mut Random, n: usize, count: usize) -> Vec<u8> {
     if random.once_in(10) {
-        return alone(count);
+        return alone(random, count);
+    }
+    if random.once_in(100) {
+        return CLOSE.repeat(count);
     }
     let proposals = if random.once_in(5) { 0 } else { n };
+    let close = random.once_in(30).then(|| random.below(n));
     let turns = if random.once_in(3) { 1 } else { n };
     let entry = |place| {
+        if close == Some(place) {
+            return CLOSE;
+        }
         if place < proposals {
             return raw(0, place, random.between(1, 3) as u32);
         }
@@ -119,16 +132,19 @@ fn some_entries(random: &mut Random, n: usize, count: usize) -> Vec<u8> {
     (0..count).flat_map(entry).collect()
 }
 
-/// An entry with an unknown kind or a wrong value.
+/// An entry with an unknown kind or a wrong value, or a close with a wrong seat.
 fn malformed(random: &mut Random) -> Entry {
     let process = random.below(256);
     let upper = random.pick(&[2, 255, 256, 1 << 16, 1 << 24, 1 << 31, u32::MAX]);
-    match random.below(5) {
-        0 => raw(random.pick(&[4, 5, 128, 255]), process, 0),
+    match random.below(8) {
+        0 => raw(random.pick(&[5, 6, 128, 255]), process, 0),
         1 => raw(1, process, upper),
         2 => raw(2, process, random.pick(&[1, upper])),
         3 => raw(3, process, random.pick(&[1, upper])),
-        _ => raw(random.between(4, 255) as u8, process, random.word() as u32),
+        4 => raw(4, random.pick(&[1, 2, 63, 64, 128, 255]), 0),
+        5 => raw(4, 0, random.pick(&[1, upper])),
+        6 => raw(4, random.between(1, 255), random.pick(&[1, upper])),
+        _ => raw(random.between(5, 255) as u8, process, random.word() as u32),
     }
 }
 
@@ -178,6 +194,12 @@ impl Call {
 
     fn caller(&self) -> Caller {
         Caller::named(self.caller)
+    }
+
+    /// Which of the entries are closes.
+    fn closes(&self) -> impl Iterator<Item = bool> + '_ {
+        let entries = self.entries.chunks_exact(ENTRY);
+        entries.map(|entry| entry == CLOSE)
     }
 
     /// The caller's most seats and rounds.
@@ -328,6 +350,10 @@ events! {
     WrongWork: "13: value of work" at least 100,
     WrongLook: "13: value of look" at least 100,
     WrongCrash: "13: value of crash" at least 100,
+    WrongCloseSeat: "13: seat of close" at least 100,
+    WrongCloseSeat64: "13: seat of close, 64 or above" at least 100,
+    WrongCloseValue: "13: value of close" at least 100,
+    WrongClose: "13: seat and value of close" at least 100,
     WrongFirst: "13: the first entry" at least 100,
     WrongBetween: "13: an entry in between" at least 100,
     WrongLast: "13: the last entry alone" at least 100,
@@ -361,6 +387,8 @@ events! {
     SixteenRuns: "written: 16 runs" at least 100,
     Largest: "written: 65,534 bytes, the most there are" at least 10,
     LargestOneRun: "written: 10,921 entries" at least 10,
+    Closes: "written: with a close" at least 1_000,
+    OnlyCloses: "written: closes alone" at least 100,
     LeastLimit: "written: L = W" at least 100,
     Shorter: "written: L below 01's window" at least 10_000,
     OneSeat: "written: n = 1, L = 2" at least 1_000,
@@ -368,7 +396,9 @@ events! {
     MostSeats: "written: the most seats" at least 10,
     RunFinished: "run to its end" at least 1_000,
     RunRefused: "run to a refused entry" at least 1_000,
+    RunLate: "run to a proposal refused with 18" at least 100,
     RunDecided: "run to a decision" at least 100,
+    RunClosed: "run to a decision, closed" at least 50,
     RunShorter: "run to a decision, L below 01's window" at least 200,
     RunOneSeat: "run to a decision, n = 1, L = 2" at least 50,
 }
@@ -530,10 +560,15 @@ fn note_entry(call: &Call, reached: &mut Reached) {
     let last = entries.len() - 1;
     let wrong = entries.position(|entry| Operation::decode(entry).is_err());
     let place = wrong.expect("some entry is malformed");
-    reached.note(match call.entries[ENTRY * place] {
-        1 => Event::WrongWork,
-        2 => Event::WrongLook,
-        3 => Event::WrongCrash,
+    let wrong = &call.entries[ENTRY * place..ENTRY * (place + 1)];
+    reached.note(match (wrong[0], wrong[1], &wrong[2..]) {
+        (1, ..) => Event::WrongWork,
+        (2, ..) => Event::WrongLook,
+        (3, ..) => Event::WrongCrash,
+        (4, 0, _) => Event::WrongCloseValue,
+        (4, 64.., [0, 0, 0, 0]) => Event::WrongCloseSeat64,
+        (4, _, [0, 0, 0, 0]) => Event::WrongCloseSeat,
+        (4, ..) => Event::WrongClose,
         _ => Event::WrongKind,
     });
     reached.note(match place {
@@ -580,6 +615,9 @@ fn note_written(call: &Call, reached: &mut Reached) {
     reached.note_if(runs.len() == MOST_RUNS, Event::SixteenRuns);
     reached.note_if(size == MAX_BYTES - 1, Event::Largest);
     reached.note_if(runs == [MOST_ENTRIES], Event::LargestOneRun);
+    let some = call.closes().any(|close| close);
+    reached.note_if(some, Event::Closes);
+    reached.note_if(some && call.closes().all(|close| close), Event::OnlyCloses);
 }
 
 // ---------------------------------------------------------------- the comparison
@@ -651,9 +689,9 @@ fn round_trip(call: &Call, sheet: &[u8], fill: u8) -> Result<(), String> {
     }
 }
 
-/// Both sides run a sheet by the C entry, which is the server's: whether it finished, and
-/// whether a seat decided.
-fn run_entry(sheet: &[u8], fill: u8) -> Result<(bool, bool), String> {
+/// Both sides run a sheet by the C entry, which is the server's: its number, and whether a
+/// seat decided.
+fn run_entry(sheet: &[u8], fill: u8) -> Result<(u32, bool), String> {
     let mut ours = [fill; GUARD + BUFFER + GUARD];
     let mut theirs = ours;
     let lent = GUARD..GUARD + BUFFER;
@@ -664,29 +702,42 @@ fn run_entry(sheet: &[u8], fill: u8) -> Result<(bool, bool), String> {
     }
     same_bytes(&format!("run: code {code}, buffer"), &theirs, &ours)?;
     let decided = ours[lent].iter().any(|byte| *byte != 0);
-    Ok((code == 0, decided))
+    Ok((code, decided))
 }
 
 /// The same by the report as the cart.
-fn run_cart(caller: u8, sheet: &[u8], fill: u8) -> Result<(bool, bool), String> {
+fn run_cart(caller: u8, sheet: &[u8], fill: u8) -> Result<(u32, bool), String> {
     let text = text_by(fill, |buffer| {
         library::report_as(caller, sheet, u64::MAX, buffer)
     })?;
     same_text(&text, &report_of(Caller::Cart, u64::MAX, sheet))?;
-    let finished = text.starts_with("outcome finished ");
-    Ok((finished, text.contains(" decided ")))
+    let refused = text.strip_prefix("outcome refused ");
+    let code = refused.and_then(|rest| rest.split(' ').next()?.parse().ok());
+    Ok((code.unwrap_or(0), text.contains(" decided ")))
+}
+
+/// Whether a sheet that was written leaves its session closed.
+fn leaves_closed(caller: Caller, sheet: &[u8]) -> bool {
+    let sheet = Sheet::read(caller, sheet).expect("a sheet in order");
+    let (mut session, mut counts) = (sheet.open(), Counts::default());
+    run(&sheet, u64::MAX, &mut session, &mut counts);
+    session.closed
 }
 
 /// Both sides run the sheet of a call as its caller.
 fn run_both(call: &Call, sheet: &[u8], fill: u8, reached: &mut Reached) -> Result<(), String> {
-    let (finished, decided) = match call.caller {
+    let (code, decided) = match call.caller {
         SERVER => run_entry(sheet, fill)?,
         cart => run_cart(cart, sheet, fill)?,
     };
-    reached.note(match finished {
-        true => Event::RunFinished,
-        false => Event::RunRefused,
+    reached.note(match code {
+        0 => Event::RunFinished,
+        _ => Event::RunRefused,
     });
+    let late = Refusal::ClosedToProposals.code();
+    reached.note_if(code == late, Event::RunLate);
+    let closed = decided && leaves_closed(call.caller(), sheet);
+    reached.note_if(closed, Event::RunClosed);
     let (n, limit) = (call.n, call.limit);
     reached.note_if(decided, Event::RunDecided);
     reached.note_if(decided && shorter(n, limit), Event::RunShorter);

@@ -2,7 +2,8 @@
 # The program test_poll beside the separately written one on random polls in close contention (02, wish 6): no difference may be found, the
 # claims of the wish and the bound on turns must hold of every poll, and in a run of 4,000 polls or more every answer, by each of its
 # reasons, every refusal and every kind of turn must be reached, and answers for every n, in rounds below 01's window (02, wish 8); and as the
-# bedside cart (02, wish 9) answers for every n from 1 to 16 and refusals of every one from 17 to 64. Then that wrong programs are found.
+# bedside cart (02, wish 9) answers for every n from 1 to 16 and refusals of every one from 17 to 64. Then that wrong programs are found,
+# and by the separate program's own tests one in which a closed poll is sound (02, wish 10).
 #
 # usage: tests/polls.sh [POLLS [SEED]]      as long as one likes; 4,000 polls from seed 1, and the wrong programs, in the gate
 set -euo pipefail
@@ -72,6 +73,16 @@ wrong "opens the cart's polls by the server's limits" poll.rs 's/caller.limits()
     'proved poll [0-9]+ 1, reference poll [0-9]+ 0$'
 wrong "has soundness by the cart's seats" sound.rs 's/check_opening(Caller::Server/check_opening(Caller::Cart/' \
     'proved [a-z]+ [0-9 ]+ [04]( none)?, reference [a-z]+ [0-9 ]+ 3( none)?$'
+
+# A poll that is closed, which no list of calls makes: the unit tests of the program find it.
+edited poll.rs 's/^        !self.closed$/        true/'
+rustc --edition 2021 -C incremental="$out/incremental" --test --crate-name tests "$out/src/lib.rs" -o "$out/tests"
+if "$out/tests" no_sound_poll >"$out/tests.log" || [[ $(grep -c '^test tests::closing::.*_is_no_sound_poll ... FAILED$' "$out/tests.log") != 2 ]]; then
+    echo "polls: a program in which a closed poll is sound passes its tests"
+    cat "$out/tests.log"
+    exit 1
+fi
+echo "polls: a program in which a closed poll is sound is found by its tests"
 
 # On both sides, where nothing differs, the claims find it.
 untrue() { # WHAT EDIT CLAIM

@@ -19,7 +19,7 @@ out=target/tests/wrong
 mkdir -p "$out"
 harness() { # NAME WORDS..: the harness, compiled with the words, in target/tests/wrong; 200 cases must end in a difference
     rustc --edition 2021 -C incremental="$out/incremental" --crate-name "$1" "${@:2}" "reference/$1.rs" -o "$out/$1"
-    (cd "$out" && ! "./$1" 200 1 >differs.log)
+    (cd "$out" && ! "./$1" 200 1 >differs.log) || { echo "$1: no difference in 200 cases" && exit 1; }
 }
 differs() { # WORDS: the difference that was found must be told so
     grep -q "^difference: seed 1 index $1" "$out/differs.log" || { cat "$out/differs.log"; exit 1; }
@@ -77,3 +77,19 @@ miswindows "the root of 4n, rounded down," 's/while smallest \* smallest < 4 \* 
 as_server='s/caller.limits()/(caller, Caller::Server).1.limits()/'
 wrong differential sheet.rs "reads the cart's sheets by the server's limits" "$as_server" 'caller [0-9]*, budget [0-9]*: report: library$'
 miswrites "writes the cart's sheets by the server's limits" "$as_server" 'caller [0-9]*: code: library [12], reference [0-9]*$'
+# Closes. (02, wish 10.)
+late='s/Err(Refusal::%s)/Err(if self.closed { Refusal::ClosedToProposals } else { Refusal::%s })/'
+told='\(code: library [0-9]*, reference [0-9]*\|report: library\)$'
+wrong differential session.rs "tests 18 before 6" "${late//%s/SecondProposal}" 'code: library 6, reference 18$'
+wrong differential session.rs "tests 18 before 5" "${late//%s/BlankProposal}" 'code: library 5, reference 18$'
+wrong differential session.rs "takes proposals to a closed session" '/^        if self.closed {/,/^        }/d' 'code: library 18, reference [0-9]*$'
+wrong differential session.rs "refuses a second close" 's/^            Operation::Close => {/            Operation::Close if self.closed => Err(Refusal::ClosedToProposals),\n&/' "$told"
+wrong differential session.rs "counts a close as a write" 's/^                self.close_trusted();/                counts.writes += 1;\n&/' 'report: library$'
+wrong differential session.rs "refuses work turns in a closed session" 's/if process.phase == Phase::Exhausted {/if self.closed || process.phase == Phase::Exhausted {/' "$told"
+wrong differential sheet.rs "takes kind 4 with any seat" 's/(4, 0, 0) =>/(4, _, 0) =>/' "$told"
+wrong differential sheet.rs "takes kind 4 with any value" 's/(4, 0, 0) =>/(4, 0, _) =>/' "$told"
+wrong differential runner.rs "does not count closes in the budget" 's/^            done += 1;/            done += u64::from(entry[0] != 4);/' "$told"
+wrong differential report.rs 'has "open" for "closed"' 's/{ "closed" } else/{ "open" } else/' 'report: library$'
+miswrites "takes kind 4 with any seat" 's/^    (0, 0),/    (u8::MAX, 0),/' 'code: library 13, reference [0-9]*$'
+miswrites "takes kind 4 with any value" 's/^    (0, 0),/    (0, u32::MAX),/' 'code: library 13, reference [0-9]*$'
+miswrites "does not know kind 4" '/^    (0, 0),/d; s/; 5\] = \[$/; 4] = [/' 'code: library [0-9]*, reference 13$'

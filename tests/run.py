@@ -5,8 +5,8 @@ ends, and the standing values of the session that it leaves, read out to a buffe
 
 usage: run.py PROVED SEPARATE
 
-Document 01's case "Budget 0 with one entry: budget ended, 0", the sample sheets under every budget up to 20 and some larger ones,
-random sheets from one seed, some of them damaged or about the cart's limits, and boards whose registers hold given values, read out to
+Document 01's case "Budget 0 with one entry: budget ended, 0", sheets with closes (document 02, wish 10) under every budget, whose ends are
+known beforehand, the sample sheets under every budget up to 20 and some larger ones, random sheets from one seed, some of them damaged or about the cart's limits, and boards whose registers hold given values, read out to
 buffers of several lengths. Ends with 1 at the first difference, or where the cases reach too little.
 """
 
@@ -30,7 +30,7 @@ SEED = 1
 RANDOM_SHEETS = 300
 MOST = 2**32 - 1
 # The random sheets must end in every way that a sheet of this length can.
-ENDINGS = {0, 1, 2, *range(4, 14), 100}
+ENDINGS = {0, 1, 2, *range(4, 14), 18, 100}
 # A sheet that ends so is not run.
 REFUSED_SHEETS = {1, 2, 10, 11, 12}
 # The bytes that name the callers: "at most 16 seats and 64 rounds", and any byte but 0.
@@ -43,6 +43,22 @@ OF_THE_CART = {"run", "read out", "n 16", "L 64", "1 alone", "2 alone", "n 17: 1
 MARKER = str(2**32 - 1)
 MOST_PLACES = 256
 BOARDS = 60
+# Document 02, wish 10: entries for two seats with L = 3; the number that they end with, and how many are carried out.
+CLOSE, PROPOSAL = (4, 0, 0), (0, 0, 7)
+CLOSES = [
+    ([PROPOSAL, CLOSE, (0, 1, 8)], 18, 2),
+    ([CLOSE, CLOSE, PROPOSAL], 18, 2),
+    ([PROPOSAL, CLOSE, PROPOSAL], 6, 2),
+    ([PROPOSAL, CLOSE, (0, 0, 0)], 5, 2),
+    ([PROPOSAL, CLOSE, (0, 1, 0)], 5, 2),
+    ([PROPOSAL, CLOSE, (0, 2, 8)], 4, 2),
+    ([PROPOSAL, CLOSE, (1, 0, 1), CLOSE, (2, 0, 0), (3, 0, 0), CLOSE], 0, 7),
+    ([CLOSE, (4, 1, 0)], 13, 1),
+    ([CLOSE, (4, 2, 0)], 13, 1),
+    ([CLOSE, (4, 64, 0)], 13, 1),
+    ([CLOSE, (4, 0, 1)], 13, 1),
+    ([CLOSE, (5, 0, 0)], 13, 1),
+]
 
 
 def printed(words, told):
@@ -70,14 +86,17 @@ def same(what, sheet, budget, places=0):
 
 
 def entries(rng, n):
-    """Proposals of most seats, then turns of any."""
+    """Proposals of most seats, then turns of any. In one of six there is a close somewhere, and in the end a proposal that comes too late."""
     seats = rng.sample(range(n), rng.randint(1, n))
     made = [(0, seat, rng.randint(0, 99)) for seat in seats]
     for _ in range(rng.randint(0, 60)):
         seat = rng.choice(seats) if rng.random() < 0.99 else rng.randint(0, n)
-        kind = rng.choices([0, 1, 2, 3, 4], [1, 300, 20, 1, 1])[0]
+        kind = rng.choices([0, 1, 2, 3, 4, 5], [1, 300, 20, 1, 1, 1])[0]
         value = {0: rng.randint(0, 9), 1: int(rng.random() < 0.9)}.get(kind, 0)
         made.append((kind, seat, value))
+    if rng.random() < 1 / 6:
+        made.insert(rng.randint(0, len(made)), CLOSE)
+        made.append((0, rng.randrange(n), rng.randint(0, 9)))
     return made
 
 
@@ -185,12 +204,26 @@ def boards(rng):
     return reached
 
 
+def closed():
+    """Sheets with closes, under every budget: a close is counted in it and among the entries carried out. How many runs that makes."""
+    runs = 0
+    for data, code, done in CLOSES:
+        made, tried = joined(2, 3, [data]), done + (code != 0)
+        for budget in range(len(data) + 2):
+            expected = [code, done] if budget >= tried else [100, budget]
+            for lines in same(f"{data}", made, budget):
+                if [int(word) for word in lines[0].split()[:2]] != expected:
+                    sys.exit(f"run: {data}, budget {budget}: {lines[0]!r}, not {expected}")
+            runs += 1
+    return runs
+
+
 def main():
     one = joined(1, window(1), [[(0, 0, 1)]])
     ended, finished = ["100 0 0 0 0", "0 0"], ["0 1 0 0 0", f"0 0 {MARKER}"]
     if same("one entry", one, 0) != [ended] * 2 or same("one entry", one, 1, 1) != [finished] * 2:
         sys.exit("run: a sheet of one entry does not end as document 01 has it")
-    count = 2
+    count = 2 + closed()
     for name in sorted(glob.glob("examples/*.sheet")):
         with open(name, "rb") as file:
             sample = file.read()

@@ -64,7 +64,8 @@ wrong 'line 4: L is given twice' 'look 0\nL 3'
 wrong 'line 3: hint maybe is neither yes nor no' 'work 0 maybe'
 wrong 'line 3: work takes SEAT HINT, not 0' 'work 0'
 wrong 'line 3: look takes SEAT, not 0 1' 'look 0 1'
-wrong 'line 3: jump is none of n, L, run, propose, work, look, crash, entry' 'jump 0'
+wrong 'line 3: close takes nothing, not 0' 'close 0'
+wrong 'line 3: jump is none of n, L, run, propose, work, look, crash, close, entry' 'jump 0'
 wrong '256 runs are too many' "$(printf 'run\\n%.0s' {1..256})"
 told 1 'n 256 is out of range: it must be a whole number from 0 to 255' "$sheet" <(echo n 256)
 told 1 'L 65536 is out of range: it must be a whole number from 0 to 65535' "$sheet" <(echo L 65536)

@@ -24,6 +24,17 @@ if sys.argv[1:] in (["--help"], ["-h"]):
 PROGRAM = sys.argv[1]
 LISTS, SEED = 170, 1
 MOST_RUNS, MOST_ENTRIES = 16, 10_921
+# Lists that examples/sheet.py takes and the writer does not, each with its number.
+REFUSED = [
+    (1, "n 65\nL 256"),
+    (2, "n 64\nL 15"),
+    (13, "n 1\nL 2\nlook 0\nentry 5 0 0"),
+    (13, "n 2\nL 3\nclose\nentry 4 1 0"),
+    (13, "n 2\nL 3\nclose\nentry 4 64 0"),
+    (13, "n 2\nL 3\nclose\nentry 4 0 1"),
+    (17, "n 1\nL 2\n" + "run\n" * (MOST_RUNS + 1)),
+    (17, "n 1\nL 2\n" + "look 0\n" * (MOST_ENTRIES + 1)),
+]
 
 
 def written(n, limit, runs):
@@ -45,8 +56,8 @@ def entry(rng):
     """The line of an entry that is well formed."""
     seat = rng.randrange(256)
     value, hint = rng.choice([0, 1, rng.randrange(2**32), 2**32 - 1]), rng.choice(["no", "yes"])
-    lines = [f"propose {seat} {value}", f"work {seat} {hint}", f"look {seat}", f"crash {seat}", f"entry 0 {seat} {value}", f"entry 1 {seat} 1"]
-    return rng.choice(lines)
+    lines = [f"propose {seat} {value}", f"work {seat} {hint}", f"look {seat}", f"crash {seat}", "close"]
+    return rng.choice([*lines, f"entry 0 {seat} {value}", f"entry 1 {seat} 1", "entry 4 0 0"])
 
 
 def text_of(rng, runs):
@@ -62,7 +73,7 @@ def text_of(rng, runs):
 
 
 def refused(number, text):
-    """A list that examples/sheet.py takes and the writer does not."""
+    """The writer must refuse the list with that number, and write nothing."""
     code, made = written(*sheet.listed(text))
     if (code, made) != (number, b""):
         sys.exit(f"written sheets: janus_write returns {code} and writes {len(made)} bytes for a list that it should refuse with {number}")
@@ -77,12 +88,9 @@ def main():
     for index in range(LISTS):
         same(f"random list {index} of seed {SEED}", text_of(rng, index % (MOST_RUNS + 1)))
     same("the largest list", "n 1\nL 2\n" + "look 0\n" * MOST_ENTRIES)
-    refused(1, "n 65\nL 256")
-    refused(2, "n 64\nL 15")
-    refused(13, "n 1\nL 2\nlook 0\nentry 4 0 0")
-    refused(17, "n 1\nL 2\n" + "run\n" * (MOST_RUNS + 1))
-    refused(17, "n 1\nL 2\n" + "look 0\n" * (MOST_ENTRIES + 1))
-    print(f"written sheets: {len(samples)} sample lists, {LISTS} random ones and the largest as janus_write has them; 5 are refused")
+    for number, text in REFUSED:
+        refused(number, text)
+    print(f"written sheets: {len(samples)} sample lists, {LISTS} random ones and the largest as janus_write has them; {len(REFUSED)} are refused")
 
 
 main()

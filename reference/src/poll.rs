@@ -49,6 +49,9 @@ pub struct Poll {
     pub registers: Registers,
     /// The processes. (01: the row of seats.)
     pub voters: [Voter; MAX_PROCESSES],
+    /// The mark of a session that is taken for a poll. (02, wish 10: "Polls have no close,
+    /// and a sound one is open.")
+    pub closed: bool,
 }
 
 impl Poll {
@@ -73,6 +76,7 @@ impl Poll {
             limit: session.limit,
             registers: session.registers.clone(),
             voters: session.processes.map(Voter::Walking),
+            closed: session.closed,
         }
     }
 
@@ -91,10 +95,12 @@ impl Poll {
             limit: self.limit,
             registers: self.registers.clone(),
             processes,
+            closed: self.closed,
         })
     }
 
-    /// A process takes up a value. (Order: 3, 4, 5, 6.)
+    /// A process takes up a value. (Order: 3, 4, 5, 6. No 18: where a poll is closed, 3 is
+    /// told. 02, wish 10.)
     pub fn propose(&mut self, process: usize, value: u32) -> Result<(), Refusal> {
         self.check_sound()?;
         self.propose_trusted(process, value)
@@ -192,7 +198,7 @@ impl Poll {
 
     /// Whether the poll is sound: "A sound poll keeps a session's rules and has L =
     /// W, a blank D, no spent or decided seat, gate only below round W, and answered
-    /// seats at round W".
+    /// seats at round W"; and it is open (02, wish 10).
     pub fn is_sound(&self) -> bool {
         self.is_sound_by(window)
     }
@@ -209,7 +215,8 @@ impl Poll {
             return false;
         }
         let (seated, rest) = self.voters.split_at(self.n);
-        self.registers.decision == 0
+        !self.closed
+            && self.registers.decision == 0
             && blank_past(&self.registers, limit)
             && seated.iter().all(|voter| stands(voter, self.limit))
             && rest.iter().all(|voter| *voter == Voter::IDLE)

@@ -1,4 +1,4 @@
-//! The numbers returned. (01, "Numbers returned"; 02, wishes 3, 6 and 9.)
+//! The numbers returned. (01, "Numbers returned"; 02, wishes 3, 6, 9 and 10.)
 
 /// A row of the table in 01, "Numbers returned", or a number that 02 adds to it;
 /// `code` gives its number.
@@ -33,7 +33,8 @@ pub enum Refusal {
     /// A run's length not a multiple of 6; of a writer's entries, their length. (02,
     /// wish 3.)
     BadRun = 12,
-    /// Entry with an unknown kind or a wrong value.
+    /// Entry with an unknown kind or a wrong value; a close with another seat than 0.
+    /// (02, wish 10.)
     BadEntry = 13,
     /// Read-out of a round not 1 to L.
     NoSuchRound = 14,
@@ -44,6 +45,8 @@ pub enum Refusal {
     /// Writing a sheet: more than 16 runs, over 65,535 bytes, or run lengths that
     /// do not add up to the entries. (02, wish 3.)
     BadCuts = 17,
+    /// Proposal to a closed session. (02, wish 10.)
+    ClosedToProposals = 18,
 }
 
 impl Refusal {

@@ -1,4 +1,4 @@
-//! The board report. (01, "The board report".)
+//! The board report. (01, "The board report"; 02, wish 10.)
 
 use std::fmt::Write;
 
@@ -46,7 +46,8 @@ fn write_report(
     }
     writeln!(text, "tally {counts}")?;
     let (highest, decision) = (session.highest_filled(), session.registers.decision);
-    writeln!(text, "board {highest} {decision}")?;
+    let mark = if session.closed { "closed" } else { "open" };
+    writeln!(text, "board {highest} {decision} {mark}")?;
     for (number, process) in session.processes[..session.n].iter().enumerate() {
         write!(text, "seat {number} ")?;
         write_seat(text, process)?;

@@ -41,7 +41,8 @@ impl Ending {
 }
 
 /// Carries out a sheet's entries on the session it opened. (01: the runner;
-/// each entry 13 first, then its operation's own order.)
+/// each entry 13 first, then its operation's own order. 02, wish 10: a close is an entry
+/// like any other, and none is refused.)
 pub fn run(sheet: &Sheet, budget: u64, session: &mut Session, counts: &mut Counts) -> Ending {
     let mut done = 0;
     for run in sheet.runs() {

@@ -91,6 +91,8 @@ pub struct Session {
     pub registers: Registers,
     /// The processes. (01: the row of seats.)
     pub processes: [Process; MAX_PROCESSES],
+    /// Whether it takes no more proposals. (02, wish 10: "a closed mark, open at first".)
+    pub closed: bool,
 }
 
 /// 01, "Numbers returned", opening: 1. (02, wish 9: "1 and 2 speak of the caller's
@@ -144,10 +146,12 @@ impl Session {
             limit,
             registers: Registers::BLANK,
             processes: [Process::IDLE; MAX_PROCESSES],
+            closed: false,
         }
     }
 
-    /// A process takes up a value. (01, order: 3, 4, 5, 6.)
+    /// A process takes up a value. (01, order: 3, 4, 5, 6; 02, wish 10: then 18, "tested
+    /// last, after 6".)
     pub fn propose(&mut self, process: usize, value: u32) -> Result<(), Refusal> {
         self.check_sound()?;
         self.propose_trusted(process, value)
@@ -187,6 +191,14 @@ impl Session {
     pub fn crash(&mut self, process: usize) -> Result<(), Refusal> {
         self.check_sound()?;
         self.crash_trusted(process)
+    }
+
+    /// No more proposals from here on. The mark alone changes, "also where it is set
+    /// already", and no register is used. (02, wish 10; order: 3.)
+    pub fn close(&mut self) -> Result<(), Refusal> {
+        self.check_sound()?;
+        self.close_trusted();
+        Ok(())
     }
 
     /// Carries out any operation at a window. (02, wish 7; order as the operation's
@@ -232,6 +244,10 @@ impl Session {
             }
             Operation::Learn { process } => self.learn_trusted(process, counts, watch),
             Operation::Crash { process } => self.crash_trusted(process),
+            Operation::Close => {
+                self.close_trusted();
+                Ok(())
+            }
         }
     }
 
@@ -243,6 +259,9 @@ impl Session {
         }
         if process.phase != Phase::Idle {
             return Err(Refusal::SecondProposal);
+        }
+        if self.closed {
+            return Err(Refusal::ClosedToProposals);
         }
         process.phase = Phase::Waiting;
         process.estimate = value;
@@ -289,6 +308,11 @@ impl Session {
         let process = alive(&mut self.processes[..self.n], process)?;
         process.phase = Phase::Crashed;
         Ok(())
+    }
+
+    #[inline]
+    fn close_trusted(&mut self) {
+        self.closed = true;
     }
 }
 

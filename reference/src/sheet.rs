@@ -1,4 +1,4 @@
-//! Sheets in bytes. (01, "Turn sheets".)
+//! Sheets in bytes. (01, "Turn sheets"; 02, wish 10.)
 
 use crate::refusal::Refusal;
 use crate::session::{check_opening, window, Caller, Limits, Session};
@@ -14,7 +14,7 @@ pub(crate) const PAIR: usize = 4;
 /// The bytes of an entry. (01: kind, seat, 32-bit value.)
 pub const ENTRY: usize = 6;
 
-/// What an entry asks for. (01: propose, work, look, crash.)
+/// What an entry asks for. (01: propose, work, look, crash; 02, wish 10: close.)
 #[derive(Clone, Copy, PartialEq, Eq, Debug)]
 pub enum Operation {
     /// 01: kind 0, a proposal.
@@ -25,36 +25,41 @@ pub enum Operation {
     Learn { process: usize },
     /// 01: kind 3, a crash.
     Crash { process: usize },
+    /// 02, wish 10: kind 4, a close, which is for no seat.
+    Close,
 }
 
 impl Operation {
-    /// Reads an entry's bytes, or 13.
+    /// Reads an entry's bytes, or 13. (02, wish 10: "kind 4 with another seat or value is
+    /// 13".)
     #[inline]
     pub fn decode(entry: &[u8]) -> Result<Operation, Refusal> {
-        let &[kind, process, a, b, c, d] = entry else {
+        let &[kind, seat, a, b, c, d] = entry else {
             return Err(Refusal::BadEntry);
         };
-        let process = usize::from(process);
+        let process = usize::from(seat);
         let value = u32::from_le_bytes([a, b, c, d]);
-        match (kind, value) {
-            (0, value) => Ok(Operation::Propose { process, value }),
-            (1, 0 | 1) => Ok(Operation::Step {
+        match (kind, seat, value) {
+            (0, _, value) => Ok(Operation::Propose { process, value }),
+            (1, _, 0 | 1) => Ok(Operation::Step {
                 process,
                 leader: value == 1,
             }),
-            (2, 0) => Ok(Operation::Learn { process }),
-            (3, 0) => Ok(Operation::Crash { process }),
+            (2, _, 0) => Ok(Operation::Learn { process }),
+            (3, _, 0) => Ok(Operation::Crash { process }),
+            (4, 0, 0) => Ok(Operation::Close),
             _ => Err(Refusal::BadEntry),
         }
     }
 
-    /// The number of the process that it is for.
-    pub fn process(self) -> usize {
+    /// The number of the process that it is for; none of a close.
+    pub fn process(self) -> Option<usize> {
         match self {
             Operation::Propose { process, .. }
             | Operation::Step { process, .. }
             | Operation::Learn { process }
-            | Operation::Crash { process } => process,
+            | Operation::Crash { process } => Some(process),
+            Operation::Close => None,
         }
     }
 }

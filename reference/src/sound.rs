@@ -17,7 +17,8 @@ impl Session {
         sound(self.is_sound_at(window))
     }
 
-    /// Whether the session is sound.
+    /// Whether the session is sound. Open or closed, it may be: "Soundness allows both."
+    /// (02, wish 10.)
     pub fn is_sound(&self) -> bool {
         self.is_sound_by(window)
     }

@@ -1,7 +1,8 @@
 //! The paper cases of document 01, each number that it and 02 return, polls, the window
-//! as a parameter, and both callers.
+//! as a parameter, both callers, and closed sessions.
 
 mod callers;
+mod closing;
 mod operations;
 mod paper;
 mod polls;
@@ -84,6 +85,7 @@ fn encode(operation: Operation) -> [u8; 6] {
         Operation::Step { process, leader } => (1, process, u32::from(leader)),
         Operation::Learn { process } => (2, process, 0),
         Operation::Crash { process } => (3, process, 0),
+        Operation::Close => (4, 0, 0),
     };
     raw(kind, process as u8, value)
 }

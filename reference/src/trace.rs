@@ -11,14 +11,15 @@
 //!
 //! - INDEX counts from 0 over all runs and is set to the right in 5 places.
 //! - OPERATION is `propose SEAT VALUE`, `work SEAT yes`, `work SEAT no`,
-//!   `look SEAT`, `crash SEAT`, or `entry KIND SEAT VALUE` for an entry that
-//!   names none (refused with 13); set to the left in 24 places.
+//!   `look SEAT`, `crash SEAT`, `close`, or `entry KIND SEAT VALUE` for an entry
+//!   that names none (refused with 13); set to the left in 24 places.
 //! - REGISTER is the one register operation made: `none`, `T[r] read VALUE`,
 //!   `T[r] written VALUE`, `C[r] read marked`, `C[r] read unmarked`,
 //!   `C[r] marked`, `D read VALUE` or `D written VALUE`, `blank` standing for a
 //!   VALUE of 0; set to the left in 25 places.
 //! - RECORD is the seat's record after the entry: its stance with its place,
-//!   then `round R value V`; set to the left in 40 places.
+//!   then `round R value V`; of a close, which has no seat, `closed`; set to the left
+//!   in 40 places.
 //! - TALLY is reads, writes and contested, from the sheet's start on; contested
 //!   grows where `C[r] marked` found C[r] unmarked.
 //!
@@ -104,12 +105,15 @@ fn carry_out(
         .apply_trusted_by(window, operation, counts, |access| {
             register = access.to_string()
         })
-        .map(|()| &session.processes[operation.process()])
-        .map(|process| format!("{register:25} | {:40} | {counts}\n", process.to_string()));
+        .map(|()| match operation.process() {
+            Some(process) => session.processes[process].to_string(),
+            None => String::from("closed"),
+        })
+        .map(|record| format!("{register:25} | {record:40} | {counts}\n"));
     (operation.to_string(), result)
 }
 
-/// The words of an entry with an unknown kind or a wrong value.
+/// The words of an entry with an unknown kind, a wrong seat or a wrong value.
 fn unknown(entry: &[u8]) -> String {
     let value = u32::from_le_bytes([entry[2], entry[3], entry[4], entry[5]]);
     format!("entry {} {} {value}", entry[0], entry[1])
@@ -124,6 +128,7 @@ impl fmt::Display for Operation {
             }
             Operation::Learn { process } => write!(f, "look {process}"),
             Operation::Crash { process } => write!(f, "crash {process}"),
+            Operation::Close => write!(f, "close"),
         }
     }
 }

@@ -48,17 +48,24 @@ fn size_of_sheet(entry_bytes: usize, runs: &[usize]) -> Result<usize, Refusal> {
     Ok(size)
 }
 
-/// The largest value of each kind: any for a proposal, a hint, and 0 for a look and
-/// a crash. (01, "Turn sheets".)
-const MAX_VALUES: [u32; 4] = [u32::MAX, 1, 0, 0];
+/// The largest seat and value of each kind: any seat but for a close, which has 0; any
+/// value for a proposal, a hint for a work turn, and 0 for the others. (01, "Turn
+/// sheets"; 02, wish 10.)
+const LARGEST: [(u8, u32); 5] = [
+    (u8::MAX, u32::MAX),
+    (u8::MAX, 1),
+    (u8::MAX, 0),
+    (u8::MAX, 0),
+    (0, 0),
+];
 
-/// 01, 13: each entry has a known kind and a value that fits it. By the table, since
-/// what the entries ask for does not matter here.
+/// 01, 13: each entry has a known kind, and a seat and a value that fit it. By the table,
+/// since what the entries ask for does not matter here.
 fn check_entries(entries: &[u8]) -> Result<(), Refusal> {
     let well_formed = |entry: &[u8]| {
         let value = u32::from_le_bytes([entry[2], entry[3], entry[4], entry[5]]);
-        let most = MAX_VALUES.get(usize::from(entry[0]));
-        most.is_some_and(|most| value <= *most)
+        let largest = LARGEST.get(usize::from(entry[0]));
+        largest.is_some_and(|most| entry[1] <= most.0 && value <= most.1)
     };
     if entries.chunks_exact(ENTRY).all(well_formed) {
         Ok(())

@@ -101,6 +101,7 @@ fn takes_everything(mut case: Case) {
     assert_eq!(case.process(last).to_string(), "put round 1 value 7");
     assert_eq!(case.session.read_decision(), Ok(0));
     assert_eq!(case.session.standing_values(&mut []), Ok(0));
+    assert_eq!(case.session.close(), Ok(()));
     assert_eq!(case.session.crash(last), Ok(()));
     assert!(case.session.is_sound());
 }

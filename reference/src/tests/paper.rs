@@ -201,7 +201,7 @@ fn small_sheets() {
         let mut buffer = [9; 256];
         assert_eq!(entry(&[1, 0, limit, 0], 0, &mut buffer), 0);
         assert_eq!(buffer, [0; 256]);
-        let text = "outcome finished 0\ntally 0 0 0\nboard 0 0\nseat 0 out\n";
+        let text = "outcome finished 0\ntally 0 0 0\nboard 0 0 open\nseat 0 out\n";
         assert_eq!(report(&[1, 0, limit, 0]), text);
     }
     let one = sheet(1, 2, &[raw(0, 0, 7)]);
@@ -213,16 +213,16 @@ fn small_sheets() {
 fn the_report_of_92_bytes() {
     let bytes = report_sheet();
     assert_eq!(bytes.len(), 92);
-    let text = "outcome finished 14\ntally 10 3 0\nboard 2 7\nseat 0 decided 7\n";
+    let text = "outcome finished 14\ntally 10 3 0\nboard 2 7 open\nseat 0 decided 7\n";
     assert_eq!(report(&bytes), text);
 }
 
-/// The lines that 01 has for it, though the seat commits in round 2 and is in the
+/// The lines that 01 has for it, and the mark of 02, wish 10, though the seat commits in round 2 and is in the
 /// checks of round 3 at its look.
 #[test]
 fn the_report_of_134_bytes() {
     let bytes = report_sheet_before();
     assert_eq!(bytes.len(), 134);
-    let text = "outcome finished 21\ntally 16 4 0\nboard 3 7\nseat 0 decided 7\n";
+    let text = "outcome finished 21\ntally 16 4 0\nboard 3 7 open\nseat 0 decided 7\n";
     assert_eq!(report(&bytes), text);
 }

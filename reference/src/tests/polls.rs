@@ -287,6 +287,7 @@ fn sizes_and_registers() {
         damaged(|poll| poll.limit = limit);
     }
     damaged(|poll| poll.registers.decision = 7);
+    damaged(|poll| poll.closed = true);
     damaged(|poll| poll.registers.values[3] = 1);
     damaged(|poll| poll.registers.marks[255] = true);
     damaged(|poll| poll.voters[2] = poll.voters[0]);
@@ -490,7 +491,10 @@ fn random_list(seed: u64) -> Claims {
         let before = round.poll.clone();
         match call.carry_out(&mut round.poll, &mut round.counts) {
             Ok(answer) => claims.note(call, answer),
-            Err(_) => assert_eq!(round.poll, before),
+            Err(refusal) => {
+                assert_ne!(refusal, Refusal::ClosedToProposals);
+                assert_eq!(round.poll, before);
+            }
         }
         assert!(round.poll.is_sound());
         claims.check(&round);

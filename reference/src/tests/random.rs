@@ -1,24 +1,32 @@
-//! Random lists of operations: the agreement rule holds, every session stays
-//! sound, contested is the number of marked rounds, and a sheet gives what its
-//! entries give one after another.
+//! Random lists of operations: the agreement rule holds, after a close the proposals
+//! no longer change, every session stays sound, contested is the number of marked
+//! rounds, and a sheet gives what its entries give one after another.
 
 use super::*;
 use crate::random::Random;
 use crate::{run, Ending, Phase, Sheet};
 
-/// What the agreement rule of 01 speaks of, and the round of each flag write (02,
-/// wish 2), gathered along a list.
+/// What the agreement rule of 01 speaks of, the round of each flag write (02, wish 2),
+/// and the closes (02, wish 10), gathered along a list.
 #[derive(Default)]
 struct History {
     proposed: Vec<u32>,
     written: Vec<(u32, u32)>,
     committed: Vec<(u32, u32)>,
     flagged: Vec<u32>,
+    /// How many numbers were proposed at each close.
+    closes: Vec<usize>,
+    /// Proposals refused with 18.
+    late: usize,
 }
 
 impl History {
-    /// An accepted operation on a process that stood so before it.
-    fn note(&mut self, operation: Operation, before: Process) {
+    /// An accepted operation on a session that stood so before it.
+    fn note(&mut self, operation: Operation, session: &Session) {
+        let Some(process) = operation.process() else {
+            return self.closes.push(self.proposed.len());
+        };
+        let before = session.processes[process];
         let (round, value) = (before.round, before.estimate);
         match (operation, before.phase) {
             (Operation::Propose { value, .. }, _) => self.proposed.push(value),
@@ -53,6 +61,9 @@ impl History {
         for process in session.processes.iter().filter(decided) {
             assert_eq!(process.estimate, session.registers.decision);
         }
+        // "after a close the set of proposals no longer changes".
+        assert_eq!(session.closed, !self.closes.is_empty());
+        assert!(self.closes.iter().all(|close| *close == self.proposed.len()));
     }
 }
 
@@ -66,6 +77,7 @@ fn random_operation(random: &mut Random, n: usize) -> Operation {
             let value = random.below(4) as u32;
             Operation::Propose { process, value }
         }
+        20 => Operation::Close,
         kind => {
             let leader = kind > 40;
             Operation::Step { process, leader }
@@ -79,6 +91,7 @@ fn public(session: &mut Session, operation: Operation, counts: &mut Counts) -> R
         Operation::Step { process, leader } => session.step(process, leader, counts),
         Operation::Learn { process } => session.learn(process, counts),
         Operation::Crash { process } => session.crash(process),
+        Operation::Close => session.close(),
     }
 }
 
@@ -103,10 +116,13 @@ fn random_list(seed: u64, length: usize) -> (Case, Vec<[u8; 6]>, History) {
         assert!(case.session.is_sound());
         match answer {
             Ok(()) => {
-                history.note(operation, before.processes[operation.process()]);
+                history.note(operation, &before);
                 accepted.push(encode(operation));
             }
-            Err(_) => assert_eq!(case.session, before),
+            Err(refusal) => {
+                assert_eq!(case.session, before);
+                history.late += usize::from(refusal == Refusal::ClosedToProposals);
+            }
         }
         history.check(&case.session, &case.counts);
     }
@@ -116,8 +132,13 @@ fn random_list(seed: u64, length: usize) -> (Case, Vec<[u8; 6]>, History) {
 #[test]
 fn agreement_soundness_and_counts_on_random_lists() {
     let (mut commits, mut first, mut second) = (0, 0, 0);
+    let (mut closed, mut again, mut late) = (0, 0, 0);
     for seed in 0..400 {
         let history = random_list(seed, 600).2;
+        let closes = history.closes.len();
+        closed += closes.min(1);
+        again += closes.saturating_sub(1);
+        late += history.late;
         commits += history.committed.len();
         first += history.disputed();
         second += history.flagged.len() - history.disputed();
@@ -125,6 +146,9 @@ fn agreement_soundness_and_counts_on_random_lists() {
     assert!(commits > 100, "{commits} commits");
     assert!(first > 100, "{first} flags of an unmarked round");
     assert!(second > 1000, "{second} flags of a marked round");
+    assert!(closed > 100, "{closed} lists with a close");
+    assert!(again > 100, "{again} closes of a closed session");
+    assert!(late > 100, "{late} proposals to a closed session");
 }
 
 #[test]

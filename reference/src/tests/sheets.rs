@@ -89,7 +89,7 @@ fn eleven_over_all_pairs_before_twelve() {
 
 #[test]
 fn thirteen_first() {
-    for wrong in [raw(4, 0, 0), raw(255, 9, 0), raw(1, 9, 2), raw(2, 9, 1)] {
+    for wrong in [raw(5, 0, 0), raw(255, 9, 0), raw(1, 9, 2), raw(2, 9, 1)] {
         assert_eq!(of_entries(&[wrong]), 13);
     }
     assert_eq!(of_entries(&[raw(3, 9, 1)]), 13);
@@ -164,7 +164,7 @@ fn a_refused_entry_leaves_what_came_before() {
     let mut seven = [0; 256];
     seven[0] = 7;
     assert_eq!(decided(&bytes, u64::MAX), (8, seven));
-    let text = "outcome refused 8 14\ntally 10 3 0\nboard 2 7\nseat 0 decided 7\n";
+    let text = "outcome refused 8 14\ntally 10 3 0\nboard 2 7 open\nseat 0 decided 7\n";
     assert_eq!(report(&bytes), text);
 }
 
@@ -198,7 +198,7 @@ fn report_of_every_kind_of_seat() {
     entries.push(raw(1, 3, YES));
     let text = report(&sheet(5, 5, &entries[..entries.len() - 3]));
     let lines: Vec<&str> = text.lines().collect();
-    assert_eq!(lines[2..4], ["board 5 7", "seat 0 working 5 7"]);
+    assert_eq!(lines[2..4], ["board 5 7 open", "seat 0 working 5 7"]);
     assert_eq!(
         lines[4..],
         [

@@ -3,7 +3,7 @@
 use super::*;
 use crate::{window, Phase};
 
-/// A session of two seats, window 3, limit 10; seat 0 at gate in round 6.
+/// A session of two seats, window 3, limit 10; seat 0 at gate in round 6. It is open.
 fn sample() -> Session {
     let mut session = Session::open(Caller::Server, 2, 10).expect("an opening within bounds");
     session.propose(0, 7).expect("a first proposal");
@@ -12,7 +12,8 @@ fn sample() -> Session {
     session
 }
 
-/// Each public operation and read-out answers 3 and leaves everything alone.
+/// Each public operation, a close too, and each read-out answers 3 and leaves everything
+/// alone.
 fn refuses_everything(mut session: Session) {
     let before = session.clone();
     let mut counts = Counts::default();
@@ -26,17 +27,23 @@ fn refuses_everything(mut session: Session) {
         assert_eq!(session.crash(process), Err(Refusal::Unsound));
         assert_eq!(session.read_process(process), Err(Refusal::Unsound));
     }
+    assert_eq!(session.close(), Err(Refusal::Unsound));
     assert_eq!(session.read_round(0), Err(Refusal::Unsound));
     assert_eq!(session.read_decision(), Err(Refusal::Unsound));
     assert_eq!(session.standing_values(&mut []), Err(Refusal::Unsound));
     assert_eq!((session, counts), (before, Counts::default()));
 }
 
+/// The damage makes the session unsound, open or closed.
 fn damaged(damage: impl Fn(&mut Session)) {
-    let mut session = sample();
-    damage(&mut session);
-    assert!(!session.is_sound());
-    refuses_everything(session);
+    for closed in [false, true] {
+        let mut session = sample();
+        session.closed = closed;
+        assert!(session.is_sound());
+        damage(&mut session);
+        assert!(!session.is_sound());
+        refuses_everything(session);
+    }
 }
 
 /// Whether seat 0 may stand so.

@@ -84,6 +84,7 @@ fn calls_at_another_window_are_refused() {
         },
         Operation::Learn { process: 1 },
         Operation::Crash { process: 64 },
+        Operation::Close,
     ];
     for window in [1, 2, 4] {
         for call in calls {
@@ -96,7 +97,7 @@ fn calls_at_another_window_are_refused() {
     assert_eq!(session.step(0, true, &mut counts), Err(Refusal::Unsound));
     assert_eq!((&session, counts), (&before, Counts::default()));
     let codes = calls.map(|call| refused(before.clone().apply_at(3, call, &mut counts)));
-    assert_eq!(codes, [Some(5), None, Some(7), Some(4)]);
+    assert_eq!(codes, [Some(5), None, Some(7), Some(4), None]);
 }
 
 /// One seat alone until its commit, with L = W: the turns and the tally.

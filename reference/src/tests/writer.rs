@@ -38,10 +38,11 @@ fn looks(count: usize) -> Vec<u8> {
 
 /// Well-formed entries of each kind.
 fn different(count: usize) -> Vec<u8> {
-    let one = |place: usize| match place % 4 {
-        0 => raw(0, (place / 4) as u8, 1_000_000 + place as u32),
-        1 => raw(1, (place / 8) as u8, (place / 4 % 2) as u32),
-        kind => raw(kind as u8, (place / 4) as u8, 0),
+    let one = |place: usize| match place % 5 {
+        0 => raw(0, (place / 5) as u8, 1_000_000 + place as u32),
+        1 => raw(1, (place / 10) as u8, (place / 5 % 2) as u32),
+        4 => raw(4, 0, 0),
+        kind => raw(kind as u8, (place / 5) as u8, 0),
     };
     (0..count).flat_map(one).collect()
 }
@@ -201,12 +202,18 @@ fn seventeen_for_a_sum_past_the_largest_number() {
 #[test]
 fn thirteen_at_every_place() {
     let wrong = [
-        raw(4, 0, 0),
+        raw(5, 0, 0),
         raw(255, 0, 0),
         raw(1, 0, 2),
         raw(1, 0, 1 << 24),
         raw(2, 0, 1),
         raw(3, 0, 1 << 31),
+        raw(4, 1, 0),
+        raw(4, 64, 0),
+        raw(4, 255, 0),
+        raw(4, 0, 1),
+        raw(4, 0, 1 << 24),
+        raw(4, 1, 1),
     ];
     for entry in wrong {
         for place in 0..5 {
@@ -230,10 +237,12 @@ fn round_trip_of(entries: &[u8]) {
 fn thirteen_where_the_reader_has_it() {
     let values = [0, 1, 2, 255, 256, 1 << 16, 1 << 24, 1 << 31, u32::MAX];
     for (kind, value) in (0..=255).flat_map(|kind| values.map(|value| (kind, value))) {
-        let entry = raw(kind, 0, value);
-        let answer = answer((1, 2), &entry, &[1], 14).0;
-        let expected = Operation::decode(&entry).map(|_| 14);
-        assert_eq!(answer, expected.map_err(Refusal::code));
+        for seat in [0, 1, 2, 63, 64, 128, 255] {
+            let entry = raw(kind, seat, value);
+            let answer = answer((1, 2), &entry, &[1], 14).0;
+            let expected = Operation::decode(&entry).map(|_| 14);
+            assert_eq!(answer, expected.map_err(Refusal::code));
+        }
     }
 }
 
