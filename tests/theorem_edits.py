@@ -5,23 +5,26 @@ case is false, of the two rules' bounds on the window and on the limits, and of 
     theorem_edits.py             tries every edit
     theorem_edits.py PATTERN     tries those whose file name matches, as 'root*.edit': for work on one
 
-Each file of tests/theorem-edits names a file, a text of it and another text, or several such pairs, the crate to check after the change, and the
-file and lemma at which the check must refuse it first; several lemmas where the first of them is true and only its proof fails. It also has a
-list of calls, and what they show. From these a proof that the rule is false of the changed machine is made, and that must be accepted.
+Each file of tests/theorem-edits names a file, a text of it and another text, or several such pairs, the crate to check after the change,
+and the file and lemma at which the check must refuse it first; several where the first of them is true and only its proof fails. It also
+has a list of calls, and what they show. From these a proof that the rule is false of the changed machine is made, and that must be
+accepted.
 
-The list is of the processes and rounds of the opening (a poll's has no rounds); the proposals of process 0, 1, ..; and the steps, or a poll's turns:
-`p*k` for k steps of process p, told to lead, and `p:look`, `p:crash` and `p:unled` for a look, a crash and a step that is not told to lead. Where
-the edit has a window, the calls are at that window and the rule that is false is the one at every window, or the claim of Safe.antt that it names;
-where it has none, the one in service. Where it has limits, processes and rounds, the opening is within those; where it has none, within the server's.
+The list is of the processes and rounds of the opening (a poll's has no rounds); the proposals of process 0, 1, ..; and the steps, or a
+poll's turns: `p*k` for k steps of process p, told to lead, and `p:look`, `p:crash` and `p:unled` for a look, a crash and a step that is not
+told to lead. Among the steps `p=v` is a proposal of v by process p, and `close` a close. Where the edit has a window, the calls are at that
+window and the rule that is false is the one at every window, or the claim of Safe.antt that it names; where it has none, the one in
+service. Where it has limits, processes and rounds, the opening is within those; where it has none, within the server's.
 
-`refutes` has the part that is false. It is a field of `Rule`, or of `PollRule`; SESSION_PARTS and POLL_PARTS below say what an edit then shows: who
-decides, commits, writes, answers or holds what. Or it is the equality with the machine: `machine`, where the last call returns 3, or `differs`, where
-another number of its answer is not the machine's; `last` has both numbers, and each call brings counts of the number in `counts`, 0 where there is
-none. An edit without `refutes` has how many rounds are contested and marked after a sheet of the calls.
+`refutes` has the part that is false. It is a field of `Rule`, or of `PollRule`; SESSION_PARTS and POLL_PARTS below say what an edit then
+shows: who decides, commits, writes, answers or holds what. Or it is `stand`, that the proposals stand after a close: CLOSE_PARTS has how
+many there were by then and by the end. Or it is the equality with the machine: `machine`, where the last call returns 3, or `differs`,
+where another number of its answer is not the machine's; `last` has both numbers, and each call brings counts of the number in `counts`, 0
+where there is none. An edit without `refutes` has how many rounds are contested and marked after a sheet of the calls.
 
-An edit of which a paper case is false has the case's row in place of the list, as the table has it: the table that holds that row alone must be
-proved false of the changed machine. An edit of a contract names a crate in place of the list, which must still be proved: the function meets the
-changed contract. All of it runs in a copy of the repository.
+An edit of which a paper case is false has the case's row in place of the list, as the table has it: the table that holds that row alone
+must be proved false of the changed machine. An edit of a contract names a crate in place of the list, which must still be proved: the
+function meets the changed contract. All of it runs in a copy of the repository.
 """
 import os
 import re
@@ -39,10 +42,11 @@ if sys.argv[1:] in (["--help"], ["-h"]):
 ROOT = Path(__file__).resolve().parent.parent
 EDITS = ROOT / "tests" / "theorem-edits"
 # The calls as a proof has them.
-SESSION_CALLS = {"proposal": "Propose {p} {v}", "step": "works {p}", "unled": "Step {p} false", "look": "Learn {p}", "crash": "Crash {p}"}
+SESSION_CALLS = {"proposal": "acts (Propose {p} {v})", "step": "acts (works {p})", "unled": "acts (Step {p} false)",
+                 "look": "acts (Learn {p})", "crash": "acts (Crash {p})", "close": "closes"}
 POLL_CALLS = {"proposal": "proposes {p} {v}", "step": "turns {p}", "crash": "crashes {p}"}
-# The parts of the two rules: the fields of an edit that refutes one, with the form of each; what they say, as `Refuted.antt` and `PollRefuted.antt` of
-# model_rule_cases have it; and by how many equations that is shown.
+# The parts of the two rules, and what is claimed after a close: the fields of an edit that refutes one, with the form of each; what they
+# say, as `Refuted.antt` and `PollRefuted.antt` of model_rule_cases have it; and by how many equations that is shown.
 NUMBER = r"(?P<v>\d+) by process (?P<p>\d+)"
 OTHER = r"(?P<u>\d+) by process (?P<q>\d+)"
 TURNS = r"(?P<k>\d+) turns by process (?P<p>\d+)"
@@ -54,6 +58,7 @@ SESSION_PARTS = {
     "commitment": ({"commits": r"(?P<v>\d+) in round (?P<R>\d+)", "writes": r"(?P<u>\d+) in round (?P<r>\d+) by process (?P<p>\d+)"},
                    "writtenLater {R} {v} {p} {r} {u}", 4),
 }
+CLOSE_PARTS = {"stand": ({"proposed": r"(?P<k>\d+) by a close, (?P<m>\d+) by the end"}, "{k} {m}", 3)}
 POLL_PARTS = {
     "validity": ({"answers": rf"(?P<a>\w+) {NUMBER}"}, "notProposed {p} ({a} {v}) {v}", 3),
     "agreement": ({"answers": rf"committed {NUMBER}, (?P<a>\w+) {OTHER}"}, "twoNumbers {p} {v} {q} ({a} {u}) {u}", 4),
@@ -65,10 +70,12 @@ POLL_PARTS = {
 }
 ANSWERS = {"committed": "Commits", "adopted": "Adopts"}
 # A number of an answer, as an edit has it and as a proof.
-NUMBERS = {"code": "a .code", "reads": "a .counts .reads", "round of process 0": "processAt (a .session) 0 .round"}
+NUMBERS = {"code": "a .code", "reads": "a .counts .reads", "round of process 0": "processAt (a .session) 0 .round",
+           "closed mark": "cond (a .session .closed) 1 0"}
 # The definitions by which a list of calls is computed.
 DEFINITIONS = """window rootUp rootFrom opened waitingRule phaseAccess access found goOn phaseNext next learnt stored turn counted full openingFor accessOf becomes
     after countsAfter answered perform soundPhaseAs soundProcessAs pollRegisters soundForAs operateForAs proposeForAs stepFor learnFor crashForAs"""
+SESSION_DEFINITIONS = "execute closeFor"
 POLL_DEFINITIONS = "withoutDecision pollAccess ending pollNext answerOf pollOpeningFor turnAfter turnCounts turned pollPerform pollTurnFor"
 
 
@@ -113,19 +120,29 @@ def check(copy, crate):
 
 
 def refused(output, number=1):
-    """The file and the lemmas of the first errors, as an edit names them; an error that is another lemma's does not count."""
+    """The files and lemmas of the first errors, as an edit names them; an error that is another lemma's does not count."""
     errors = re.findall(r"(crates/\S+?\.antt):\d+:\d+: (?:error: )?`([^`]+)`(?!.* was not admitted)", output)[:number]
-    return f"{errors[0][0]} {', '.join(lemma for file, lemma in errors if file == errors[0][0])}" if errors else "no error"
+    said, last = [], None
+    for file, lemma in errors:
+        said.append(lemma if file == last else f"{file} {lemma}")
+        last = file
+    return ", ".join(said) or "no error"
 
 
 def calls(edit):
-    """The calls, oldest first: the process, what it is called for, and the number that it proposes."""
-    for p, v in enumerate(edit["proposals"].split()):
+    """The calls, oldest first: the process, what it is called for, and the number that it proposes; a close is of no process."""
+    for p, v in enumerate(edit.get("proposals", "").split()):
         yield p, "proposal", int(v)
-    for part in edit["steps"].split() if "steps" in edit else []:
-        call, _, times = part.partition("*")
-        p, _, what = call.partition(":")
-        yield from [(int(p), what or "step", None)] * int(times or 1)
+    for part in edit.get("steps", "").split():
+        if part == "close":
+            yield None, "close", None
+        elif "=" in part:
+            p, v = part.split("=")
+            yield int(p), "proposal", int(v)
+        else:
+            call, _, times = part.partition("*")
+            p, _, what = call.partition(":")
+            yield from [(int(p), what or "step", None)] * int(times or 1)
 
 
 def listed(terms):
@@ -138,8 +155,10 @@ def operations(edit, words):
 
 
 def sheet(edit):
-    """The bytes of a sheet of the calls, in one run."""
-    entries = [bytes([0, p]) + v.to_bytes(4, "little") if what == "proposal" else bytes([1, p, 1, 0, 0, 0]) for p, what, v in calls(edit)]
+    """The bytes of a sheet of the calls, in one run: proposals, steps that are told to lead, and closes."""
+    kinds = {"proposal": 0, "step": 1, "close": 4}
+    values = {"step": 1, "close": 0}
+    entries = [bytes([kinds[what], p or 0]) + values.get(what, v).to_bytes(4, "little") for p, what, v in calls(edit)]
     header = bytes([int(edit["processes"]), 1]) + int(edit["rounds"]).to_bytes(2, "little")
     return header + (8).to_bytes(2, "little") + (6 * len(entries)).to_bytes(2, "little") + b"".join(entries)
 
@@ -190,10 +209,14 @@ def refutation(edit):
     if poll:
         values |= {"definitions": f"{DEFINITIONS} {POLL_DEFINITIONS}", **claimed(edit, "PollClaim", "EveryPollWindow", "processes")}
     else:
-        values |= {"definitions": DEFINITIONS, "L": edit["rounds"], **claimed(edit, "AgreementRule", "EveryWindow", "processes", "rounds")}
+        values |= {"definitions": f"{DEFINITIONS} {SESSION_DEFINITIONS}", "L": edit["rounds"]}
+        values |= claimed(edit, "AgreementRule", "EveryWindow", "processes", "rounds")
     if edit["refutes"] in parts:
         templates = ["polls", "calls", "polls_rule"] if poll else ["sessions", "sessions_rule"]
         values |= part_shown(edit, parts)
+    elif edit["refutes"] in CLOSE_PARTS:
+        templates = ["sessions", "calls", "sessions_stand"]
+        values |= part_shown(edit, CLOSE_PARTS)
     else:
         templates = ["polls" if poll else "sessions", "calls", "answers", edit["refutes"]]
         values |= last_answer(edit)
