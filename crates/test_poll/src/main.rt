@@ -1,14 +1,16 @@
 // Polls (02, wish 6) run from a list of operations, and what each call answers. Standard input: polls one after another. Each is a byte
 // that names the caller (02, wish 9), 0 the server and any other the cart; a byte, n; 16 bits, the number of its operations, low byte
-// first; and its operations of six bytes, kind, seat and a number of 32 bits. Kinds: 0 proposal of the number, 1 turn, 2 crash; any other
-// is the read-out of the seat's record as a session's. Each poll has a tally of its own. Standard output: a line for the opening and for
-// each operation, with its refusal's number or 0 and a turn's answer; then the tally, the registers and the seats.
+// first; and its operations of six bytes, kind, seat and a number of 32 bits. Kinds: 0 proposal of the number, 1 turn, 2 crash, 4 the close
+// of a session (02, wish 10), which polls have not; any other is the read-out of the seat's record as a session's. Each poll has a tally of
+// its own. Standard output: a line for the opening and for each operation, with its refusal's number or 0 and a turn's answer; then the
+// tally, the registers and the seats.
 ghost use mathlib.Core.Path.{_≡_};
 ghost use Prim.Native.Nat.{_+_, _*_, _≤_, _<_};
 use io::write_all;
 use model::Counts;
 use model::Phase;
 use model::Process;
+use model::ProcessAnswer;
 use model::Session;
 use model_poll::Answer;
 use model_poll::PollStepped;
@@ -82,12 +84,21 @@ fn read_as_session(s: Session, c: Counts, p: u8) -> PollStepped {
     unasked(code, s, c)
 }
 
+// Polls have no close: a poll that was closed as a session is unsound.
+fn close_as_session(s: Session, c: Counts) -> PollStepped {
+    let r = session_close::close(s);
+    write_all(1, b"close");
+    print(r.code as u64);
+    unasked(r.code, r.session, c)
+}
+
 // One operation, and its line.
 fn operation(s: Session, c: Counts, kind: u8, p: u8, v: u32) -> PollStepped {
     let r = match kind {
         0 => propose(s, c, p, v),
         1 => turn(s, c, p),
         2 => crash(s, c, p),
+        4 => close_as_session(s, c),
         _ => read_as_session(s, c, p),
     };
     write_all(1, b"\n");
@@ -141,12 +152,22 @@ fn print_status(q: Process) {
     }
 }
 
+// What the read-out of a seat gives.
+fn print_seat(r: ProcessAnswer) {
+    if r.code == 0 {
+        print_status(r.process);
+    } else {
+        write_all(1, b" refused");
+        print(r.code as u64);
+    }
+}
+
 fn print_seats(s: Session) {
     let n = s.n;
     for p in 0..n {
         write_all(1, b"seat");
         print(p as u64);
-        print_status(poll_change::process_record(s, p).process);
+        print_seat(poll_change::process_record(s, p));
         write_all(1, b"\n");
     }
 }
