@@ -1,13 +1,14 @@
 //! Runs random polls in close contention through test_poll, a program of the proved
 //! crates, and through the reference, and compares what they print, byte for byte.
 //! (02, wish 6.) The format is described in `src/polls.rs`. Polls are those of the server
-//! or of the bedside cart. (02, wish 9.)
+//! or of the bedside cart. (02, wish 9.) Some are closed as sessions are, after which every
+//! call is refused with 3. (02, wish 10.)
 //!
 //! Of every poll it checks, beside that, what the wish claims: each answer's value
 //! was proposed before; if one answer is committed v, all answers carry v; if all
 //! accepted proposals are v, all answers are committed v. No process may take more
-//! than W * W + 6 * W + 1 turns, D must stay blank, and contested must be the number
-//! of marked rounds.
+//! than W * W + 6 * W + 1 turns, D must stay blank, contested must be the number of
+//! marked rounds, and no call may give 18.
 //!
 //! `polls USE_POLL COUNT SEED`: so many polls from that seed through the program of
 //! that path. Poll I of a seed is the same whatever the COUNT. Many polls make up an
@@ -27,7 +28,7 @@ use std::process::{Child, Command, ExitCode, Stdio};
 use std::sync::mpsc::{channel, Receiver};
 use std::time::{Duration, Instant};
 
-use harness::{cart, raw, shorter, word, ByN, Entry, Random, Reached, ONE_SEAT, SERVER};
+use harness::{cart, raw, shorter, word, ByN, Entry, Random, Reached, CLOSE, ONE_SEAT, SERVER};
 use janus_reference::{
     poll_bytes, polls, window, Answer, Call, Caller, Counts, Phase, Poll, Process, Refusal, Voter,
 };
@@ -113,7 +114,7 @@ fn refused_opening(random: &mut Random) -> (u8, Vec<Entry>) {
 /// A few calls of any kind, most of them refused.
 fn noise(random: &mut Random) -> Vec<Entry> {
     let call = |random: &mut Random| {
-        let kind = random.pick(&[0, 1, 1, 2, 3, 255]);
+        let kind = random.pick(&[0, 0, 1, 1, 2, 3, 4, 255]);
         let process = random.pick(&[0, 0, 1, 2, 63, 64, 255]);
         let value = random.pick(&[0, 1, 256, 1 << 31]);
         raw(kind, process, value)
@@ -152,9 +153,10 @@ struct Composer<'r> {
     runner: Option<usize>,
     /// Processes that take part and are still to propose.
     late: Vec<usize>,
-    /// Odds of a crash, and of a call that is no part of the walk, at each turn.
+    /// Odds of a crash, of a call that is no part of the walk, and of a close, at each turn.
     crash: usize,
     stray: usize,
+    close: usize,
 }
 
 /// A poll in close contention.
@@ -164,6 +166,9 @@ fn composed(random: &mut Random) -> (u8, Vec<Entry>) {
     composer.proposals();
     let target = composer.target();
     composer.contend(target);
+    if composer.random.once_in(20) {
+        composer.call(CLOSE);
+    }
     for _ in 0..composer.random.below(12) {
         composer.stray();
     }
@@ -212,6 +217,7 @@ impl<'r> Composer<'r> {
             late: Vec::new(),
             crash: random.pick(&[0, 0, 800, 150, 40]),
             stray: random.pick(&[0, 60, 20, 8]),
+            close: random.pick(&[0, 0, 0, 0, 0, 0, 0, 200]),
             random,
         }
     }
@@ -259,9 +265,10 @@ impl<'r> Composer<'r> {
         }
     }
 
-    /// Turns in the poll's style until there are so many calls or none works.
+    /// Turns in the poll's style until there are so many calls, none works, or the poll is
+    /// closed.
     fn contend(&mut self, target: usize) {
-        while self.calls.len() < target {
+        while self.calls.len() < target && !self.poll.closed {
             let working: Vec<usize> = (0..self.poll.n).filter(|p| self.works(*p)).collect();
             if working.is_empty() || self.random.once_in(40) {
                 match self.late.pop() {
@@ -271,6 +278,8 @@ impl<'r> Composer<'r> {
                 }
             } else if self.random.once_in(self.stray) {
                 self.stray();
+            } else if self.random.once_in(self.close) {
+                self.call(CLOSE);
             } else {
                 let process = self.next_process(&working);
                 let kind = 1 + u8::from(self.random.once_in(self.crash));
@@ -360,7 +369,7 @@ impl<'r> Composer<'r> {
     }
 
     /// A call on any process, there or not, that hardly disturbs the poll: a process
-    /// that works does not crash by it.
+    /// that works does not crash by it. One that is closed may be closed again.
     fn stray(&mut self) {
         let n = self.poll.n;
         let process = match self.random.below(8) {
@@ -369,11 +378,12 @@ impl<'r> Composer<'r> {
         };
         let ignored = self.random.pick(&[0, 1, 1 << 31]);
         let entry = match self.random.below(8) {
+            0 if self.poll.closed => raw(4, process, ignored),
             0 | 1 => raw(1, process, ignored),
-            2 | 3 if !self.works(process) => raw(2, process, ignored),
+            2 | 3 if !self.works(process) || self.poll.closed => raw(2, process, ignored),
             4 => raw(0, process, 0),
             5 => raw(0, process, self.random.pick(&self.values)),
-            _ => raw(self.random.pick(&[3, 4, 128, 255]), process, ignored),
+            _ => raw(self.random.pick(&[3, 5, 128, 255]), process, ignored),
         };
         self.call(entry);
     }
@@ -489,6 +499,21 @@ events! {
     SessionCommitted: "session's read-out: 3, a seat committed" at least 2_000,
     SessionAdopted: "session's read-out: 3, adopted seats only" at least 500,
     SessionFirst: "session's read-out: 3 where 4 would follow" at least 200,
+    SessionClosed: "session's read-out: 0, closed" at least 50,
+    Closed: "session's close: 0" at least 100,
+    ClosedFirst: "session's close: 0, no seat has proposed" at least 20,
+    ClosedAgain: "session's close: 0, closed already" at least 30,
+    NotClosed: "session's close: 3, a seat answered" at least 50,
+    ClosedPropose: "3: proposal, closed" at least 50,
+    ClosedTurn: "3: turn, closed" at least 50,
+    ClosedCrash: "3: crash, closed" at least 50,
+    ClosedElse: "3, closed, where 0 would follow" at least 50,
+    ClosedFour: "3, closed, where 4 would follow" at least 30,
+    ClosedFive: "3, closed, where 5 would follow" at least 30,
+    ClosedSix: "3, closed, where 6 would follow" at least 10,
+    ClosedSeven: "3, closed, where 7 would follow" at least 50,
+    ClosedEight: "3, closed, where 8 would follow" at least 2,
+    LeftClosed: "poll left closed" at least 50,
     AllAnswered: "poll with every seat answered" at least 500,
     OneValue: "poll of one value, two or more committed" at least 200,
     Both: "poll with committed and adopted" at least 50,
@@ -635,11 +660,18 @@ impl Observer {
 
     /// Carries out and notes one call.
     fn call(&mut self, call: Call, coverage: &mut Coverage) -> Result<(), String> {
-        let number = call.process();
+        let Some(number) = call.process() else {
+            return self.close(coverage);
+        };
         let before = self.poll.voters.get(number).copied();
         let register = self.register(before);
         let answer = match call.carry_out(&mut self.poll, &mut self.counts) {
             Ok(answer) => answer,
+            Err(Refusal::ClosedToProposals) => return Err(format!("{call:?} refused with 18")),
+            Err(Refusal::Unsound) if self.poll.closed => {
+                self.refused_closed(call, coverage);
+                return Ok(());
+            }
             Err(refusal) => {
                 self.refused(call, before, refusal, coverage);
                 return Ok(());
@@ -651,7 +683,11 @@ impl Observer {
         match call {
             Call::Propose { value, .. } => self.accepted(number, value, coverage),
             Call::Crash { .. } => coverage.note(crash(before.phase)),
-            Call::ReadAsSession { .. } => coverage.note(Event::SessionRead),
+            Call::CloseAsSession => unreachable!("a close is for no process"),
+            Call::ReadAsSession { .. } => {
+                coverage.note(Event::SessionRead);
+                coverage.note_if(self.poll.closed, Event::SessionClosed);
+            }
             Call::Step { .. } => {
                 self.turns[number] += 1;
                 coverage.note(match after {
@@ -662,6 +698,42 @@ impl Observer {
             }
         }
         answer.map_or(Ok(()), |answer| self.answered(number, answer, coverage))
+    }
+
+    /// Carries out and notes a session's close, refused only where a seat has answered.
+    fn close(&mut self, coverage: &mut Coverage) -> Result<(), String> {
+        let (closed, call) = (self.poll.closed, Call::CloseAsSession);
+        match call.carry_out(&mut self.poll, &mut self.counts) {
+            Ok(_) => {
+                coverage.note(Event::Closed);
+                coverage.note_if(self.proposed.is_empty(), Event::ClosedFirst);
+                coverage.note_if(closed, Event::ClosedAgain);
+            }
+            Err(_) if self.answers.is_empty() => return Err("a close refused".to_string()),
+            Err(_) => coverage.note(Event::NotClosed),
+        }
+        Ok(())
+    }
+
+    /// Notes a refusal of a closed poll, and what an open one would have been told.
+    fn refused_closed(&mut self, call: Call, coverage: &mut Coverage) {
+        use Event::*;
+        coverage.note(match call {
+            Call::Propose { .. } => ClosedPropose,
+            Call::Step { .. } => ClosedTurn,
+            _ => ClosedCrash,
+        });
+        let (mut open, mut counts) = (self.poll.clone(), self.counts);
+        open.closed = false;
+        let next = call.carry_out(&mut open, &mut counts);
+        coverage.note(match next.map_err(Refusal::code) {
+            Ok(_) => ClosedElse,
+            Err(4) => ClosedFour,
+            Err(5) => ClosedFive,
+            Err(6) => ClosedSix,
+            Err(7) => ClosedSeven,
+            Err(_) => ClosedEight,
+        });
     }
 
     fn accepted(&mut self, number: usize, value: u32, coverage: &mut Coverage) {
@@ -788,7 +860,7 @@ impl Observer {
             Call::ReadAsSession { process } => return self.no_session(process, refusal, coverage),
             Call::Propose { .. } => 0,
             Call::Step { .. } => 1,
-            Call::Crash { .. } => 2,
+            Call::Crash { .. } | Call::CloseAsSession => 2,
         };
         let events = match (refusal, voter) {
             (Refusal::NoSuchProcess, _) => [NoSeatPropose, NoSeatTurn, NoSeatCrash],
@@ -846,6 +918,7 @@ impl Observer {
     /// Notes how a poll was left, of which the claims must hold.
     fn left(self, coverage: &mut Coverage) -> Result<(), String> {
         let (answers, adopted) = (self.answers.len(), self.adopted());
+        coverage.note_if(self.poll.closed, Event::LeftClosed);
         coverage.note_if(answers == self.poll.n, Event::AllAnswered);
         coverage.note_if(answers > 1 && self.one_value(), Event::OneValue);
         if self.committed().is_some() {
@@ -1008,6 +1081,7 @@ fn words(case: &Case) -> String {
             Call::Propose { process, value } => format!("propose {process} {value}"),
             Call::Step { process } => format!("turn {process}"),
             Call::Crash { process } => format!("crash {process}"),
+            Call::CloseAsSession => "close".to_string(),
             Call::ReadAsSession { process } => format!("session {process}"),
         };
         match words.last_mut() {

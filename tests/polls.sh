@@ -2,8 +2,8 @@
 # The program test_poll beside the separately written one on random polls in close contention (02, wish 6): no difference may be found, the
 # claims of the wish and the bound on turns must hold of every poll, and in a run of 4,000 polls or more every answer, by each of its
 # reasons, every refusal and every kind of turn must be reached, and answers for every n, in rounds below 01's window (02, wish 8); and as the
-# bedside cart (02, wish 9) answers for every n from 1 to 16 and refusals of every one from 17 to 64. Then that wrong programs are found,
-# and by the separate program's own tests one in which a closed poll is sound (02, wish 10).
+# bedside cart (02, wish 9) answers for every n from 1 to 16 and refusals of every one from 17 to 64; and polls that are closed by a session's
+# close (02, wish 10), which are refused everything with 3. Then that wrong programs are found.
 #
 # usage: tests/polls.sh [POLLS [SEED]]      as long as one likes; 4,000 polls from seed 1, and the wrong programs, in the gate
 set -euo pipefail
@@ -72,17 +72,9 @@ wrong "has a window one less than the smallest" session.rs 's/= smallest as u32;
 wrong "opens the cart's polls by the server's limits" poll.rs 's/caller.limits()/(caller, Caller::Server).1.limits()/' \
     'proved poll [0-9]+ 1, reference poll [0-9]+ 0$'
 wrong "has soundness by the cart's seats" sound.rs 's/check_opening(Caller::Server/check_opening(Caller::Cart/' \
-    'proved [a-z]+ [0-9 ]+ [04]( none)?, reference [a-z]+ [0-9 ]+ 3( none)?$'
-
-# A poll that is closed, which no list of calls makes: the unit tests of the program find it.
-edited poll.rs 's/^        !self.closed$/        true/'
-rustc --edition 2021 -C incremental="$out/incremental" --test --crate-name tests "$out/src/lib.rs" -o "$out/tests"
-if "$out/tests" no_sound_poll >"$out/tests.log" || [[ $(grep -c '^test tests::closing::.*_is_no_sound_poll ... FAILED$' "$out/tests.log") != 2 ]]; then
-    echo "polls: a program in which a closed poll is sound passes its tests"
-    cat "$out/tests.log"
-    exit 1
-fi
-echo "polls: a program in which a closed poll is sound is found by its tests"
+    'proved ([a-z]+ [0-9 ]+ [04]( none)?, reference [a-z]+ [0-9 ]+ 3( none)?|seat [0-9]+ [a-z0-9 ]+, reference seat [0-9]+ refused 3)$'
+wrong "takes a closed poll for a sound one" poll.rs 's/^        !self.closed$/        true/' \
+    'proved ([a-z]+) [a-z0-9 ]*3( none)?, reference \2 [a-z0-9 ]+$'
 
 # On both sides, where nothing differs, the claims find it.
 untrue() { # WHAT EDIT CLAIM
@@ -95,3 +87,7 @@ untrue() { # WHAT EDIT CLAIM
 untrue "answers committed where a check fails" 's/then_some(Answer::Adopted/then_some(Answer::Committed/' 'a seat committed [0-9]+, seat [0-9]+ committed [0-9]+$'
 untrue "answers adopted at commit" 's/return Some(Answer::Committed/return Some(Answer::Adopted/' 'one value proposed, seat [0-9]+ adopted [0-9]+$'
 untrue "answers with the round" 's/then_some(Answer::Adopted(process.estimate))/then_some(Answer::Adopted(process.round))/' 'seat [0-9]+ adopted [0-9]+, which none proposed$'
+untrue "refuses proposals to a closed poll with 18" '
+    s/^        !self.closed$/        true/
+    s/^            return Err(Refusal::SecondProposal);/&\n        }\n        if self.closed {\n            return Err(Refusal::ClosedToProposals);/' \
+    'Propose \{ process: [0-9]+, value: [0-9]+ \} refused with 18$'

@@ -1,13 +1,15 @@
 //! Many polls in bytes, and what becomes of them in words, as the program test_poll
-//! reads and prints them. (02, wish 6.)
+//! reads and prints them. (02, wishes 6 and 10.)
 //!
 //! The bytes of a poll, which another may follow: the caller, 0 the server and any other
 //! the cart (02, wish 9); n; the number of its calls in 16 bits, low byte first; and 6
 //! bytes for each call: kind, seat, 32-bit value, low byte first. Kind 0 is a proposal
-//! of the value; the other kinds ignore it. Kind 1 is a turn, 2 a crash, and any other
-//! kind the session's read-out of the seat, which shows 3 where the poll is no sound
-//! session. Where the bytes end early, so does the poll: an n that is missing is 0, and
-//! the calls that are whole are carried out.
+//! of the value; the other kinds ignore it. Kind 1 is a turn and 2 a crash. Kind 4 is the
+//! session's close, which ignores the seat too: polls have none of their own, and all
+//! that a poll is asked after it is refused with 3. Any other kind is the session's
+//! read-out of the seat. Both show 3 where the poll is no sound session. Where the bytes
+//! end early, so does the poll: an n that is missing is 0, and the calls that are whole
+//! are carried out.
 //!
 //! The lines of a poll, whose tally is empty at first:
 //!
@@ -16,11 +18,13 @@
 //! propose SEAT VALUE CODE     a line for each call
 //! turn SEAT CODE none         or `committed VALUE` or `adopted VALUE` at the end
 //! crash SEAT CODE
+//! close CODE
 //! session SEAT CODE
 //! tally READS WRITES CONTESTED
 //! round R VALUE unmarked      or `marked`, for each round from 1 to W
 //! seat P out                  or `working ROUND VALUE`, `crashed`, `committed VALUE`
-//!                             or `adopted VALUE`, for each seat from 0 to n - 1
+//!                             or `adopted VALUE`, for each seat from 0 to n - 1; or
+//!                             `refused CODE`, where the poll is closed
 //! ```
 
 use std::fmt;
@@ -42,6 +46,8 @@ pub enum Call {
     Step { process: usize },
     /// Kind 2, a crash.
     Crash { process: usize },
+    /// Kind 4, the session's close.
+    CloseAsSession,
     /// Any other kind, the session's read-out of the seat.
     ReadAsSession { process: usize },
 }
@@ -56,17 +62,19 @@ impl Call {
             0 => Call::Propose { process, value },
             1 => Call::Step { process },
             2 => Call::Crash { process },
+            4 => Call::CloseAsSession,
             _ => Call::ReadAsSession { process },
         }
     }
 
-    /// The number of the process that it is for.
-    pub fn process(self) -> usize {
+    /// The number of the process that it is for; none of a close.
+    pub fn process(self) -> Option<usize> {
         match self {
             Call::Propose { process, .. }
             | Call::Step { process }
             | Call::Crash { process }
-            | Call::ReadAsSession { process } => process,
+            | Call::ReadAsSession { process } => Some(process),
+            Call::CloseAsSession => None,
         }
     }
 
@@ -80,6 +88,12 @@ impl Call {
             Call::Propose { process, value } => poll.propose(process, value).map(|()| None),
             Call::Step { process } => poll.step(process, counts),
             Call::Crash { process } => poll.crash(process).map(|()| None),
+            Call::CloseAsSession => {
+                let mut session = poll.session()?;
+                session.close()?;
+                poll.closed = session.closed;
+                Ok(None)
+            }
             Call::ReadAsSession { process } => poll
                 .session()
                 .and_then(|session| session.read_process(process))
@@ -146,6 +160,7 @@ fn write_call(
             _ => writeln!(text, "turn {process} {code} none"),
         },
         Call::Crash { process } => writeln!(text, "crash {process} {code}"),
+        Call::CloseAsSession => writeln!(text, "close {code}"),
         Call::ReadAsSession { process } => writeln!(text, "session {process} {code}"),
     }
 }
@@ -159,11 +174,12 @@ fn write_end(text: &mut String, poll: &Poll, counts: &Counts) -> fmt::Result {
         let mark = if *marked { "marked" } else { "unmarked" };
         writeln!(text, "round {round} {value} {mark}")?;
     }
-    for (number, voter) in poll.voters[..poll.n].iter().enumerate() {
+    for number in 0..poll.n {
         write!(text, "seat {number} ")?;
-        match voter {
-            Voter::Walking(process) => write_seat(text, process)?,
-            Voter::Answered(answer, _) => writeln!(text, "{answer}")?,
+        match poll.read_process(number) {
+            Ok(Voter::Walking(process)) => write_seat(text, &process)?,
+            Ok(Voter::Answered(answer, _)) => writeln!(text, "{answer}")?,
+            Err(refusal) => writeln!(text, "refused {}", refusal.code())?,
         }
     }
     Ok(())

@@ -392,6 +392,43 @@ fn text_of_marked_rounds_and_adopted_seats() {
     }
 }
 
+/// A close is the session's, and ignores seat and value. The poll is refused with 3 from
+/// then on, and still is a sound session. (02, wish 10.)
+#[test]
+fn text_of_a_closed_poll() {
+    let calls = [
+        raw(0, 0, 7),
+        raw(4, 9, 9),
+        raw(0, 1, 8),
+        raw(1, 0, 0),
+        raw(2, 0, 0),
+        raw(3, 0, 0),
+        raw(4, 0, 0),
+    ];
+    let text = polls(&poll_bytes(SERVER, 2, &calls));
+    let said = "poll 2 0, propose 0 7 0, close 0, propose 1 8 3, turn 0 3 none, crash 0 3, session 0 0, close 0, tally 0 0 0";
+    let rounds = "round 1 0 unmarked, round 2 0 unmarked, round 3 0 unmarked";
+    let end = "seat 0 refused 3, seat 1 refused 3";
+    let lines: Vec<&str> = text.lines().collect();
+    assert_eq!(lines.join(", "), format!("{said}, {rounds}, {end}"));
+}
+
+/// Where a seat has answered, the poll is no sound session, and the close leaves it.
+#[test]
+fn an_answered_poll_is_not_closed() {
+    let mut round = late_writer();
+    round.refused(3, Call::CloseAsSession);
+    assert!(round.poll.is_sound() && !round.poll.closed);
+    let mut round = Round::open(2, &[7, 8]);
+    for _ in 0..2 {
+        let outcome = Call::CloseAsSession.carry_out(&mut round.poll, &mut round.counts);
+        assert_eq!(outcome, Ok(None));
+        assert!(round.poll.closed && !round.poll.is_sound());
+    }
+    round.ended(3, 0);
+    round.not_proposed(3, 0, 9);
+}
+
 #[test]
 fn bytes_that_end_early() {
     let bytes = poll_bytes(SERVER, 1, &[raw(0, 0, 7), raw(1, 0, 0)]);
