@@ -12,7 +12,8 @@ use Rattle.model.specs.Board.{opened}
 use Rattle.model.specs.Step.{waitingRule, phaseAccess, access, found, goOn, phaseNext, next, learnt, stored, turn, counted}
 use Rattle.model.specs.Refusal.{full}
 use Rattle.model.specs.Machine.{Command, acts, closes, openingFor, accessOf, becomes, after, countsAfter, answered, perform, execute}
-use Rattle.model.specs.Sound.{every}
+use Rattle.model.specs.Public.{closeFor, close}
+use Rattle.model.specs.Sound.{every, soundForAs}
 use Rattle.model_cases.specs.Play.{Case, holds, repeat}
 use Rattle.model_cases.specs.Play.Shows.{answers, hasWindow, register, marked, decision, stands, counts, closed}
 
@@ -129,3 +130,8 @@ unfolding
     openingFor
     accessOf becomes after countsAfter answered perform execute
 starred-cases = refl
+
+-- 02, wish 10, "Close: 3": a damaged session, here one of no process, is left as it is.
+pub damaged-close : close (opened 0 0) ≡ record { code = 3; session = opened 0 0 }
+unfolding closeFor soundForAs opened
+damaged-close = refl
