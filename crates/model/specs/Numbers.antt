@@ -50,7 +50,7 @@ badPairs = 11
 abbrev pub badRun : ℕ
 badRun = 12
 
--- 13: "entry with an unknown kind or a wrong value".
+-- 13: "entry with an unknown kind or a wrong value". 02, wish 10: "kind 4 with another seat or value is 13".
 abbrev pub badEntry : ℕ
 badEntry = 13
 
