@@ -44,6 +44,7 @@ fn no_counts() -> Counts
 }
 
 // 01, "Turn sheets": the entries one after another, on a session just opened, up to the budget or the first refused entry.
+// A close (02, wish 10) is an entry as the others are.
 fn carry(sheet: &[u8], budget: usize, window: usize, mut s: Session, mut c: Counts) -> Ran
     requires { ⌜ Begun (now sheet) window s ⌝ }
     ensures { λ r. ⌜ r ≡ runFrom window budget 0 s c (entries (now (sheet .entry))) ⌝ }
