@@ -39,15 +39,15 @@ pub fn entry_of(kind: u8, p: u8, value: u32) -> Entry
     Entry::Closes
 }
 
-// Whether it is one of these: by the largest value of each kind, and by the process of a close.
+// Whether it is one of these: by the largest value of each kind; a close, which is rare, by a test of its own.
 pub fn formed(kind: u8, p: u8, value: u32) -> bool
     ensures { λ r. ⌜ r ≡ not (isMalformed (entryOf kind p value)) ⌝ }
 {
-    let largest: [u32; 5] = [4294967295, 1, 0, 0, 0];
-    if kind < 5 {
-        (value <= largest[kind as usize]) & ((kind != 4) | (p == 0))
+    let largest: [u32; 4] = [4294967295, 1, 0, 0];
+    if kind < 4 {
+        value <= largest[kind as usize]
     } else {
-        false
+        (kind == 4) & ((p == 0) & (value == 0))
     }
 }
 
