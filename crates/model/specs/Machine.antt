@@ -80,8 +80,8 @@ pub data Command : Type 0 where
   acts : Operation → Command
   closes : Command
 
--- What the machine answers to a command. 02, wish 10: "A close sets it", the closed mark, "also where it is set already". It makes no
--- register operation, and the machine never refuses it.
+-- What the machine answers to a command. 02, wish 10: "A close sets it", the closed mark, "also where it is set already". A close makes no
+-- register operation and counts nothing, and the machine never refuses one.
 unfoldable pub execute : (W : ℕ) → Session → Counts → Command → Stepped
 execute W s c (acts o) = perform W s c o
 execute W s c closes = record { code = 0; session = withClosed s; counts = c }

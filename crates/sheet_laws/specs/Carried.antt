@@ -112,6 +112,14 @@ module _ {s : Session} {c : Counts} {o : Operation} {p : ℕ} where
   unfolding countsAfter
   tallied f e′ ed = ed ∙ rw e′ (accepted-counts (s .limit) (processAt s (processOf o)) _ (s .closed) c o (entered-accepted f .own))
 
+-- Past the test of the budget and of the process' number there is budget left, and the process is one of the n.
+pub due : (budget k n p : ℕ) → (leb budget k || leb n p) ≡ false → (k < budget) × (p < n)
+due budget k n p = go (leb budget k) refl
+  where
+    go : (b : Bool) → leb budget k ≡ b → (b || leb n p) ≡ false → (k < budget) × (p < n)
+    go true e o = absurd (true≢false o)
+    go false e o = (leb-false budget k e, leb-false n p o)
+
 -- What the loop keeps: the answer is that of the run from here on, with k entries carried out; the session is sound.
 pub record Carrying (answer : Ran) (t : List ℕ) (budget W : ℕ) (s : Session) (c : Counts) (k : ℕ) (place : ℕ) : Type 0 where
   pub same : answer ≡ runFrom W (budget - k) k s c (rest t place)
@@ -214,11 +222,3 @@ module _ {answer : Ran} {t : List ℕ} {budget W : ℕ} {s : Session} {c : Count
         ∙ one-refused W _ k s c o _ noSuchProcess
         (number-refusal s c o (rw (← named) (leb-true (s .n) p (rw (lt-leb budget k left) at stops))))
         (λ z. omega arith))
-
-    -- Past that test there is budget left, and the process is one of the n.
-    pub due : {p : ℕ} → (leb budget k || leb (s .n) p) ≡ false → (k < budget) × (p < s .n)
-    due {p} = go (leb budget k) refl
-      where
-        go : (b : Bool) → leb budget k ≡ b → (b || leb (s .n) p) ≡ false → (k < budget) × (p < s .n)
-        go true e o = absurd (true≢false o)
-        go false e o = (leb-false budget k e, leb-false (s .n) p o)

@@ -58,7 +58,7 @@ next-of c = let e = c .before .before in entry-of (e .before .before) ∙ ap Nex
 
 -- There is budget left, and its process is one of the n.
 due-of : (c : Here) → (loop-of c .loop .k < start-of c .args .budget) × (process-of c < loop-of c .loop .s .n)
-due-of c = due (loop-of c .loop .inv) (next-of (c .before .before)) (sym (c .before .halts .ensures) ∙ c .if1 .left)
+due-of c = due _ _ _ _ (sym (c .before .halts .ensures) ∙ c .if1 .left)
 
 low : (c : Here) → process-of c < 64
 low c = row-low (loop-of c .loop .inv) (due-of c .1)
@@ -173,34 +173,10 @@ left : (c : tie.At-match2-came Inv-loop μ-loop) →
     let l = c .before .before .before .before .before in
     l .loop .k < l .before .before .before .args .budget
 left c =
-    let at = c .before in
+    let n = c .before .before .before .before .before .loop .s .n in
     ⊎-elim
-    (λ w.
-    due-of
-    (record {
-      before = record {
-        before = record {
-          before = record { before = record { before = record { before = at; match2 = w .0 }; e2 = w .1 }; known-told2 = w .2 };
-          process-of = w .3;
-        };
-        halts = w .4;
-      };
-      if1 = w .5;
-    }) .0)
-    (⊎-elim
-    (λ w.
-    due-of
-    (record {
-      before = record {
-        before = record {
-          before = record { before = record { before = record { before = at; match2 = w .0 }; e2 = w .1 }; known-told2 = w .2 };
-          process-of = w .3;
-        };
-        halts = w .4;
-      };
-      if1 = w .5;
-    }) .0)
-    (λ w. w .3 .left))
+    (λ w. due _ _ n (w .3 .result) (sym (w .4 .ensures) ∙ w .5 .left) .0)
+    (⊎-elim (λ w. due _ _ n (w .3 .result) (sym (w .4 .ensures) ∙ w .5 .left) .0) (λ w. w .3 .left))
     (c .match2 .came)
 
 add-k : tie.Need-add-k Inv-loop μ-loop
