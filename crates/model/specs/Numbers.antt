@@ -74,6 +74,10 @@ badCuts = 17
 abbrev pub closedToProposals : ℕ
 closedToProposals = 18
 
+-- 19, 02, wish 11: "c not 1 to 4, over 16 workers, a worker's ward not 1 to c, or an empty ward; at opening".
+abbrev pub badWards : ℕ
+badWards = 19
+
 -- 100: "100 for budget ended". No refusal: what the clinic server gets for a run that its budget ended.
 abbrev pub budgetEnded : ℕ
 budgetEnded = 100

@@ -56,6 +56,12 @@ isOutside Active = false
 isOutside Spent = false
 isOutside Gone = false
 
+abbrev pub isActive : Status → Bool
+isActive Outside = false
+isActive Active = true
+isActive Spent = false
+isActive Gone = false
+
 abbrev pub isSpent : Status → Bool
 isSpent Outside = false
 isSpent Active = false
@@ -67,6 +73,24 @@ isGone Outside = false
 isGone Active = false
 isGone Spent = false
 isGone Gone = true
+
+-- 01: "seat .. decided" alone.
+abbrev pub isDecided : Phase → Bool
+isDecided Idle = false
+isDecided Waiting = false
+isDecided Write = false
+isDecided (Scan k) = false
+isDecided (Adopt k) = false
+isDecided (Compare i) = false
+isDecided (Flag i) = false
+isDecided (CheckMark i) = false
+isDecided (CheckValue i) = false
+isDecided Commit = false
+isDecided Exhausted = false
+isDecided Crashed = false
+isDecided Decided = true
+isDecided HasCommitted = false
+isDecided HasAdopted = false
 
 -- The largest count, 2 ^ 32 - 1.
 abbrev pub maxCount : ℕ

@@ -36,5 +36,7 @@ pub const BAD_CUTS: u32 = 17;
 
 pub const CLOSED_TO_PROPOSALS: u32 = 18;
 
+pub const BAD_WARDS: u32 = 19;
+
 // What the clinic server gets for a run that its budget ended.
 pub const BUDGET_ENDED: u32 = 100;

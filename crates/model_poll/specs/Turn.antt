@@ -95,6 +95,17 @@ phaseAnswer HasAdopted e = Adopts e
 unfoldable pub answerOf : Process → Answer
 answerOf q = phaseAnswer (q .phase) (q .estimate)
 
+-- There is one; and it is committed.
+abbrev pub isAnswered : Answer → Bool
+isAnswered Pending = false
+isAnswered (Commits u) = true
+isAnswered (Adopts u) = true
+
+abbrev pub isCommitted : Answer → Bool
+isCommitted Pending = false
+isCommitted (Commits u) = true
+isCommitted (Adopts u) = false
+
 -- The answer is committed or adopted, and its value is v.
 abbrev pub Carries : Answer → (v : ℕ) → Type 0
 Carries Pending v = ⊥
