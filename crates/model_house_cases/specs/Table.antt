@@ -45,6 +45,11 @@ both : (k j : ℕ) → List HouseOperation
 unfolding alone
 both k j = proposes 0 3 ∷ proposes 1 8 ∷ alone 0 k ++ alone 1 j
 
+-- They propose as above; worker 1 takes 28 turns, to its first write in the poll; worker 0 takes 48, to its house write; worker 1 takes j more.
+late : (j : ℕ) → List HouseOperation
+unfolding alone
+late j = proposes 0 3 ∷ proposes 1 8 ∷ alone 1 28 ++ alone 0 48 ++ alone 1 j
+
 opens : (c : ℕ) → List ℕ → (code : ℕ) → HouseCase
 opens c wards code =
     record { c = c; wards = wards; lent = noCounts; operations = []; changes = []; calls = []; shows = answers code ∷ [] }
@@ -81,7 +86,7 @@ vote : (s : ℕ) → Phase → (round value : ℕ) → Session
 vote s φ r v = withProcess (opened 2 3) s (process φ r v)
 
 pub table : List HouseCase
-unfolding alone solo both opens case fullCase changedCase unsoundCase soundCase ward vote
+unfolding alone solo both late opens case fullCase changedCase unsoundCase soundCase ward vote
 table =
     -- opening: 1, then 19
     opens 1 [] 1
@@ -134,6 +139,11 @@ table =
     ∷ case 2 (1 ∷ 2 ∷ []) (both 48 43) (decides 3 ∷ stands 1 (Working ProposeWard) 2 3 ∷ counts 72 13 0 ∷ sound ∷ [])
     ∷ case 2 (1 ∷ 2 ∷ []) (both 48 43 ++ (learns 0 ∷ learns 1 ∷ []))
     (stands 0 Decided 2 3 ∷ stands 1 Decided 2 3 ∷ counts 74 13 0 ∷ sound ∷ [])
+    -- a house look leaves the place and takes the number found, not the worker's own
+    ∷ case 2 (1 ∷ 2 ∷ []) (both 48 0 ++ (learns 1 ∷ [])) (answers 0 ∷ stands 1 Decided 1 3 ∷ counts 38 8 0 ∷ sound ∷ [])
+    -- an adopted answer: worker 1 is about to write in the poll when worker 0 walks; it takes 3, and the next outer round follows
+    ∷ case 2 (1 ∷ 2 ∷ []) (late 14) (decides 3 ∷ stands 1 (Working ReadTable) 1 8 ∷ sound ∷ [])
+    ∷ case 2 (1 ∷ 2 ∷ []) (late 15) (answers 0 ∷ decides 3 ∷ stands 1 (Working ProposeWard) 2 3 ∷ sound ∷ [])
     -- two workers of one ward: worker 1's seat is decided with 3, it writes that to the table, and its value stays 8
     ∷ case 1 (1 ∷ 1 ∷ []) (both 62 3) (wardSeat 1 1 1 3 ∷ stands 1 (Working WriteTable) 1 8 ∷ sound ∷ [])
     ∷ case 1 (1 ∷ 1 ∷ []) (both 62 4) (entry 1 1 3 ∷ stands 1 (Working ProposePoll) 1 8 ∷ sound ∷ [])
