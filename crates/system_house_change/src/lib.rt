@@ -1,5 +1,5 @@
-// Proposals, house looks (with the counts by value) and crashes of a house's workers (document 02, wish 11). "A crash or house look changes
-// no ward or poll seat"; nor does a proposal. i is p wherever a call is accepted: where it is not, the tests refuse.
+// Proposals, house looks and crashes of a house's workers (document 02, wish 11). They make their tests in their order, and change the
+// house where it stands if none of them refuses.
 ghost use mathlib.Core.Path.{_≡_};
 ghost use Rattle.model_house.specs.Machine.{houseLearnt};
 ghost use Rattle.model_house.specs.Public.{housePropose, houseLearn, houseCrash};
@@ -12,7 +12,8 @@ use model_house::Place;
 use model_house::Stance;
 use model_house::Worker;
 
-// Worker p holds v, in outer round 1, and proposes it to its ward next.
+// 3, 4, 5, 6; then worker p holds v, and its next turn is the first of outer round 1. i is p wherever a call is accepted, here and below:
+// where it is not, the tests refuse.
 pub fn propose(h: House, p: usize, v: u32) -> HouseChanged
     ensures { λ r. ⌜ r ≡ housePropose h p v ⌝ }
 {
@@ -35,7 +36,8 @@ pub fn propose(h: House, p: usize, v: u32) -> HouseChanged
     }
 }
 
-// Worker p is crashed, and its outer round and value stay.
+// 02, wish 11: "A crash or house look changes no ward or poll seat." 3, 4, 7, 8; then worker p is crashed, and its outer round and value
+// stay.
 pub fn crash(h: House, p: usize) -> HouseChanged
     ensures { λ r. ⌜ r ≡ houseCrash h p ⌝ }
 {
@@ -58,7 +60,7 @@ pub fn crash(h: House, p: usize) -> HouseChanged
     }
 }
 
-// It "ends it as decided if filled".
+// 02, wish 11: "A house look at the house register .. ends it as decided if filled", with the number found, x.
 fn learnt(q: Worker, x: u32) -> Worker
     ensures { λ r. ⌜ r ≡ houseLearnt q x ⌝ }
 {
@@ -72,7 +74,8 @@ fn learnt(q: Worker, x: u32) -> Worker
     }
 }
 
-// "A house look at the house register": one read.
+// 02, wish 11: a house look, "taken instead of a turn by a working or spent worker". 3, 4, 7, 8, 16; then one read, of the house's decision
+// register.
 pub fn learn(h: House, p: usize, c: Counts) -> HouseStepped
     ensures { λ r. ⌜ r ≡ houseLearn h p c ⌝ }
 {

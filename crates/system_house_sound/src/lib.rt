@@ -1,7 +1,44 @@
 // When a house is sound (document 02, wish 11): the test that every call on a house makes first.
+ghost use Prim.Native.Nat.{_≤_, _*_};
+ghost use mathlib.Core.Bool.{true};
 ghost use mathlib.Core.Path.{_≡_};
-ghost use Rattle.model_house.specs.Sound.{soundHouse};
+ghost use lib.ListN.{getD};
+ghost use Rattle.model_house.specs.House.{outerRounds, allBelow, noSession};
+ghost use Rattle.model_house.specs.Sound.{soundWard, soundVote, soundWards, soundWorker, soundHouse};
+use model::Session;
 use model_house::House;
+
+// 02, wish 11: "a session .. unsound, closed or of another size", of those of wards 1 to c.
+fn sessions_sound(c: usize, seats: usize, sessions: [Session; 32]) -> bool
+    requires { ⌜ c ≤ 4 ⌝ }
+    ensures { λ r. ⌜ r ≡ allBelow (outerRounds * c) (λ i. soundWard seats (getD sessions i noSession)) ⌝ }
+{
+    let last = 8 * c;
+    let mut i = 0;
+    while i < last {
+        let s = sessions[i];
+        if !system_house_board::ward_sound(seats, s) {
+            return false;
+        }
+        i += 1;
+    }
+    true
+}
+
+// 02, wish 11: "a .. poll unsound, closed or of another size, a poll number above c".
+fn polls_sound(n: usize, c: usize, polls: [Session; 8]) -> bool
+    ensures { λ r. ⌜ r ≡ allBelow outerRounds (λ i. soundVote n c (getD polls i noSession)) ⌝ }
+{
+    let mut i = 0;
+    while i < 8 {
+        let s = polls[i];
+        if !system_house_board::vote_sound(n, c, s) {
+            return false;
+        }
+        i += 1;
+    }
+    true
+}
 
 fn wide(x: u8) -> usize
     ensures { λ r. ⌜ r ≡ x ⌝ }
@@ -9,34 +46,13 @@ fn wide(x: u8) -> usize
     x as usize
 }
 
-// The wards, the sessions of wards 1 to c, the polls, and the workers, each with the seats that its next turn needs.
-pub fn sound(h: House) -> bool
-    ensures { λ r. ⌜ r ≡ soundHouse h ⌝ }
+// 02, wish 11: "an outer round not 1 to 8, a proposed worker without a value, or a seat not .. as a working worker's next turn needs".
+fn workers_sound(h: House) -> bool
+    requires { ⌜ soundWards h ≡ true ⌝ }
+    ensures { λ r. ⌜ r ≡ allBelow (h .n) (soundWorker h) ⌝ }
 {
     let n = h.n;
-    let c = h.c;
     let wards = h.wards;
-    if !((1 <= n) & system_house_wards::allowed(c, n, wards)) {
-        return false;
-    }
-    let seats = system_house_parts::ward_seats(n, c);
-    let sessions = 8 * c;
-    let mut i = 0;
-    while i < sessions {
-        let s = h.sessions[i];
-        if !system_house_board::ward_sound(seats, s) {
-            return false;
-        }
-        i += 1;
-    }
-    let mut j = 0;
-    while j < 8 {
-        let b = h.polls[j];
-        if !system_house_board::vote_sound(n, c, b) {
-            return false;
-        }
-        j += 1;
-    }
     let mut p = 0;
     while p < n {
         let q = h.workers[p];
@@ -59,4 +75,25 @@ pub fn sound(h: House) -> bool
         p += 1;
     }
     true
+}
+
+// The wards, the sessions of wards 1 to c, the polls, and the workers, each with the seats that its next turn needs.
+pub fn sound(h: House) -> bool
+    ensures { λ r. ⌜ r ≡ soundHouse h ⌝ }
+{
+    let n = h.n;
+    let c = h.c;
+    let wards = h.wards;
+    if !((1 <= n) & system_house_wards::allowed(c, n, wards)) {
+        return false;
+    }
+    let sessions = h.sessions;
+    if !sessions_sound(c, system_house_parts::ward_seats(n, c), sessions) {
+        return false;
+    }
+    let polls = h.polls;
+    if !polls_sound(n, c, polls) {
+        return false;
+    }
+    workers_sound(h)
 }
