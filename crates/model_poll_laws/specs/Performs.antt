@@ -56,11 +56,11 @@ turn-size W s p = stored-same s _ _ .n
 -- ---- the records
 
 -- A turn changes the record of its own process alone.
-turn-others : (s : Session) (p : ℕ) (a : Access) (f : ℕ → Process) (o : ℕ) → (o ≡ p → ⊥) → processAt (turn s p a f) o ≡ processAt s o
+pub turn-others : (s : Session) (p : ℕ) (a : Access) (f : ℕ → Process) (o : ℕ) → (o ≡ p → ⊥) → processAt (turn s p a f) o ≡ processAt s o
 unfolding turn
 turn-others s p a f o other = rw (stored-same s _ _ .processes) (getD-set-other (s .processes) p o _ idle other)
 
-turn-own : (s : Session) (p : ℕ) (a : Access) (f : ℕ → Process) → p < length (s .processes) → processAt (turn s p a f) p ≡ f (found s a)
+pub turn-own : (s : Session) (p : ℕ) (a : Access) (f : ℕ → Process) → p < length (s .processes) → processAt (turn s p a f) p ≡ f (found s a)
 unfolding turn
 turn-own s p a f below = rw (stored-same s _ _ .processes) (getD-set-same (s .processes) p _ idle below)
 
