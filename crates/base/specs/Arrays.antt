@@ -16,7 +16,8 @@ getD-set-keeps P (y ∷ l) zero x d new old = new
 getD-set-keeps P (y ∷ l) (suc i) x d new old = getD-set-keeps P l i x d new old
 
 -- The same of any place, which is the one stored in or another.
-pub getD-set-cases : {A : Type 0} (P : A → Type 0) (l : List A) (i j : ℕ) (x d : A) → (j ≡ i → P x) → P (getD l j d) → P (getD (set l i x) j d)
+pub getD-set-cases : {A : Type 0} (P : A → Type 0) (l : List A) (i j : ℕ) (x d : A) → (j ≡ i → P x) → P (getD l j d) →
+    P (getD (set l i x) j d)
 getD-set-cases P l i j x d new old =
     elim (ℕ-discrete j i) [
       | yes e ↦ rw e (getD-set-keeps P l i x d (new e) (rw e at old))
