@@ -1,0 +1,6 @@
+-- The rule of houses, on the facts of sessions and polls.
+pub mod Types
+pub mod Core
+pub mod Invariant
+pub mod Opening
+pub mod Store
