@@ -4,3 +4,4 @@ pub mod Core
 pub mod Invariant
 pub mod Opening
 pub mod Store
+pub mod Workers
