@@ -5,3 +5,4 @@ pub mod Invariant
 pub mod Opening
 pub mod Store
 pub mod Workers
+pub mod Small
