@@ -1,12 +1,12 @@
 -- Lemmas 13 and 14 of source document 002 (02, wish 11): what is committed for the house was proposed to it, and is one number. From what
 -- the boards, the table and the pasts have in common; of workers nothing is said here. Rounds and wards count from 0, as the arrays do; the
 -- numbers of a poll are wards, from 1.
-use Rattle.base.specs.Prelude.{ℕ, suc, zero, _+_, _*_, _-_, _%_, _≤_, _<_, arith, _≡_, sym, _∙_, Bool, true, false, List, [], length, getD}
+use Rattle.base.specs.Prelude.{ℕ, suc, zero, _+_, _*_, _-_, _%_, _≤_, _<_, arith, _≡_, refl, sym, _∙_, Bool, true, false, List, [], length, getD}
 use Rattle.base.specs.Prelude.{List·getD-eq-default, _⊎_, decLe, decLt, ℕ-discrete}
 use Rattle.model_laws.specs.Types.{Session}
 use Rattle.model.specs.Window.{window}
 use Rattle.model_laws.specs.Windows.{window-square, window-least}
-use Rattle.model_rule.specs.Event.{Event, Past, Proposed, Written, Committed}
+use Rattle.model_rule.specs.Event.{Event, Past, here, Proposed, Written, Committed}
 use Rattle.theory_board.specs.Past.{past-before, happened-past}
 use Rattle.theory_board.specs.Lawful.{Lawful, none, IsCommitted, lawful-at, commit-lawful}
 use Rattle.theory_board.specs.Reached.{Reached}
@@ -123,6 +123,9 @@ pub record Grown (m m′ : Memory) : Type 0 where
   pub polls : (o : ℕ) → Past (pastAt (m .polls) o) (pastAt (m′ .polls) o)
   pub table : (o j : ℕ) → Filled (cell (m .table) o j) → cell (m′ .table) o j ≡ cell (m .table) o j
   pub past : Past (m .past) (m′ .past)
+
+pub unmoved : {m : Memory} → Grown m m
+unmoved = record { polls = λ o. here; table = λ o j f. refl; past = here }
 
 module _ {n c d : ℕ} {S P : List Session} {g : List (List Event)} {m m′ : Memory} (i : Known n c S P d g m) (more : Grown m m′) where
   pub begins-grown : (o v : ℕ) → Begins (window n) m o v → Begins (window n) m′ o v
