@@ -6,3 +6,5 @@ pub mod Opening
 pub mod Store
 pub mod Workers
 pub mod Small
+pub mod Turns
+pub mod Places

@@ -69,6 +69,20 @@ module _ {n c d : ℕ} {S P : List Session} {g : List (List Event)} {m : Memory}
         decision = i .decision;
       }
 
+  -- The house's decision register.
+  pub decision-known : (v : ℕ) → HouseCommitted (window n) m v → Known n c S P v g m
+  decision-known v k =
+      record {
+        wards = i .wards;
+        votes = i .votes;
+        rows = i .rows;
+        columns = i .columns;
+        table = i .table;
+        polled = i .polled;
+        begun = i .begun;
+        decision = inr k;
+      }
+
   -- A longer past of the house.
   pub past-known : (es : List Event) → let m′ = memory (m .polls) (m .table) (es ++ m .past) in Known n c S P d g m′ × Grown m m′
   past-known es =
