@@ -8,3 +8,5 @@ pub mod Workers
 pub mod Small
 pub mod Turns
 pub mod Places
+pub mod Sound
+pub mod Ranks
