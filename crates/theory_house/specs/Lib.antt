@@ -10,3 +10,4 @@ pub mod Turns
 pub mod Places
 pub mod Sound
 pub mod Ranks
+pub mod Theorem
