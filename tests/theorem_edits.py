@@ -289,7 +289,7 @@ def fault_of(path):
     edit = read_edit(path)
     with tempfile.TemporaryDirectory() as folder:
         copy = Path(folder) / "copy"
-        copy_crates(copy, [edit["check"], edit.get("proved")])
+        copy_crates(copy, [edit["check"], edit.get("proved"), "model_house_cases" if "wards" in edit else None])
         target = copy / edit["file"]
         text = target.read_text(encoding="utf-8")
         for old, new in edit["changes"]:
