@@ -1,6 +1,6 @@
 -- A turn on what it can read and change. On a sound session or poll a public operation is the machine's; on another it changes nothing.
 -- Assumes nothing.
-use Rattle.base.specs.Prelude.{ℕ, _≡_, refl, sym, _∙_, ap, Bool, true, false, not, not-true, cond, _&&_}
+use Rattle.base.specs.Prelude.{ℕ, _≡_, _∙_, ap, Bool, true, false, not, not-true, cond, _&&_}
 use Rattle.base.specs.Bools.{and-left, and-right, cond-cases}
 use Rattle.model.specs.declared.Session.{Session}
 use Rattle.model.specs.declared.Counts.{Counts}
@@ -11,11 +11,11 @@ use Rattle.model.specs.declared.Operation.the-variants.{Propose}
 use Rattle.model.specs.Window.{window}
 use Rattle.model.specs.Refusal.{full}
 use Rattle.model.specs.Machine.{perform, answered}
-use Rattle.model.specs.Sound.{soundForAs, soundAs, sound, soundPoll}
-use Rattle.model.specs.Public.{operateForAs, operate, operateAs, withCounts}
-use Rattle.model_laws.specs.Answers.{operate-sound, propose-counts}
+use Rattle.model.specs.Sound.{soundAs, sound, soundPoll}
+use Rattle.model.specs.Public.{operateForAs, operate, operateAs}
+use Rattle.model_laws.specs.Answers.{propose-counts}
 use Rattle.model_poll.specs.declared.PollStepped.{PollStepped}
-use Rattle.model_poll.specs.Machine.{PollOperation, proposes, turns, unanswered, turned, pollPerform}
+use Rattle.model_poll.specs.Machine.{PollOperation, proposes, turns, turned, pollPerform}
 use Rattle.model_poll.specs.Public.{pollPropose, pollTurn, pollTurnFor}
 use Rattle.model_house.specs.declared.Stance.{Stance}
 use Rattle.model_house.specs.declared.View.{View}

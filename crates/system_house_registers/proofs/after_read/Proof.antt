@@ -14,7 +14,8 @@ returns-2 : tie.Need-returns-2
 returns-2 c =
     let known = c .before .before in
     let start = known .before .before .before in
-    rw (sym (known .before .before .answer .ensures) ∙ known .u .given .1) (ap (worker (Working WriteHouse) (start .args .q .outer)) (c .value-read .ensures))
+    rw (sym (known .before .before .answer .ensures) ∙ known .u .given .1)
+    (ap (worker (Working WriteHouse) (start .args .q .outer)) (c .value-read .ensures))
 
 returns-3 : tie.Need-returns-3
 returns-3 c =

@@ -95,7 +95,8 @@ write-house : tie.Need-returns-8
 write-house c =
     let start = c .before .before .before .before in
     let a = start .args in
-    told start (c .before .enum-told8 .given .1) (register-left (a .v) (start .pre) (c .write-house .ensures (a .p) (a .w) (a .s) (a .hint)))
+    told start (c .before .enum-told8 .given .1)
+    (register-left (a .v) (start .pre) (c .write-house .ensures (a .p) (a .w) (a .s) (a .hint)))
 
 -- In the order of the code: of each arm what it is told of the place and what its callees ask, then the answers.
 pub turn-at-spec : {M : Type 1} → statement M
