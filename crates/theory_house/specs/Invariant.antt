@@ -8,8 +8,8 @@ use Rattle.model_rule.specs.Event.{Event, decision, Past, Proposed, DecidedOn}
 use Rattle.model_house.specs.House.{noSession, wardOf, workerAt, seatOf, wardSeats, allowed}
 use Rattle.model_house.specs.Machine.{phaseOf}
 use Rattle.model_house.specs.Sound.{seatsFit}
-use Rattle.theory_house.specs.Types.{Place, ProposeWard, StepWard, LearnWard, WriteTable, ProposePoll, StepPoll, ReadTable, WriteHouse}
-use Rattle.theory_house.specs.Types.{Stance, Idle, Working, Exhausted, Crashed, Decided, Worker, Table, House}
+use Rattle.theory_house.specs.Types.{Place, ProposeWard, StepWard, LearnWard, WriteTable, ProposePoll, StepPoll, ReadTable}
+use Rattle.theory_house.specs.Types.{WriteHouse, Stance, Idle, Working, Exhausted, Crashed, Decided, Worker, Table, House}
 use Rattle.theory_house.specs.Core.{cell, Filled, Memory, Begins, HouseCommitted, Known}
 
 -- n workers of c wards, as an accepted opening has them; `wards` is the array of sixteen. Two workers of one ward have different seats.

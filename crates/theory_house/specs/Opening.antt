@@ -1,22 +1,21 @@
 -- A house just opened, with nothing past, is held.
 use lib.ListN.{getD-replicate}
-use Rattle.base.specs.Prelude.{ℕ, zero, suc, _+_, _-_, _*_, _≤_, _<_, arith, _≡_, refl, ap, Bool, true, false, true≢false, List, [], _++_, length, getD, replicate}
-use Rattle.base.specs.Prelude.{length-replicate, inl, _∙_}
-use Rattle.model_laws.specs.Types.{Process, Session}
+use Rattle.base.specs.Prelude.{ℕ, zero, suc, _+_, _-_, _*_, _<_, arith, _≡_, refl, ap, Bool, true≢false, List, [], _++_, length, getD}
+use Rattle.base.specs.Prelude.{replicate, length-replicate, inl}
+use Rattle.model_laws.specs.Types.{Session}
 use Rattle.model.specs.Window.{window}
 use Rattle.model.specs.Board.{processAt, opened, idle, maxProcesses}
-use Rattle.model.specs.Refusal.{status, isOutside}
 use Rattle.model_laws.specs.Windows.{window-low}
 use Rattle.model_rule.specs.Event.{Event}
 use Rattle.theory_board.specs.Past.{past-none}
 use Rattle.theory_board.specs.Opening.{same-everywhere}
 use Rattle.theory_board.specs.Reached.{Reached, opened-session}
 use Rattle.theory_poll.specs.Machine.{opened-poll}
-use Rattle.model_house.specs.House.{noSession, noWorker, noRow, openedHouse, wardSeats, worker, wardRounds, outerRounds, maxWards}
+use Rattle.model_house.specs.House.{noSession, noWorker, noRow, openedHouse, wardSeats, worker, wardRounds}
 use Rattle.model_house.specs.Sound.{seatsFit}
-use Rattle.theory_house.specs.Types.{Idle, Worker, Row, Table}
-use Rattle.theory_house.specs.Core.{pastAt, Boards, cell, Known}
-use Rattle.theory_house.specs.Invariant.{Numbers, wardSeat, pollSeat, Out, Told, Held, memory}
+use Rattle.theory_house.specs.Types.{Idle, Worker, Row}
+use Rattle.theory_house.specs.Core.{pastAt, Boards, Known}
+use Rattle.theory_house.specs.Invariant.{Numbers, wardSeat, pollSeat, Out, Held, memory}
 
 -- Equal boards, with nothing past.
 opened-boards : {poll : Bool} {k L : ℕ} (size : ℕ) → Reached poll (window k) k L (opened k L) [] →

@@ -1,10 +1,10 @@
 -- "A ward session has n - c + 1 seats, taken by its workers in number order": they are enough, and two workers of one ward have two.
-use Rattle.base.specs.Prelude.{ℕ, suc, zero, _+_, _-_, _≤_, _<_, arith, _≡_, refl, sym, _∙_, ap, subst, Bool, true, cond, _&&_, List, [], _∷_, _++_}
-use Rattle.base.specs.Prelude.{length, length-append, length-replicate, replicate, getD, take, take-append-seam, List·getD-append}
-use Rattle.base.specs.Prelude.{eqb, eq-eqb, ne-eqb, leb, leb-true, le-leb, lt-leb, ℕ-discrete, decLe, add-one}
+use Rattle.base.specs.Prelude.{ℕ, suc, zero, _+_, _-_, _≤_, _<_, arith, _≡_, refl, sym, _∙_, subst, Bool, true, cond, _&&_, List, [], _∷_}
+use Rattle.base.specs.Prelude.{_++_, length, length-append, length-replicate, replicate, getD, take, take-append-seam, List·getD-append}
+use Rattle.base.specs.Prelude.{eqb, eq-eqb, ne-eqb, leb, leb-true, le-leb, lt-leb, ℕ-discrete, decLe}
 use Rattle.base.specs.Bools.{and-left, and-right, cond-cases}
 use Rattle.model.specs.Sound.{every}
-use Rattle.model_house.specs.House.{allBelow, members, seatOf, wardSeats, allowed}
+use Rattle.model_house.specs.House.{allBelow, members, seatOf, allowed}
 use Rattle.model_house_laws.specs.Below.{below-at, every-all, members-next}
 use Rattle.theory_house.specs.Invariant.{Numbers}
 

@@ -1,18 +1,18 @@
 -- Accepted proposals, house looks and crashes keep the invariant: they change the record of their worker, and no board.
 use lib.Seq.{set-getD}
-use Rattle.base.specs.Prelude.{ℕ, suc, zero, _-_, _≤_, _<_, arith, _≡_, refl, sym, _∙_, true, false, true≢false, List, [], _∷_, _++_, eqb-false}
-use Rattle.base.specs.Prelude.{not-false, ne-eqb, ⊎-elim}
+use Rattle.base.specs.Prelude.{ℕ, suc, zero, _<_, arith, _≡_, refl, sym, true, true≢false, List, [], _∷_, _++_, eqb-false, not-false}
+use Rattle.base.specs.Prelude.{ne-eqb, ⊎-elim}
 use Rattle.model_laws.specs.Types.{Counts}
 use Rattle.model.specs.Window.{window}
 use Rattle.model.specs.Refusal.{status, isOutside}
 use Rattle.model_laws.specs.Accepted.{NoneHolds}
-use Rattle.model_rule.specs.Event.{Event, proposal, decision, lookEvents, Past, here, there}
-use Rattle.theory_board.specs.Past.{past-cons, happened-cases, happened-older, happened-past}
+use Rattle.model_rule.specs.Event.{Event, proposal, decision, lookEvents, here}
+use Rattle.theory_board.specs.Past.{past-cons, happened-cases, happened-older}
 use Rattle.model_house.specs.House.{noWorker, workerAt, wardOf, worker, withWorker}
 use Rattle.model_house.specs.Machine.{proposes, learns, crashes, phaseOf, workerTests, houseLearnt, houseAfter}
 use Rattle.model_house.specs.Sound.{seatsFit}
 use Rattle.theory_house.specs.Types.{ProposeWard, Stance, Idle, Working, Exhausted, Crashed, Decided, House}
-use Rattle.theory_house.specs.Core.{HouseCommitted, Grown, committed-grown, house-proposed}
+use Rattle.theory_house.specs.Core.{HouseCommitted, committed-grown, house-proposed}
 use Rattle.theory_house.specs.Invariant.{wardSeat, pollSeat, Fits, memory, Held}
 use Rattle.theory_house.specs.Store.{past-known}
 use Rattle.theory_house.specs.Workers.{fits-next, next-held, quiet-held}

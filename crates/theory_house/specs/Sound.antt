@@ -1,7 +1,7 @@
 -- A house that is held is sound: no call returns 3.
-use Rattle.base.specs.Prelude.{ℕ, suc, zero, _+_, _-_, _*_, _/_, _%_, _≤_, _<_, arith, _≡_, refl, sym, _∙_, ap, Bool, true, false, cond, _&&_, _||_}
-use Rattle.base.specs.Prelude.{List, length, getD, take, leb, eqb, ltb, le-leb, lt-ltb, eq-eqb, eqb-true, not, ℕ-discrete}
-use Rattle.base.specs.Bools.{and-left, and-right, and-both}
+use Rattle.base.specs.Prelude.{ℕ, suc, zero, _-_, _*_, _≤_, _<_, arith, _≡_, refl, sym, _∙_, ap, Bool, true, false, _||_, List, length}
+use Rattle.base.specs.Prelude.{getD, leb, ltb, le-leb, lt-ltb, eq-eqb, eqb-true, ℕ-discrete}
+use Rattle.base.specs.Bools.{and-both}
 use Rattle.model_laws.specs.Types.{Process, Session}
 use Rattle.model.specs.Window.{window}
 use Rattle.model.specs.Board.{processAt, idle}
@@ -15,7 +15,7 @@ use Rattle.theory_board.specs.Past.{past-before, happened-past}
 use Rattle.theory_board.specs.Lawful.{lawful-at}
 use Rattle.theory_board.specs.Registers.{last-written}
 use Rattle.theory_board.specs.Reached.{Reached}
-use Rattle.model_house.specs.House.{allBelow, noSession, wardSeats, wardRounds, workerAt}
+use Rattle.model_house.specs.House.{allBelow, wardRounds, workerAt}
 use Rattle.model_house.specs.Machine.{phaseOf}
 use Rattle.model_house.specs.Sound.{soundWard, soundNumbers, soundVote, soundWorker, soundWards, soundHouse}
 use Rattle.model_house_laws.specs.Below.{every-all}

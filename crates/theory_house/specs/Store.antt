@@ -1,24 +1,23 @@
 -- What one operation may store so that the boards and the table stay known, and the house held: a session with a longer past, a poll with a
 -- longer past, an entry that was committed, and the record of its own worker.
-use Rattle.base.specs.Prelude.{ℕ, suc, _+_, _-_, _*_, _%_, _≤_, _<_, arith, _≡_, refl, sym, _∙_, ap, Bool, true, false, List, [], _∷_, _++_}
-use Rattle.base.specs.Prelude.{length, length-set, set, getD, getD-set-same, getD-set-other, _⊎_, inl, inr, ⊎-elim, ℕ-discrete}
+use Rattle.base.specs.Prelude.{ℕ, _+_, _-_, _*_, _%_, _≤_, _<_, arith, _≡_, refl, _∙_, ap, Bool, true, false, List, [], _++_, length}
+use Rattle.base.specs.Prelude.{length-set, set, getD, getD-set-same, getD-set-other, _⊎_, inl, inr, ⊎-elim, ℕ-discrete}
 use Rattle.base.specs.Arrays.{getD-set-cases}
-use Rattle.model_laws.specs.Types.{Process, Session}
+use Rattle.model_laws.specs.Types.{Session}
 use Rattle.model_laws.specs.Windows.{window-square, window-least}
 use Rattle.model.specs.Window.{window}
-use Rattle.model_rule.specs.Event.{Event, decision, Past, here, Proposed, DecidedOn}
+use Rattle.model_rule.specs.Event.{Event, decision, Past, here, Proposed}
 use Rattle.model_poll_laws.specs.Sounds.{poll-open}
 use Rattle.theory_board.specs.Past.{happened-past, past-append}
 use Rattle.theory_board.specs.Lawful.{IsCommitted}
 use Rattle.theory_board.specs.Reached.{Reached}
 use Rattle.theory_count.specs.Grid.{wide-below}
 use Rattle.theory_count.specs.Agreed.{agreed-commits}
-use Rattle.model_house.specs.House.{noSession, noWorker, noRow, workerAt, wardOf, wardSeats, wardRounds, withEntry}
-use Rattle.theory_house.specs.Types.{Place, ProposeWard, StepWard, LearnWard, WriteTable, ProposePoll, StepPoll, ReadTable, WriteHouse}
-use Rattle.theory_house.specs.Types.{Stance, Idle, Working, Exhausted, Crashed, Decided, Worker, Row, Table, House}
-use Rattle.theory_house.specs.Core.{pastAt, cell, Filled, Memory, Begins, HouseCommitted, Boards, Known, Grown}
-use Rattle.theory_house.specs.Core.{boards-lawful, begins-grown, committed-grown}
-use Rattle.theory_house.specs.Invariant.{wardSeat, pollSeat, KnowsAt, Knows, Fits, Told, Rests, memory, Held}
+use Rattle.model_house.specs.House.{noSession, noRow, wardSeats, wardRounds, withEntry}
+use Rattle.theory_house.specs.Types.{Row, Table}
+use Rattle.theory_house.specs.Core.{pastAt, cell, Filled, Memory, Begins, HouseCommitted, Boards, Known, Grown, boards-lawful}
+use Rattle.theory_house.specs.Core.{begins-grown, committed-grown}
+use Rattle.theory_house.specs.Invariant.{memory}
 
 -- ---- boards and table
 

@@ -1,6 +1,6 @@
 -- The rule of houses (document 02, wish 11): the calls follow the machine, every operation keeps the invariant, and the invariant has the rule.
-use Rattle.base.specs.Prelude.{ℕ, suc, zero, _≤_, arith, _≡_, refl, sym, _∙_, ap, true, false, true≢false, not-false, _&&_, List, [], _++_, length, leb}
-use Rattle.base.specs.Prelude.{leb-true}
+use Rattle.base.specs.Prelude.{ℕ, suc, zero, _≤_, arith, _≡_, refl, sym, _∙_, true, false, true≢false, not-false, _&&_, List, [], _++_}
+use Rattle.base.specs.Prelude.{length, leb, leb-true}
 use Rattle.base.specs.Bools.{and-left}
 use Rattle.model_laws.specs.Types.{Phase, Counts}
 use Rattle.model.specs.Numbers.{unsound}
@@ -11,15 +11,14 @@ use Rattle.model_rule.specs.Event.{Event}
 use Rattle.model_rule.specs.System.{inputs, ifAccepted, machine, events, past, EachAsTheMachine}
 use Rattle.model_rule.specs.Calls.{Input}
 use Rattle.theory_board.specs.Lists.{machine-kept, followed, after-each}
-use Rattle.model_house.specs.declared.HouseChanged.{HouseChanged}
 use Rattle.model_house.specs.House.{workerAt, allowed, houseOpenTests, openedHouse, houseChanged, houseOpening}
-use Rattle.model_house.specs.Machine.{HouseOperation, proposes, turns, learns, crashes, workerOf, phaseOf, workerTests, houseTests, withView}
-use Rattle.model_house.specs.Machine.{turnBy, turned, houseAfter, houseCounts, houseStepped, houseAnswered, housePerform}
+use Rattle.model_house.specs.Machine.{HouseOperation, proposes, turns, learns, crashes, phaseOf, workerTests, houseTests, turnBy, turned}
+use Rattle.model_house.specs.Machine.{houseAfter, houseCounts, houseStepped, houseAnswered, housePerform}
 use Rattle.model_house.specs.Sound.{soundHouse}
 use Rattle.model_house.specs.Public.{houseOperate, withHouseCounts, withoutHouseCounts, housePropose, houseTurn, houseLearn, houseCrash}
 use Rattle.model_house.specs.Rule.{houseEvents, houses, HouseCall, housePromised, HouseRun, HouseRule, HouseClaim}
 use Rattle.model_house_laws.specs.Accepted.{tests-known}
-use Rattle.theory_house.specs.Types.{Place, Stance, Idle, Working, Exhausted, Crashed, Decided, House, HouseStepped}
+use Rattle.theory_house.specs.Types.{Place, Stance, Idle, Working, Exhausted, Crashed, Decided, House}
 use Rattle.theory_house.specs.Core.{house-agreed}
 use Rattle.theory_house.specs.Invariant.{Held}
 use Rattle.theory_house.specs.Opening.{opened-held}
@@ -46,7 +45,7 @@ module _ {h : House} {x : List Event} (i : Held h x) where
       let a = tests-known h c (turns p hint) e in
       let own = a .1 in
       let y = working-is (workerAt h p .stance) (own .0) (own .1 .0) (own .1 .1 .0) in
-      rw (y .1) (place-turned i p (a .0) c (own .1 .1 .1 .0) hint (y .0) (y .1))
+      rw (y .1) (place-turned h x p c (own .1 .1 .1 .0) hint (y .0) (record { held = i; low = a .0; stance = y .1 }))
   after-held c (learns p) e = let a = tests-known h c (learns p) e in look-held i p (a .0) c (a .1)
   after-held c (crashes p) e = let a = tests-known h c (crashes p) e in crash-held i p (a .0) c (a .1)
 
