@@ -11,3 +11,4 @@ pub mod Places
 pub mod Sound
 pub mod Ranks
 pub mod Theorem
+pub mod Laws
