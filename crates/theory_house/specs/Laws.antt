@@ -5,16 +5,16 @@ use Rattle.model_laws.specs.Types.{Operation}
 use Rattle.model.specs.Board.{noCounts}
 use Rattle.model.specs.Step.{counted}
 use Rattle.model.specs.Refusal.{Test, refusal, tests, stepped}
-use Rattle.model.specs.Machine.{after, countsAfter, answered, perform}
+use Rattle.model.specs.Machine.{countsAfter, answered, perform}
 use Rattle.model_poll.specs.Machine as poll
-use Rattle.model_poll.specs.Machine.{PollOperation, turnTests, turnAfter, turnCounts, pollPerform}
+use Rattle.model_poll.specs.Machine.{PollOperation, turnTests, turnCounts, pollPerform}
 use Rattle.model_house.specs.House.{wardOf, workerAt, seatOf}
 use Rattle.model_house.specs.Turn.{turnAt}
 use Rattle.model_house.specs.Machine.{HouseOperation, proposes, turns, learns, crashes, viewOf, turnBy, turned, houseAfter, houseCounts}
 use Rattle.model_house.specs.Machine.{houseStepped, houseAnswered}
 use Rattle.model_house.specs.Public.{houseOperate, housePropose, houseLearn, houseCrash}
-use Rattle.theory_house.specs.Types.{Place, ProposeWard, StepWard, LearnWard, WriteTable, ProposePoll, StepPoll, ReadTable, WriteHouse}
-use Rattle.theory_house.specs.Types.{Stance, Idle, Working, Exhausted, Crashed, Decided, House, View}
+use Rattle.theory_house.specs.Types.{Place, ProposeWard, StepWard, LearnWard, WriteTable, ProposePoll, StepPoll, ReadTable}
+use Rattle.theory_house.specs.Types.{WriteHouse, Stance, Idle, Working, Exhausted, Crashed, Decided, House, View}
 
 -- ---- "each turn makes at most one register operation, table and house register included"
 

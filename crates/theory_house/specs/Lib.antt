@@ -12,3 +12,4 @@ pub mod Sound
 pub mod Ranks
 pub mod Theorem
 pub mod Laws
+pub mod Contested

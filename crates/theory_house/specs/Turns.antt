@@ -110,7 +110,7 @@ module _ {h : House} {x : List Event} {p : ℕ} {place : Place} (t : Turning h x
   pub ward-low : (1 ≤ wardOf h p) × (wardOf h p ≤ h .c) × (h .c ≤ 4)
   ward-low = let w = i .numbers .ward p (t .low) in (w .0, w .1, i .numbers .most)
 
-  index-low : indexOf h p < 32
+  pub index-low : indexOf h p < 32
   index-low = omega (arith, round-low, ward-low)
 
   pub ward-reached : Reached false (window k) k wardRounds S wardPast
