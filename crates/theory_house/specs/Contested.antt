@@ -22,8 +22,8 @@ use Rattle.model_house.specs.Rule.{houses, HouseCall, HouseRun}
 use Rattle.theory_house.specs.Types.{Place, ProposeWard, StepWard, LearnWard, WriteTable, ProposePoll, StepPoll, ReadTable}
 use Rattle.theory_house.specs.Types.{WriteHouse, House, View, HouseStepped}
 use Rattle.theory_house.specs.Invariant.{Held}
-use Rattle.theory_house.specs.Turns.{Turning, ownSession, ownPoll, ownSeat, indexOf, roundOf, ward-reached, poll-reached, round-low}
-use Rattle.theory_house.specs.Turns.{index-low}
+use Rattle.theory_house.specs.Turning.{Turning, ownSession, ownPoll, ownSeat, indexOf, roundOf, ward-reached, poll-reached, round-low}
+use Rattle.theory_house.specs.Turning.{index-low}
 use Rattle.theory_house.specs.Theorem.{turn-known, operation-held, houses-followed, opening-known, opening-held}
 
 -- ---- the marked rounds

@@ -6,6 +6,7 @@ pub mod Opening
 pub mod Store
 pub mod Workers
 pub mod Small
+pub mod Turning
 pub mod Turns
 pub mod Places
 pub mod Sound

@@ -36,8 +36,8 @@ use Rattle.theory_house.specs.Core.{Filled, unmoved}
 use Rattle.theory_house.specs.Invariant.{Held}
 use Rattle.theory_house.specs.Store.{table-known, decision-known}
 use Rattle.theory_house.specs.Workers.{fits-next, fits-over}
-use Rattle.theory_house.specs.Turns.{Turning, roundOf, ownSeat, ownSession, ownPoll, Ready, memoryOf, wardPast, fit, some, seats}
-use Rattle.theory_house.specs.Turns.{knows, round-low, ward-low, ward-reached, ward-open, poll-reached, seat-low, poll-low}
+use Rattle.theory_house.specs.Turning.{Turning, roundOf, ownSeat, ownSession, ownPoll, Ready, memoryOf, wardPast, fit, some, seats}
+use Rattle.theory_house.specs.Turning.{knows, round-low, ward-low, ward-reached, ward-open, poll-reached, seat-low, poll-low}
 use Rattle.theory_house.specs.Turns.{plain-turn, ward-own, ward-turn, poll-own, poll-turn}
 
 -- No look is a proposal.

@@ -24,7 +24,7 @@ use Rattle.theory_house.specs.Core.{house-agreed}
 use Rattle.theory_house.specs.Invariant.{Held}
 use Rattle.theory_house.specs.Opening.{opened-held}
 use Rattle.theory_house.specs.Small.{proposal-held, look-held, crash-held}
-use Rattle.theory_house.specs.Turns.{Turning, ownSeat}
+use Rattle.theory_house.specs.Turning.{Turning, ownSeat}
 use Rattle.theory_house.specs.Places.{place-turned}
 use Rattle.theory_house.specs.Sound.{house-sound}
 use Rattle.theory_house.specs.Ranks.{opened-numbers}
