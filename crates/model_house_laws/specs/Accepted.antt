@@ -1,5 +1,6 @@
 -- The answer of a call on a house, by the number of its first refusal and by what is left where it is 0. Assumes nothing.
-use Rattle.base.specs.Prelude.{ℕ, suc, zero, _%_, _<_, arith, _≡_, refl, sym, _∙_, ap, Bool, true, false, cond, not, List, _∷_, leb, leb-false}
+use Rattle.base.specs.Prelude.{ℕ, suc, zero, _%_, _<_, arith, _≡_, refl, sym, _∙_, ap, Bool, true, false, cond, not, List, _∷_, leb}
+use Rattle.base.specs.Prelude.{leb-false}
 use Rattle.model.specs.declared.Counts.{Counts}
 use Rattle.model.specs.declared.Phase.{Phase}
 use Rattle.model.specs.Numbers.{unsound, noSuchProcess}
@@ -13,7 +14,8 @@ use Rattle.model_house.specs.declared.Place.the-variants.{ProposeWard}
 use Rattle.model_house.specs.declared.Worker.{Worker}
 use Rattle.model_house.specs.House.{worker, workerAt, withWorker}
 use Rattle.model_house.specs.Turn.{oneRead, standing}
-use Rattle.model_house.specs.Machine.{HouseOperation, proposes, turns, learns, crashes, workerOf, phaseOf, workerTests, houseTests, houseLearnt, houseAfter, houseCounts, houseStepped, houseAnswered}
+use Rattle.model_house.specs.Machine.{HouseOperation, proposes, turns, learns, crashes, workerOf, phaseOf, workerTests, houseTests}
+use Rattle.model_house.specs.Machine.{houseLearnt, houseAfter, houseCounts, houseStepped, houseAnswered}
 use Rattle.model_house.specs.Sound.{soundWards, soundHouse}
 use Rattle.model_house.specs.Public.{houseOperate, withoutHouseCounts}
 use Rattle.base.specs.Bools.{and-left}
@@ -49,7 +51,8 @@ tests-known h c o e =
 
 module _ (h : House) (c : Counts) (o : HouseOperation) where
   -- The number, with the own tests made on the record that the code reads.
-  pub house-code : {b : Bool} {own k : ℕ} → b ≡ soundHouse h → own ≡ refusal (workerTests (phaseOf (workerAt h (workerOf o % 16) .stance)) c o) →
+  pub house-code : {b : Bool} {own k : ℕ} → b ≡ soundHouse h →
+      own ≡ refusal (workerTests (phaseOf (workerAt h (workerOf o % 16) .stance)) c o) →
       k ≡ cond (not b) unsound (cond (leb (h .n) (workerOf o)) noSuchProcess own) → k ≡ houseCode h c o
   house-code eb eo ek = ek ∙ rw (eb, eo) (go (soundHouse h) (leb (h .n) (workerOf o)) refl refl)
     where
@@ -95,7 +98,8 @@ module _ (h : House) (o : HouseOperation) {k : ℕ} (code : k ≡ houseCode h no
   pub uncounted-refused : (k ≡ 0 → ⊥) → record { code = k; house = h } ≡ withoutHouseCounts (houseOperate h noCounts o)
   uncounted-refused some = ap withoutHouseCounts (house-refused h noCounts o code some)
 
-  pub uncounted-left : k ≡ 0 → {u : House} → u ≡ houseAfter h noCounts o → record { code = k; house = u } ≡ withoutHouseCounts (houseOperate h noCounts o)
+  pub uncounted-left : k ≡ 0 → {u : House} → u ≡ houseAfter h noCounts o →
+      record { code = k; house = u } ≡ withoutHouseCounts (houseOperate h noCounts o)
   uncounted-left none eu = ap withoutHouseCounts (house-left h noCounts o code none eu refl)
 
 -- ---- what an operation that changes no board leaves, at the index i that the code uses
@@ -109,10 +113,12 @@ module _ (h : House) (p : ℕ) {i : ℕ} (ei : i ≡ p) where
   unfolding houseAfter
   crashed-is c = rw ei
 
-  pub houseLearnt-is : (c : Counts) {q : Worker} → q ≡ houseLearnt (workerAt h i) (h .decision) → withWorker h i q ≡ houseAfter h c (learns p)
+  pub houseLearnt-is : (c : Counts) {q : Worker} → q ≡ houseLearnt (workerAt h i) (h .decision) →
+      withWorker h i q ≡ houseAfter h c (learns p)
   unfolding houseAfter
   houseLearnt-is c eq = rw (eq, ei)
 
-pub houseLearnt-counts : (h : House) (c : Counts) (p : ℕ) {d : Counts} → HouseAccepted h c (learns p) → d ≡ cond (full c) c (oneRead c) → d ≡ houseCounts h c (learns p)
+pub houseLearnt-counts : (h : House) (c : Counts) (p : ℕ) {d : Counts} → HouseAccepted h c (learns p) → d ≡ cond (full c) c (oneRead c) →
+    d ≡ houseCounts h c (learns p)
 unfolding houseCounts
 houseLearnt-counts h c p a ed = ed ∙ rw (a .own .1 .1 .0)

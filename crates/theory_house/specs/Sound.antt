@@ -19,7 +19,7 @@ use Rattle.model_house.specs.House.{allBelow, wardRounds, workerAt}
 use Rattle.model_house.specs.Machine.{phaseOf}
 use Rattle.model_house.specs.Sound.{soundWard, soundNumbers, soundVote, soundWorker, soundWards, soundHouse}
 use Rattle.model_house_laws.specs.Below.{every-all}
-use Rattle.model_house_laws.specs.Sounds.{sessionsSound, pollsSound, all-sound}
+use Rattle.model_house_laws.specs.Sounds.{sessionsSound, pollsSound, workers-left}
 use Rattle.theory_house.specs.Types.{House}
 use Rattle.theory_house.specs.Invariant.{Held}
 
@@ -93,10 +93,12 @@ module _ {h : House} {x : List Event} (i : Held h x) where
   house-sound =
       let nums = i .numbers in
       sym
-      (all-sound h
+      (workers-left h
       (and-both (and-both (le-leb 1 (h .n) (nums .some)) (le-leb (h .n) 16 (nums .few))) (nums .allow))
       (sym
       (below-all (sessionsSound h) (8 * h .c)
       (λ j l. let b = i .known .wards .each j (omega (arith, l, nums .most)) in ward-sound (b .0) (b .1))))
+      refl
       (sym (below-all (pollsSound h) 8 (λ j l. vote-sound (i .known .votes .each j l .0) (λ u t. i .known .polled j u t .0))))
+      refl
       (sym (below-all (soundWorker h) (h .n) worker-sound)))
