@@ -1,7 +1,7 @@
 -- A house just opened, with nothing past, is held.
 use lib.ListN.{getD-replicate}
-use Rattle.base.specs.Prelude.{ℕ, zero, suc, _+_, _-_, _*_, _<_, arith, _≡_, refl, ap, Bool, true≢false, List, [], _++_, length, getD}
-use Rattle.base.specs.Prelude.{replicate, length-replicate, inl}
+use Rattle.base.specs.Prelude.{ℕ, zero, suc, _+_, _-_, _*_, arith, _≡_, refl, ap, Bool, true≢false, List, [], _++_, length, getD, replicate}
+use Rattle.base.specs.Prelude.{length-replicate, inl}
 use Rattle.model_laws.specs.Types.{Session}
 use Rattle.model.specs.Window.{window}
 use Rattle.model.specs.Board.{processAt, opened, idle, maxProcesses}
@@ -14,8 +14,8 @@ use Rattle.theory_poll.specs.Machine.{opened-poll}
 use Rattle.model_house.specs.House.{noSession, noWorker, noRow, openedHouse, wardSeats, worker, wardRounds, seatOf}
 use Rattle.model_house.specs.Sound.{seatsFit}
 use Rattle.theory_house.specs.Types.{Idle, Worker, Row}
-use Rattle.theory_house.specs.Core.{pastAt, Boards, Known}
-use Rattle.theory_house.specs.Invariant.{Numbers, wardSeat, pollSeat, Out, Held, memory}
+use Rattle.theory_house.specs.Core.{pastAt, Boards}
+use Rattle.theory_house.specs.Invariant.{Numbers, wardSeat, pollSeat, Out, Held}
 
 -- Equal boards, with nothing past.
 opened-boards : {poll : Bool} {k L : ℕ} (size : ℕ) → Reached poll (window k) k L (opened k L) [] →
@@ -68,7 +68,8 @@ opened-held c ws k =
           };
       worker =
           λ p low.
-          let out : (o : ℕ) → Out (wardSeat wards (replicate 32 (opened seats wardRounds)) p o) × Out (pollSeat (replicate 8 (opened n (window n))) p o) =
+          let out : (o : ℕ) → Out (wardSeat wards (replicate 32 (opened seats wardRounds)) p o)
+          × Out (pollSeat (replicate 8 (opened n (window n))) p o) =
           λ o. (opened-out 32 (8 * (getD wards p 0 - 1) + o) seats wardRounds (seatOf wards p), opened-out 8 o n (window n) p) in
           rw (getD-replicate 16 p (worker Idle 1 0) noWorker (omega (arith, k .few)))
           (record {

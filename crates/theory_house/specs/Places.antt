@@ -144,7 +144,8 @@ module _ (h : House) (x : List Event) (p : ℕ) (c : Counts) (room : full c ≡ 
       let ok = working-turn W P c p (poll-low t) active room in
       let y : Process = processAt (inPoll (viewOf h c p) (turns p) .poll) p in
       let works : (status (y .phase) ≡ Active) ⊎ (isAnswered (answerOf y) ≡ true) =
-      rw (poll-own t c (turns p) refl ok, b .rounds) (poll-next-works W a _ (rw (b .rounds) at (sound-process true W P p (b .sound))) active) in
+      rw (poll-own t c (turns p) refl ok, b .rounds)
+      (poll-next-works W a _ (rw (b .rounds) at (sound-process true W P p (b .sound))) active) in
       poll-turn t c (turns p) refl ok (afterPoll y)
       (λ v k. inl (step-older (proposal v) p (a .round) (a .estimate) (a .phase) (λ z. z) k))
       (λ m.

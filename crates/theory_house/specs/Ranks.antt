@@ -47,7 +47,8 @@ upTo c (x ∷ xs) = cond (leb x c) 1 0 + upTo c xs
 
 up-to-most : (c : ℕ) (l : List ℕ) → upTo c l ≤ length l
 up-to-most c [] = omega arith
-up-to-most c (x ∷ xs) = cond-cases (λ y. y + upTo c xs ≤ suc (length xs)) (leb x c) (λ t. omega (arith, up-to-most c xs)) (λ t. omega (arith, up-to-most c xs))
+up-to-most c (x ∷ xs) =
+    let rest = up-to-most c xs in cond-cases (λ y. y + upTo c xs ≤ suc (length xs)) (leb x c) (λ t. omega arith) (λ t. omega arith)
 
 up-to-next : (c : ℕ) (l : List ℕ) → upTo (suc c) l ≡ upTo c l + members (suc c) l
 up-to-next c [] = refl
@@ -80,7 +81,8 @@ members-few l (suc c) w each =
 
 -- ---- the numbers of an accepted opening
 
-pub opened-numbers : (c : ℕ) (ws : List ℕ) → 1 ≤ length ws → allowed c ws ≡ true → Numbers (length ws) c (ws ++ replicate (16 - length ws) 0)
+pub opened-numbers : (c : ℕ) (ws : List ℕ) → 1 ≤ length ws → allowed c ws ≡ true →
+    Numbers (length ws) c (ws ++ replicate (16 - length ws) 0)
 unfolding allowed seatOf
 opened-numbers c ws some t =
     let n = length ws in

@@ -12,7 +12,7 @@ use Rattle.model_house.specs.House.{noWorker, workerAt, wardOf, worker, withWor
 use Rattle.model_house.specs.Machine.{proposes, learns, crashes, phaseOf, workerTests, houseLearnt, houseAfter}
 use Rattle.model_house.specs.Sound.{seatsFit}
 use Rattle.theory_house.specs.Types.{ProposeWard, Stance, Idle, Working, Exhausted, Crashed, Decided, House}
-use Rattle.theory_house.specs.Core.{HouseCommitted, committed-grown, house-proposed}
+use Rattle.theory_house.specs.Core.{HouseCommitted, unmoved, committed-grown, house-proposed}
 use Rattle.theory_house.specs.Invariant.{wardSeat, pollSeat, Fits, memory, Held}
 use Rattle.theory_house.specs.Store.{past-known}
 use Rattle.theory_house.specs.Workers.{fits-next, next-held, quiet-held}
@@ -53,8 +53,7 @@ module _ {h : House} {x : List Event} (i : Held h x) (p : ℕ) (low : p < h .n) 
   pub crash-held : NoneHolds (workerTests (phaseOf (workerAt h p .stance)) c (crashes p)) → Held (houseAfter h c (crashes p)) x
   unfolding houseAfter seatsFit
   crash-held own =
-      let known = past-known (i .known) [] in
-      quiet-held i p low [] _ (known .0) (known .1) (λ j l other o l₁. (refl, refl))
+      quiet-held i p low [] _ (i .known) unmoved (λ j l other o l₁. (refl, refl))
       (fits-next fit (fit .some (own .0)) Crashed (λ o from l. (refl, refl)) refl tt)
       (λ e. true≢false (rw e at (own .1 .0)))
       (λ e. let z : _≡_ {A = ℕ} 0 1 = cc in absurd (omega arith))

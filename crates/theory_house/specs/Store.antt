@@ -41,7 +41,8 @@ longer : (g : List (List Event)) (i j : ℕ) (es : List Event) → Past (pastAt 
 longer g i j es = getD-set-cases (λ l. Past (pastAt g j) l) g i j _ [] (λ e. rw e (past-append es)) here
 
 -- Another entry: what holds of it, and of the one before, holds of each.
-cell-cases : (P : ℕ → Type 0) (t : Table) (o w v r j : ℕ) → (r ≡ o - 1 → j ≡ w - 1 → P v) → P (cell t r j) → P (cell (withEntry t o w v) r j)
+cell-cases : (P : ℕ → Type 0) (t : Table) (o w v r j : ℕ) → (r ≡ o - 1 → j ≡ w - 1 → P v) → P (cell t r j) →
+    P (cell (withEntry t o w v) r j)
 cell-cases P t o w v r j new old =
     getD-set-cases (λ (y : Row). P (getD (y .entries) j 0)) (t .rows) (o - 1) r _ noRow
     (λ eo. getD-set-cases P (getD (t .rows) (o - 1) noRow .entries) (w - 1) j v 0 (new eo) (rw eo at old))
@@ -103,7 +104,8 @@ module _ {n c d : ℕ} {S P : List Session} {g : List (List Event)} {m : Memory}
   -- The poll of round r, where what was proposed to it is a ward with an entry.
   pub poll-known : (r : ℕ) → r < 8 → {s : Session} (es : List Event) →
       Reached true (window n) n (window n) s (es ++ pastAt (m .polls) r) →
-      ((u : ℕ) → Proposed u (es ++ pastAt (m .polls) r) → Proposed u (pastAt (m .polls) r) ⊎ ((u ≤ c) × Filled (cell (m .table) r (u - 1)))) →
+      ((u : ℕ) → Proposed u (es ++ pastAt (m .polls) r) →
+      Proposed u (pastAt (m .polls) r) ⊎ ((u ≤ c) × Filled (cell (m .table) r (u - 1)))) →
       let m′ = memory (set (m .polls) r (es ++ pastAt (m .polls) r)) (m .table) (m .past) in Known n c S (set P r s) d g m′ × Grown m m′
   poll-known r low {s} es reached proposed =
       let m′ = memory (set (m .polls) r (es ++ pastAt (m .polls) r)) (m .table) (m .past) in

@@ -1,4 +1,4 @@
--- The rule of houses (document 02, wish 11): the calls follow the machine, every operation keeps the invariant, and the invariant has the rule.
+-- The rule of houses (document 02, wish 11): every operation keeps the invariant, which tells the rule; and the calls follow the machine.
 use Rattle.base.specs.Prelude.{ℕ, suc, zero, _≤_, arith, _≡_, refl, sym, _∙_, ap, Bool, true, false, true≢false, not-false, _&&_, List, []}
 use Rattle.base.specs.Prelude.{_++_, length, leb, leb-true}
 use Rattle.base.specs.Bools.{and-left}
@@ -31,7 +31,7 @@ use Rattle.theory_house.specs.Ranks.{opened-numbers}
 
 -- ---- every operation keeps the invariant
 
-working-is : (x : Stance) → isOutside (status (phaseOf x)) ≡ false → isGone (status (phaseOf x)) ≡ false → isSpent (status (phaseOf x)) ≡ false →
+working-is : (x : Stance) → let σ = status (phaseOf x) in isOutside σ ≡ false → isGone σ ≡ false → isSpent σ ≡ false →
     (y : Place) × (x ≡ Working y)
 working-is Idle o g s = absurd (true≢false o)
 working-is (Working y) o g s = (y, refl)
@@ -89,7 +89,8 @@ module _ {h : House} {x : List Event} (i : Held h x) where
 
 -- ---- every call is answered as the machine answers
 
-stepped-any : (k : ℕ) (h t : House) (d c : Counts) → withHouseCounts (withoutHouseCounts (houseStepped k h t d d)) c ≡ houseStepped k h t c c
+stepped-any : (k : ℕ) (h t : House) (d c : Counts) →
+    withHouseCounts (withoutHouseCounts (houseStepped k h t d d)) c ≡ houseStepped k h t c c
 stepped-any zero h t d c = refl
 stepped-any (suc k) h t d c = refl
 

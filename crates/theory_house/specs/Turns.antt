@@ -36,7 +36,8 @@ use Rattle.theory_house.specs.Turning.{seat-low, poll-low}
 seat-stays : (l : List Session) (i z : ℕ) (N : Session) → ((y : ℕ) → (y ≡ z → ⊥) → processAt N y ≡ processAt (getD l i noSession) y) →
     (j y : ℕ) → (j ≡ i → y ≡ z → ⊥) → processAt (getD (set l i N) j noSession) y ≡ processAt (getD l j noSession) y
 seat-stays l i z N others j y other =
-    getD-set-cases (λ (s : Session). processAt s y ≡ processAt (getD l j noSession) y) l i j N noSession (λ e. rw e (others y (other e))) refl
+    getD-set-cases (λ (s : Session). processAt s y ≡ processAt (getD l j noSession) y) l i j N noSession
+    (λ e. rw e (others y (other e))) refl
 
 module _ {h : House} {x : List Event} {p : ℕ} {place : Place} (t : Turning h x p place) where
   abbrev s : ℕ
@@ -131,7 +132,8 @@ module _ {h : House} {x : List Event} {p : ℕ} {place : Place} (t : Turning h x
     poll-stays = seat-stays (h .polls) _ p B (λ y ne. rw poll-is (others-stay (window (h .n)) P o y (λ z. ne (z ∙ own))))
 
     pub poll-turn : (y : Stance) → let es = pollEventsOf P o in
-        ((u : ℕ) → Proposed u (es ++ pollPast t) → Proposed u (pollPast t) ⊎ ((u ≤ h .c) × Filled (cell (h .table) (roundOf h p) (u - 1)))) →
+        ((u : ℕ) → Proposed u (es ++ pollPast t) →
+        Proposed u (pollPast t) ⊎ ((u ≤ h .c) × Filled (cell (h .table) (roundOf h p) (u - 1)))) →
         ((m : Memory) → Ready h p m (processAt S s) (processAt B p) y) → Held (withView h p (stands (inPoll (viewOf h c p) o) y)) x
     unfolding withView viewOf
     poll-turn y proposed ready =
