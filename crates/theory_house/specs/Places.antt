@@ -1,6 +1,6 @@
 -- An accepted turn, at each of its eight places, keeps the invariant.
-use Rattle.base.specs.Prelude.{ℕ, suc, zero, arith, _≡_, refl, sym, _∙_, Bool, true, false, true≢false, List, _++_, eqb, ne-eqb, ltb, _⊎_}
-use Rattle.base.specs.Prelude.{inl, inr, ⊎-elim}
+use Rattle.base.specs.Prelude.{ℕ, suc, zero, arith, _≡_, refl, sym, _∙_, Bool, true, false, true≢false, List, [], _++_, eqb, ne-eqb, ltb}
+use Rattle.base.specs.Prelude.{_⊎_, inl, inr, ⊎-elim}
 use Rattle.base.specs.Bools.{cond-cases}
 use Rattle.model_laws.specs.Types.{Process, Session, Counts, Operation, Propose, Step, Learn}
 use Rattle.model.specs.declared.Status.the-variants.{Active, Spent}
@@ -34,7 +34,7 @@ use Rattle.theory_house.specs.Types.{Place, ProposeWard, StepWard, Learn
 use Rattle.theory_house.specs.Types.{WriteHouse, Working, Worker, House}
 use Rattle.theory_house.specs.Core.{Filled, unmoved}
 use Rattle.theory_house.specs.Invariant.{Held}
-use Rattle.theory_house.specs.Store.{table-known, decision-known}
+use Rattle.theory_house.specs.Store.{table-known, house-known}
 use Rattle.theory_house.specs.Workers.{fits-next, fits-over}
 use Rattle.theory_house.specs.Turning.{Turning, roundOf, ownSeat, ownSession, ownPoll, Ready, memoryOf, wardPast, fit, some, seats}
 use Rattle.theory_house.specs.Turning.{knows, round-low, ward-low, ward-reached, ward-open, poll-reached, seat-low, poll-low}
@@ -178,7 +178,7 @@ module _ (h : House) (x : List Event) (p : ℕ) (c : Counts) (room : full c ≡ 
   write-house : Turned WriteHouse
   unfolding turnAt viewOf seatsFit
   write-house t =
-      plain-turn t _ _ (decision-known (t .held .known) (q .value) (knows t .1)) unmoved (fits-over (fit t) (some t) (knows t .0))
+      plain-turn t _ _ (house-known (t .held .known) [] (q .value) (inr (knows t .1)) .0) unmoved (fits-over (fit t) (some t) (knows t .0))
       (over-here (q .outer) (q .value))
 
   -- At any place.

@@ -14,7 +14,7 @@ use Rattle.model_house.specs.Sound.{seatsFit}
 use Rattle.theory_house.specs.Types.{ProposeWard, Stance, Idle, Working, Exhausted, Crashed, Decided, House}
 use Rattle.theory_house.specs.Core.{HouseCommitted, unmoved, committed-grown, house-proposed}
 use Rattle.theory_house.specs.Invariant.{wardSeat, pollSeat, Fits, memory, Held}
-use Rattle.theory_house.specs.Store.{past-known}
+use Rattle.theory_house.specs.Store.{house-known}
 use Rattle.theory_house.specs.Workers.{fits-next, next-held, quiet-held}
 
 idle-is : (x : Stance) → isOutside (status (phaseOf x)) ≡ true → x ≡ Idle
@@ -35,7 +35,7 @@ module _ {h : House} {x : List Event} (i : Held h x) (p : ℕ) (low : p < h .n) 
   proposal-held v own =
       let out = idle-is (workerAt h p .stance) (not-false _ (own .1 .0)) in
       let k = rw out at (fit .knows) in
-      let known = past-known (i .known) (proposal v ∷ []) in
+      let known = house-known (i .known) (proposal v ∷ []) (h .decision) (i .known .decision) in
       quiet-held i p low (proposal v ∷ []) (worker (Working ProposeWard) 1 v) (known .0) (known .1) (λ j l other o l₁. (refl, refl))
       (record {
         start = omega arith;
@@ -64,7 +64,7 @@ module _ {h : House} {x : List Event} (i : Held h x) (p : ℕ) (low : p < h .n) 
       Held (withWorker h p (worker Decided (workerAt h p .outer) v)) (decision p v ∷ x)
   unfolding seatsFit
   found-held v committed some was =
-      let known = past-known (i .known) (decision p v ∷ []) in
+      let known = house-known (i .known) (decision p v ∷ []) (h .decision) (i .known .decision) in
       next-held i p low (decision p v ∷ []) _ (known .0) (known .1) (λ j l other o l₁. (refl, refl))
       (fits-next fit some Decided (λ o from l. (refl, refl)) refl tt)
       (record {

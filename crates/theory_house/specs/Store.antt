@@ -69,23 +69,10 @@ module _ {n c d : ℕ} {S P : List Session} {g : List (List Event)} {m : Memory}
         decision = i .decision;
       }
 
-  -- The house's decision register.
-  pub decision-known : (v : ℕ) → HouseCommitted (window n) m v → Known n c S P v g m
-  decision-known v k =
-      record {
-        wards = i .wards;
-        votes = i .votes;
-        rows = i .rows;
-        columns = i .columns;
-        table = i .table;
-        polled = i .polled;
-        begun = i .begun;
-        decision = inr k;
-      }
-
-  -- A longer past of the house.
-  pub past-known : (es : List Event) → let m′ = memory (m .polls) (m .table) (es ++ m .past) in Known n c S P d g m′ × Grown m m′
-  past-known es =
+  -- A longer past of the house, and what was committed for it in its decision register.
+  pub house-known : (es : List Event) (v : ℕ) → (v ≡ 0) ⊎ HouseCommitted (window n) m v →
+      let m′ = memory (m .polls) (m .table) (es ++ m .past) in Known n c S P v g m′ × Grown m m′
+  house-known es v k =
       let more : Grown m (memory (m .polls) (m .table) (es ++ m .past)) =
       record { polls = λ o. here; table = λ o j f. refl; past = past-append es } in (
         record {
@@ -96,7 +83,7 @@ module _ {n c d : ℕ} {S P : List Session} {g : List (List Event)} {m : Memory}
           table = i .table;
           polled = i .polled;
           begun = λ k v t. begins-grown i more (k % 8) v (i .begun k v t);
-          decision = ⊎-elim inl (λ k. inr (committed-grown i more k)) (i .decision);
+          decision = ⊎-elim inl (λ k. inr (committed-grown i more k)) k;
         },
         more,
       )

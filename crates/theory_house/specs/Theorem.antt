@@ -2,23 +2,23 @@
 use Rattle.base.specs.Prelude.{ℕ, suc, zero, _≤_, arith, _≡_, refl, sym, _∙_, ap, Bool, true, false, true≢false, not-false, _&&_, List, []}
 use Rattle.base.specs.Prelude.{_++_, length, leb, leb-true}
 use Rattle.base.specs.Bools.{and-left}
-use Rattle.model_laws.specs.Types.{Phase, Counts}
+use Rattle.model_laws.specs.Types.{Counts}
 use Rattle.model.specs.Numbers.{unsound}
 use Rattle.model.specs.Board.{noCounts}
 use Rattle.model.specs.Refusal.{refusal, status, isOutside, isGone, isSpent, full}
-use Rattle.model_laws.specs.Accepted.{Without, none-holds, returned}
+use Rattle.model_laws.specs.Accepted.{none-holds}
 use Rattle.model_rule.specs.Event.{Event}
 use Rattle.model_rule.specs.System.{inputs, ifAccepted, machine, events, past, EachAsTheMachine}
 use Rattle.model_rule.specs.Calls.{Input}
 use Rattle.theory_board.specs.Lists.{machine-kept, followed, after-each}
 use Rattle.model_house.specs.House.{wardOf, workerAt, allowed, houseOpenTests, openedHouse, houseChanged, houseOpening}
-use Rattle.model_house.specs.Machine.{viewOf, HouseOperation, proposes, turns, learns, crashes, phaseOf, workerTests, houseTests, turnBy}
-use Rattle.model_house.specs.Machine.{turned, houseAfter, houseCounts, houseStepped, houseAnswered, housePerform}
+use Rattle.model_house.specs.Machine.{viewOf, HouseOperation, proposes, turns, learns, crashes, phaseOf, houseTests, turnBy, turned}
+use Rattle.model_house.specs.Machine.{houseAfter, houseCounts, houseStepped, houseAnswered, housePerform}
 use Rattle.model_house.specs.Turn.{turnAt}
 use Rattle.model_house.specs.Sound.{soundHouse}
 use Rattle.model_house.specs.Public.{houseOperate, withHouseCounts, withoutHouseCounts, housePropose, houseTurn, houseLearn, houseCrash}
 use Rattle.model_house.specs.Rule.{houseEvents, houses, HouseCall, housePromised, HouseRun, HouseRule, HouseClaim}
-use Rattle.model_house_laws.specs.Accepted.{tests-known}
+use Rattle.model_house_laws.specs.Accepted.{tests-known, house-never-three}
 use Rattle.theory_house.specs.Types.{Place, Stance, Idle, Working, Exhausted, Crashed, Decided, House}
 use Rattle.theory_house.specs.Core.{house-agreed}
 use Rattle.theory_house.specs.Invariant.{Held}
@@ -107,16 +107,9 @@ promised-is h ok c (learns p) = rw ok refl
 promised-is h ok c (crashes p) =
     rw ok (stepped-any (refusal (houseTests h c (crashes p))) h (houseAfter h c (crashes p)) noCounts c)
 
-own-three : (φ : Phase) (c : Counts) (o : HouseOperation) → Without unsound (workerTests φ c o)
-own-three φ c (proposes p v) = omega arith
-own-three φ c (turns p hint) = omega arith
-own-three φ c (learns p) = omega arith
-own-three φ c (crashes p) = omega arith
-
-never-three : (h : House) (c : Counts) (o : HouseOperation) → housePerform h c o .code ≡ unsound → ⊥
+never-unsound : (h : House) (c : Counts) (o : HouseOperation) → housePerform h c o .code ≡ unsound → ⊥
 unfolding housePerform houseAnswered
-never-three h c o e =
-    omega (arith, returned unsound (houseTests h c o) (omega arith, own-three _ c o) (sym (stepped-code _ h _ c _) ∙ e) .0)
+never-unsound h c o e = house-never-three h c o (sym (stepped-code _ h _ c _) ∙ e)
 
 -- ---- from an accepted opening
 
@@ -139,7 +132,7 @@ module _ {start : House} (fresh : Held start []) where
       EachAsTheMachine houses start cs × (h ≡ machine houses start (inputs cs))
   houses-followed =
       followed houses Held (λ h x f i. operation-held i f)
-      (λ h x f i. (promised-is h (house-sound i) (f .counts) (f .operation), never-three h (f .counts) (f .operation))) fresh
+      (λ h x f i. (promised-is h (house-sound i) (f .counts) (f .operation), never-unsound h (f .counts) (f .operation))) fresh
 
   calls-rule : (cs : List HouseCall) (h : House) → HouseRun start cs h → HouseRule h (past houses start (inputs cs))
   calls-rule cs h run =
