@@ -235,7 +235,7 @@ fn style(random: &mut Random) -> (Style, usize) {
     match random.below(60) {
         0 => (Style::HeldWard(65), 2_400),
         1..=3 => (Style::HeldWard(random.between(2, 12) as u32), 700),
-        4..=10 => (Style::HeldPolls(random.between(1, 9)), 1_000),
+        4..=10 => (Style::HeldPolls(random.between(1, 9)), 1_500),
         11..=14 => (Style::Bursts(2_000), 450),
         15..=19 => (Style::Ambush(random.between(1, 2) as u32), 400),
         20..=25 => (Style::Sleepers, random.between(20, 500)),
@@ -297,12 +297,8 @@ impl<'r> Composer<'r> {
     fn call(&mut self, kind: u8, a: usize, v: u32) {
         if self.calls.len() < MOST_CALLS {
             let entry = raw(kind, a, v);
-            let call = HouseCall::decode(entry);
             // The answer shows in the house.
-            let _ = match self.damaged {
-                true => call.carry_out(&mut self.house, &mut self.counts),
-                false => call.carry_out_trusted(&mut self.house, &mut self.counts),
-            };
+            let _ = HouseCall::decode(entry).carry_out(&mut self.house, &mut self.counts);
             self.calls.push(entry);
         }
     }
@@ -361,11 +357,13 @@ impl<'r> Composer<'r> {
         }
     }
 
-    /// A turn, or instead of it a house look or a crash.
+    /// A turn, or instead of it a house look or a crash: sooner at the places where a worker
+    /// stands for one turn alone.
     fn act(&mut self, worker: usize) {
-        if self.random.once_in(self.crash) {
+        let sooner = if self.stays(worker) { 1 } else { 4 };
+        if self.random.once_in(self.crash.div_ceil(sooner)) {
             self.call(CRASH, worker, 0);
-        } else if self.random.once_in(self.look) {
+        } else if self.random.once_in(self.look.div_ceil(sooner)) {
             self.call(LOOK, worker, 0);
         } else {
             let hint = match self.random.once_in(self.no) {
@@ -374,6 +372,15 @@ impl<'r> Composer<'r> {
             };
             self.call(TURN, worker, hint);
         }
+    }
+
+    /// Whether it stands at one of the places that have many turns.
+    fn stays(&self, worker: usize) -> bool {
+        use Place::{LearnWard, StepPoll, StepWard};
+        matches!(
+            place(&self.house, worker),
+            Some(StepWard | LearnWard | StepPoll)
+        )
     }
 
     fn next_worker(&mut self, working: &[usize]) -> usize {
@@ -553,10 +560,12 @@ impl Composer<'_> {
         };
         let left = self.random.pick(&[0, 0, 0, 1, 2]);
         self.call(kind, 0, u32::MAX - left);
-        if let [worker, ..] = self.working()[..] {
-            let worker = match self.random.once_in(3) {
-                true => worker,
-                false => self.random.pick(&self.working()),
+        let working = self.working();
+        if !working.is_empty() {
+            let rare = working.iter().find(|p| !self.stays(**p));
+            let worker = match rare {
+                Some(worker) => *worker,
+                None => self.random.pick(&working),
             };
             for _ in 0..=left {
                 self.call(TURN, worker, 1);

@@ -146,37 +146,6 @@ impl House {
     /// A worker takes up a value. (Order: 3, 4, 5, 6.)
     pub fn propose(&mut self, worker: usize, value: u32) -> Result<(), Refusal> {
         self.check_sound()?;
-        self.propose_trusted(worker, value)
-    }
-
-    /// One turn of a worker. (Order: 3, 4, 7, 8, 9, 16.)
-    pub fn turn(
-        &mut self,
-        worker: usize,
-        leader: bool,
-        counts: &mut Counts,
-    ) -> Result<(), Refusal> {
-        self.check_sound()?;
-        self.turn_trusted(worker, leader, counts)
-    }
-
-    /// "A house look at the house register, taken instead of a turn by a working or spent
-    /// worker, ends it as decided if filled." (Order: 3, 4, 7, 8, 16.)
-    pub fn learn(&mut self, worker: usize, counts: &mut Counts) -> Result<(), Refusal> {
-        self.check_sound()?;
-        self.learn_trusted(worker, counts)
-    }
-
-    /// A worker stops for good. "A crash or house look changes no ward or poll seat."
-    /// (Order: 3, 4, 7, 8.)
-    pub fn crash(&mut self, worker: usize) -> Result<(), Refusal> {
-        self.check_sound()?;
-        self.crash_trusted(worker)
-    }
-
-    /// A proposal to a house known to be sound: one that was opened and has only been
-    /// called since. So with the other three.
-    pub fn propose_trusted(&mut self, worker: usize, value: u32) -> Result<(), Refusal> {
         let worker = present(&mut self.workers[..self.n], worker)?;
         if value == 0 {
             return Err(Refusal::BlankProposal);
@@ -192,13 +161,15 @@ impl House {
         Ok(())
     }
 
-    /// As `turn`. Also where a turn makes no register operation, 16 is tested.
-    pub fn turn_trusted(
+    /// One turn of a worker. Also where it makes no register operation, 16 is tested. (Order:
+    /// 3, 4, 7, 8, 9, 16.)
+    pub fn turn(
         &mut self,
         worker: usize,
         leader: bool,
         counts: &mut Counts,
     ) -> Result<(), Refusal> {
+        self.check_sound()?;
         let Stance::Working(place) = self.alive(worker)?.stance else {
             return Err(Refusal::ProcessSpent);
         };
@@ -217,8 +188,10 @@ impl House {
         Ok(())
     }
 
-    /// As `learn`.
-    pub fn learn_trusted(&mut self, worker: usize, counts: &mut Counts) -> Result<(), Refusal> {
+    /// "A house look at the house register, taken instead of a turn by a working or spent
+    /// worker, ends it as decided if filled." (Order: 3, 4, 7, 8, 16.)
+    pub fn learn(&mut self, worker: usize, counts: &mut Counts) -> Result<(), Refusal> {
+        self.check_sound()?;
         let decision = self.decision;
         let worker = self.alive(worker)?;
         room(counts)?;
@@ -230,8 +203,10 @@ impl House {
         Ok(())
     }
 
-    /// As `crash`.
-    pub fn crash_trusted(&mut self, worker: usize) -> Result<(), Refusal> {
+    /// A worker stops for good. "A crash or house look changes no ward or poll seat."
+    /// (Order: 3, 4, 7, 8.)
+    pub fn crash(&mut self, worker: usize) -> Result<(), Refusal> {
+        self.check_sound()?;
         self.alive(worker)?.stance = Stance::Crashed;
         Ok(())
     }

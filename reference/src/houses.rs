@@ -120,17 +120,6 @@ impl HouseCall {
             }
         }
     }
-
-    /// The same of a house known to be sound, without the test of that.
-    pub fn carry_out_trusted(self, house: &mut House, counts: &mut Counts) -> Result<(), Refusal> {
-        match self {
-            HouseCall::Propose { worker, value } => house.propose_trusted(worker, value),
-            HouseCall::Turn { worker, leader } => house.turn_trusted(worker, leader, counts),
-            HouseCall::Crash { worker } => house.crash_trusted(worker),
-            HouseCall::Learn { worker } => house.learn_trusted(worker, counts),
-            HouseCall::Set { .. } => self.carry_out(house, counts),
-        }
-    }
 }
 
 /// Sets the field that a kind names.
