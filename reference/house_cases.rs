@@ -268,15 +268,20 @@ fn compose(
 
 impl<'r> Composer<'r> {
     fn new(random: &'r mut Random, house: House, style: Style) -> Composer<'r> {
-        // Held to the end, none is told no, looks or crashes.
+        // Held to the end, none is told no, looks or crashes; ambushed, some look.
         let held = style.holds();
+        let ambush = matches!(style, Style::Ambush(_));
         let mut odds = |odds: &[usize]| match held {
             true => 0,
             false => random.pick(odds),
         };
         Composer {
             no: odds(&[0, 0, 0, 0, 10, 3]),
-            look: odds(&[0, 0, 100, 30, 8]),
+            look: if ambush {
+                50
+            } else {
+                odds(&[0, 0, 100, 30, 8])
+            },
             crash: odds(&[0, 0, 400, 150, 60]),
             stray: odds(&[0, 60, 20, 8]),
             trouble: odds(&[0, 0, 40, 10]),
@@ -312,14 +317,14 @@ impl<'r> Composer<'r> {
         self.call(PROPOSE, worker, value);
     }
 
-    /// Most workers propose at once.
+    /// Most workers propose at once; some never do.
     fn proposals(&mut self) {
         let held = self.style.holds();
-        let late = self.random.pick(&[0, 3, 6]);
+        let (late, never) = (self.random.pick(&[0, 3, 6]), self.random.pick(&[0, 0, 4]));
         for worker in 0..self.house.n {
             if !held && self.random.once_in(late) {
                 self.late.push(worker);
-            } else {
+            } else if held || !self.random.once_in(never) {
                 self.propose(worker);
             }
         }
@@ -762,13 +767,22 @@ impl Composer<'_> {
         let above = random.between(OUTER_ROUNDS * c.min(3), 31);
         let beyond = random.between(n.min(15), 15);
         let outer = random.between(1, OUTER_ROUNDS);
-        match random.below(12) {
+        match random.below(13) {
             0 => {
                 let row = self.house.workers[random.below(n)].outer - 1;
                 let entry = 4 * row + random.below(c);
                 (144, entry, random.pick(&[0, 0, 9, u32::MAX]))
             }
             1 => (144, random.below(256), 9),
+            9 | 10 => {
+                let out = |p: &usize| self.house.workers[*p].stance == Stance::Idle;
+                let worker = (0..n).find(out).unwrap_or(beyond);
+                (
+                    random.between(131, 132) as u8,
+                    worker,
+                    random.between(1, 9) as u32,
+                )
+            }
             2 => (145, 0, random.pick(&[0, 9, u32::MAX])),
             3 => (
                 random.between(134, 136) as u8,

@@ -4,7 +4,8 @@
 //!
 //! Of every house it checks, beside that, what the wish claims, as long as no field is set
 //! that was not set back: all workers decided by a house look hold one number, which was
-//! proposed to the house before; no call gives 3; outer rounds are 1 to 8. Of every call: a
+//! proposed to the house before; so the house register, once filled, keeps its number; no
+//! call gives 3; outer rounds are 1 to 8. Of every call: a
 //! turn makes at most one register operation and a house look one, and others none; contested
 //! grows as the marked rounds of all boards do; an outer round grows by one or not at all,
 //! and in turns alone; a value changes at a proposal, a table read and a house look alone; a
@@ -191,6 +192,7 @@ events! {
     FreeDecision: "no 3: the house register set" at least 5,
     FreeSession: "no 3: a session above c damaged" at least 5,
     FreeWorker: "no 3: a worker from n on damaged" at least 5,
+    FreeOut: "no 3: an out worker's round or value set",
     FreeRegister: "no 3: a ward's register or D set" at least 5,
     FreeWardSeat: "no 3: a ward seat that is not needed set" at least 5,
     FreePollSeat: "no 3: a poll seat that is not needed set" at least 5,
@@ -420,7 +422,8 @@ impl Observer {
                 self.accepted(call, worker, &record, before, coverage)
             }
             Err(refusal) => {
-                if kept != Some(self.house.clone()) || counts != self.counts {
+                let changed = kept.is_some_and(|kept| kept != self.house);
+                if changed || counts != self.counts {
                     return Err(format!("{call} is refused and changes something"));
                 }
                 self.refused(call, record, refusal, coverage)
@@ -459,6 +462,7 @@ impl Observer {
             145 => Event::FreeDecision,
             134..=138 | 149 if session >= OUTER_ROUNDS * self.house.c => Event::FreeSession,
             130..=133 if worker >= self.house.n => Event::FreeWorker,
+            131 | 132 if self.house.workers[worker].stance == Stance::Idle => Event::FreeOut,
             137 | 149 => Event::FreeRegister,
             138 => Event::FreeWardSeat,
             143 => Event::FreePollSeat,
@@ -576,6 +580,7 @@ impl Observer {
                 self.turned = true;
                 let before = before.expect("a working worker of a sound house");
                 self.turn(worker, leader, &before, coverage);
+                return self.written(call, &before);
             }
             HouseCall::Set { .. } => {}
         }
@@ -601,6 +606,15 @@ impl Observer {
                 "worker {worker} decided {value}, which none proposed"
             )),
         }
+    }
+
+    /// A house look may follow each house write: so all of them write one number.
+    fn written(&self, call: HouseCall, before: &Before) -> Result<(), String> {
+        let (was, is) = (before.decision, self.house.decision);
+        if was == 0 || was == is || self.undamaged.is_some() {
+            return Ok(());
+        }
+        Err(format!("{call}: the house register holds {was}, then {is}"))
     }
 
     /// Notes an accepted turn, by what it was about to use.
