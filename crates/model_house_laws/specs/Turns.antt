@@ -49,23 +49,30 @@ vote-sound n c s t = and-right (eqb (s .n) n) (soundPoll s) (and-left (eqb (s .n
 
 -- ---- an accepted turn of worker p
 
-module _ (h : House) (c : Counts) (p : ℕ) (hint : Bool) (size : length (h .wards) ≡ 16) (a : HouseAccepted h c (turns p hint)) where
-  ward-in : (1 ≤ wardOf h p) × (wardOf h p ≤ h .c)
-  ward-in = ward-range h (numbers-of h (a .whole)) size p (a .below)
+pub record Known (h : House) (c : Counts) (p : ℕ) (hint : Bool) : Type 0 where
+  pub accepted : HouseAccepted h c (turns p hint)
+  pub ward-low : 1 ≤ wardOf h p
+  pub ward-high : wardOf h p ≤ h .c
+  pub wards : h .c ≤ 4
+  pub outer-low : 1 ≤ workerAt h p .outer
+  pub outer-high : workerAt h p .outer ≤ 8
 
-  pub ward-of : (1 ≤ wardOf h p) × (wardOf h p ≤ 4)
-  ward-of = (ward-in .0, omega (arith, ward-in, numbers-of h (a .whole)))
+known-of : (h : House) (c : Counts) (p : ℕ) (hint : Bool) → length (h .wards) ≡ 16 → HouseAccepted h c (turns p hint) → Known h c p hint
+known-of h c p hint size a =
+    let f = numbers-of h (a .whole) in
+    let w = ward-range h f size p (a .below) in
+    let o = worker-outer h (a .whole) p (a .below) in
+    record { accepted = a; ward-low = w .0; ward-high = w .1; wards = f .most; outer-low = o .0; outer-high = o .1 }
 
-  pub outer-of : (1 ≤ workerAt h p .outer) × (workerAt h p .outer ≤ 8)
-  outer-of = worker-outer h (a .whole) p (a .below)
-
+module _ (h : House) (c : Counts) (p : ℕ) (hint : Bool) (k : Known h c p hint) where
   fits-of : viewFits (viewOf h c p) ≡ true
   unfolding viewFits viewOf
   fits-of =
+      let a = k .accepted in
       let o = workerAt h p .outer in
       let w = wardOf h p in
-      let low : sessionIndex o w < 8 * h .c = omega (arith, ward-in, outer-of) in
-      let round : o - 1 < outerRounds = omega (arith, outer-of) in
+      let low : sessionIndex o w < 8 * h .c = omega arith in
+      let round : o - 1 < outerRounds = omega arith in
       let room : not (full c) ≡ true = rw (a .own .1 .1 .1 .0) in
       and-both
       (and-both
@@ -77,12 +84,12 @@ module _ (h : House) (c : Counts) (p : ℕ) (hint : Bool) (size : length (h .war
       left ≡ (let v = viewOf h c p in cond (viewFits v) (turnBy p (wardOf h p) s hint (workerAt h p .stance) v) v) →
       left ≡ turned h c p hint
   unfolding turned
-  turned-is e el = let i : p % 16 ≡ p = omega (arith, a .few) in el ∙ rw (fits-of, e, i)
+  turned-is e el = let i : p % 16 ≡ p = omega (arith, k .accepted .few) in el ∙ rw (fits-of, e, i)
 
 -- The same at the index i that the code uses.
 module _ (h : House) (c : Counts) (p : ℕ) (hint : Bool) {i : ℕ} (ei : i ≡ p) where
-  pub accepted-at : HouseAccepted h c (turns p hint) → HouseAccepted h c (turns i hint)
-  accepted-at a = rw ei a
+  pub known-at : length (h .wards) ≡ 16 → HouseAccepted h c (turns p hint) → Known h c i hint
+  known-at size a = rw ei (known-of h c p hint size a)
 
   pub turned-house : {left : View} → left ≡ turned h c i hint → withView h i left ≡ houseAfter h c (turns p hint)
   unfolding houseAfter

@@ -76,12 +76,12 @@ fn turn_at(v: View, p: usize, w: u8, s: usize, hint: bool, place: Place) -> View
     requires { ⌜ viewFits v ≡ true ⌝ }
     ensures { λ r. ⌜ r ≡ turnAt p w s hint place v ⌝ }
 {
-    let q = v.worker;
     match place {
-        Place::ProposeWard => stands(
-            in_ward(v, Operation::Propose(s, q.value)),
-            Stance::Working(Place::StepWard),
-        ),
+        Place::ProposeWard => {
+            let q = v.worker;
+            let b = in_ward(v, Operation::Propose(s, q.value));
+            stands(b, Stance::Working(Place::StepWard))
+        }
         Place::StepWard => {
             let b = in_ward(v, Operation::Step(s, hint));
             let session = b.session;

@@ -1,5 +1,5 @@
 -- `system_house_registers::read_table` meets its contract. Assumes nothing.
-use Rattle.base.specs.Prelude.{_≡_, refl, sym, _∙_, false, needs}
+use Rattle.base.specs.Prelude.{_≡_, sym, _∙_, false, needs}
 use Rattle.model.specs.Refusal.{full}
 use Rattle.model_house.specs.Turn.{turnAt}
 use Rattle.system_house_registers.proofs.read_table.Statement.{statement}
@@ -17,7 +17,7 @@ unfolding turnAt
 returns-2 c w s hint =
     let read = c .before in
     let start = read .before .before .before .before .before in
-    rw (c .counted .ensures, room start, read .after-read .ensures, read .before .seat .ensures) refl
+    rw (c .counted .ensures, room start, read .after-read .ensures, read .before .seat .ensures)
 
 pub read-table-spec : {M : Type 1} → statement M
 read-table-spec =

@@ -1,5 +1,5 @@
 -- `system_house_registers::write_table` meets its contract. Assumes nothing.
-use Rattle.base.specs.Prelude.{_≡_, refl, sym, _∙_, false, needs}
+use Rattle.base.specs.Prelude.{_≡_, sym, _∙_, false, needs}
 use Rattle.model.specs.Refusal.{full}
 use Rattle.model_house.specs.Turn.{turnAt}
 use Rattle.system_house_registers.proofs.write_table.Statement.{statement}
@@ -17,7 +17,7 @@ unfolding turnAt
 returns-2 c p hint =
     let wrote = c .before in
     let sat = wrote .before .before .before in
-    rw (c .counted .ensures, room (sat .before .before), wrote .written .ensures, sat .seat .ensures) refl
+    rw (c .counted .ensures, room (sat .before .before), wrote .written .ensures, sat .seat .ensures)
 
 pub write-table-spec : {M : Type 1} → statement M
 write-table-spec =

@@ -22,8 +22,8 @@ told c e er = let a = c .args in er ∙ ap (λ x. turnAt (a .p) (a .w) (a .s) (a
 propose-ward : tie.Need-returns
 unfolding turnAt
 propose-ward c =
-    let arm = c .before .before in
-    let start = arm .before .before .before in
+    let arm = c .before .before .before in
+    let start = arm .before .before in
     let a = start .args in
     told start (arm .enum-told .given .1)
     (ward-left (a .v) (start .pre) (Propose (a .s) (a .v .worker .value)) (λ b. Working StepWard) (c .before .in-ward .ensures) refl
@@ -35,7 +35,7 @@ step-ward c =
     let next = c .before in
     let operated = next .before .before .before in
     let arm = operated .before in
-    let start = arm .before .before .before in
+    let start = arm .before .before in
     let a = start .args in
     told start (arm .enum-told2 .given .1)
     (ward-left (a .v) (start .pre) (Step (a .s) (a .hint)) (λ b. afterStep (processAt (b .session) (a .s))) (operated .in-ward2 .ensures)
@@ -47,7 +47,7 @@ learn-ward c =
     let next = c .before in
     let operated = next .before .before .before in
     let arm = operated .before in
-    let start = arm .before .before .before in
+    let start = arm .before .before in
     let a = start .args in
     told start (arm .enum-told3 .given .1)
     (ward-left (a .v) (start .pre) (Learn (a .s)) (λ b. afterLearn (processAt (b .session) (a .s))) (operated .in-ward3 .ensures)
@@ -59,7 +59,7 @@ propose-poll : tie.Need-returns-5
 unfolding turnAt
 propose-poll c =
     let arm = c .before .before in
-    let start = arm .before .before .before in
+    let start = arm .before .before in
     let a = start .args in
     told start (arm .enum-told5 .given .1)
     (poll-left (a .v) (start .pre) (proposes (a .p) (a .w)) (λ b. Working StepPoll) (c .before .propose-poll .ensures) refl
@@ -71,7 +71,7 @@ step-poll c =
     let next = c .before in
     let operated = next .before .before .before in
     let arm = operated .before in
-    let start = arm .before .before .before in
+    let start = arm .before .before in
     let a = start .args in
     told start (arm .enum-told6 .given .1)
     (poll-left (a .v) (start .pre) (turns (a .p)) (λ b. afterPoll (processAt (b .poll) (a .p))) (operated .step-poll .ensures)
@@ -81,19 +81,19 @@ step-poll c =
 
 write-table : tie.Need-returns-4
 write-table c =
-    let start = c .before .before .before .before in
+    let start = c .before .before .before in
     let a = start .args in
     told start (c .before .enum-told4 .given .1) (register-left (a .v) (start .pre) (c .write-table .ensures (a .p) (a .hint)))
 
 read-table : tie.Need-returns-7
 read-table c =
-    let start = c .before .before .before .before in
+    let start = c .before .before .before in
     let a = start .args in
     told start (c .before .enum-told7 .given .1) (register-left (a .v) (start .pre) (c .read-table .ensures (a .w) (a .s) (a .hint)))
 
 write-house : tie.Need-returns-8
 write-house c =
-    let start = c .before .before .before .before in
+    let start = c .before .before .before in
     let a = start .args in
     told start (c .before .enum-told8 .given .1)
     (register-left (a .v) (start .pre) (c .write-house .ensures (a .p) (a .w) (a .s) (a .hint)))
