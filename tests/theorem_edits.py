@@ -1,6 +1,6 @@
 #!/usr/bin/env python3
-"""Edits of the machines' definitions of which the agreement rule, the rule of polls, that contested is the number of marked rounds, or a paper
-case is false, of the two rules' bounds on the window and on the limits, and of contracts on which they rest.
+"""Edits of the machines' definitions of which the agreement rule, the rule of polls or of houses, that contested is the number of marked rounds,
+or a case is false, of the two rules' bounds on the window and on the limits, and of contracts on which they rest.
 
     theorem_edits.py             tries every edit
     theorem_edits.py PATTERN     tries those whose file name matches, as 'root*.edit': for work on one
@@ -12,12 +12,13 @@ accepted.
 
 The list is of the processes and rounds of the opening (a poll's has no rounds); the proposals of process 0, 1, ..; and the steps, or a
 poll's turns: `p*k` for k steps of process p, told to lead, and `p:look`, `p:crash` and `p:unled` for a look, a crash and a step that is not
-told to lead. Among the steps `p=v` is a proposal of v by process p, and `close` a close. Where the edit has a window, the calls are at that
+told to lead. Among the steps `p=v` is a proposal of v by process p, and `close` a close. A list of a house has the wards of its workers in
+place of processes and rounds; its steps are turns, and its looks house looks. Where the edit has a window, the calls are at that
 window and the rule that is false is the one at every window, or the claim of Safe.antt that it names; where it has none, the one in
 service. Where it has limits, processes and rounds, the opening is within those; where it has none, within the server's.
 
-`refutes` has the part that is false. It is a field of `Rule`, or of `PollRule`; SESSION_PARTS and POLL_PARTS below say what an edit then
-shows: who decides, commits, writes, answers or holds what. Or it is `stand`, that the proposals stand after a close: CLOSE_PARTS has how
+`refutes` has the part that is false. It is a field of `Rule`, `PollRule` or `HouseRule`; SESSION_PARTS, POLL_PARTS and HOUSE_PARTS below say
+what an edit then shows: who decides, commits, writes, answers or holds what. Or it is `stand`, that the proposals stand after a close: CLOSE_PARTS has how
 many there were by then and by the end. Or it is the equality with the machine: `machine`, where the last call returns 3, or `differs`,
 where another number of its answer is not the machine's; `last` has both numbers, and each call brings counts of the number in `counts`, 0
 where there is none. An edit without `refutes` has how many rounds are contested and marked after a sheet of the calls.
@@ -44,9 +45,12 @@ EDITS = ROOT / "tests" / "theorem-edits"
 # The calls as a proof has them.
 SESSION_CALLS = {"proposal": "acts (Propose {p} {v})", "step": "acts (works {p})", "unled": "acts (Step {p} false)",
                  "look": "acts (Learn {p})", "crash": "acts (Crash {p})", "close": "closes"}
+HOUSE_CALLS = {"proposal": "proposes {p} {v}", "step": "turns {p} true", "unled": "turns {p} false", "look": "learns {p}",
+               "crash": "crashes {p}"}
 POLL_CALLS = {"proposal": "proposes {p} {v}", "step": "turns {p}", "crash": "crashes {p}"}
-# The parts of the two rules, and what is claimed after a close: the fields of an edit that refutes one, with the form of each; what they
-# say, as `Refuted.antt` and `PollRefuted.antt` of model_rule_cases have it; and by how many equations that is shown.
+# The parts of the three rules, and what is claimed after a close: the fields of an edit that refutes one, with the form of each; what they
+# say, as `Refuted.antt` and `PollRefuted.antt` of model_rule_cases and `Refuted.antt` of model_house_cases have it; and by how many
+# equations that is shown.
 NUMBER = r"(?P<v>\d+) by process (?P<p>\d+)"
 OTHER = r"(?P<u>\d+) by process (?P<q>\d+)"
 TURNS = r"(?P<k>\d+) turns by process (?P<p>\d+)"
@@ -58,6 +62,7 @@ SESSION_PARTS = {
     "commitment": ({"commits": r"(?P<v>\d+) in round (?P<R>\d+)", "writes": r"(?P<u>\d+) in round (?P<r>\d+) by process (?P<p>\d+)"},
                    "writtenLater {R} {v} {p} {r} {u}", 4),
 }
+HOUSE_PARTS = {part: SESSION_PARTS[part] for part in ("holds", "looked", "agreement", "validity")}
 CLOSE_PARTS = {"stand": ({"proposed": r"(?P<k>\d+) by a close, (?P<m>\d+) by the end"}, "{k} {m}", 3)}
 POLL_PARTS = {
     "validity": ({"answers": rf"(?P<a>\w+) {NUMBER}"}, "notProposed {p} ({a} {v}) {v}", 3),
@@ -76,6 +81,11 @@ NUMBERS = {"code": "a .code", "reads": "a .counts .reads", "round of process 0":
 DEFINITIONS = """window rootUp rootFrom opened waitingRule phaseAccess access found goOn phaseNext next learnt stored turn counted full openingFor accessOf becomes
     after countsAfter answered perform soundPhaseAs soundProcessAs pollRegisters soundForAs operateForAs proposeForAs stepFor learnFor crashForAs"""
 SESSION_DEFINITIONS = "execute closeFor"
+HOUSE_DEFINITIONS = """window rootUp rootFrom opened waitingRule phaseAccess access found goOn phaseNext next learnt stored turn counted full accessOf becomes
+    after countsAfter answered perform soundPhaseAs soundProcessAs pollRegisters soundForAs soundAs withoutDecision pollAccess ending pollNext answerOf
+    turnAfter turnCounts pollTurned pollPerform seatOf allowed openedHouse houseOpening turnAt viewOf withView turnBy turned houseAfter houseCounts
+    houseAnswered housePerform soundWard soundNumbers soundVote seatsFit soundWorker soundWards soundHouse houseOperate housePropose houseTurn
+    houseLearn houseCrash"""
 POLL_DEFINITIONS = "withoutDecision pollAccess ending pollNext answerOf pollOpeningFor turnAfter turnCounts turned pollPerform pollTurnFor"
 
 
@@ -197,11 +207,26 @@ def last_answer(edit):
     return {"number": NUMBERS[number], "answer": answer, "machine": machine}
 
 
+def house_refutation(edit):
+    """The same of a list of a house's calls."""
+    done = operations(edit, HOUSE_CALLS)
+    wards = edit["wards"].split()
+    values = {"wards": listed(wards), "c": str(max(map(int, wards))), "oldest": listed(done), "newest": listed(done[::-1]), "counts": edit.get("counts", "0"),
+              "definitions": HOUSE_DEFINITIONS, "claim": "HouseClaim"}
+    values["of"] = f"{values['c']} wards"
+    if edit["refutes"] in HOUSE_PARTS:
+        return ["houses", "houses_rule"], values | part_shown(edit, HOUSE_PARTS)
+    return ["houses", "calls", "answers", edit["refutes"]], values | last_answer(edit)
+
+
 def refutation(edit):
     """The templates of the proof that the edit refutes the theorem, the crates that it uses, and what the templates are filled with."""
     if "contested" in edit:
         values = {"sheet": listed(sheet(edit)), "contested": edit["contested"], "marked": edit["marked"]}
         return ["contested"], "base model model_rule", values
+    if "wards" in edit:
+        templates, values = house_refutation(edit)
+        return templates, "base model model_poll model_rule model_rule_cases model_house model_house_cases", values
     poll = "rounds" not in edit
     parts = POLL_PARTS if poll else SESSION_PARTS
     done = operations(edit, POLL_CALLS if poll else SESSION_CALLS)
@@ -233,10 +258,11 @@ def write_refutation(copy, edit):
     (crate / "specs").mkdir()
     (crate / "src" / "lib.rt").write_text("// No code.\n", encoding="utf-8")
     (crate / "specs" / "Lib.antt").write_text(text, encoding="utf-8")
-    # The proof plays its list as model_rule_cases does; the short lists there may break nothing on the changed machine.
-    cases = copy / "crates" / "model_rule_cases" / "specs" / "Lib.antt"
-    cases.write_text(cases.read_text(encoding="utf-8").replace("pub mod Table\n", ""), encoding="utf-8")
-    (cases.parent / "Table.antt").unlink()
+    # The proof plays its list as model_rule_cases does; the short lists there, and the cases of houses, may be false of the changed machine.
+    for name in ("model_rule_cases", "model_house_cases"):
+        cases = copy / "crates" / name / "specs" / "Lib.antt"
+        cases.write_text(cases.read_text(encoding="utf-8").replace("pub mod Table\n", ""), encoding="utf-8")
+        (cases.parent / "Table.antt").unlink()
     with open(copy / "crates.txt", "a", encoding="utf-8") as crates:
         crates.write(f"refuted: {uses}\n")
 
@@ -246,7 +272,8 @@ def case_stands(copy, path, row):
     table = copy / path
     text = table.read_text(encoding="utf-8")
     part = text[text.index("table =\n"):text.index("-- Every row holds")]
-    rows = [" ".join(found.split()) for found in re.findall(r"record \{[^{}]*\}", part)]
+    part_rows = re.sub(r" *--[^\n]*\n", "", part.removeprefix("table =\n")).split("\n    ∷ ")
+    rows = [" ".join(found.split()) for found in part_rows]
     one = [found for found in rows if row in found]
     if len(one) != 1:
         return f"'{row}' stands {len(one)} times in the table"
@@ -262,7 +289,7 @@ def fault_of(path):
     edit = read_edit(path)
     with tempfile.TemporaryDirectory() as folder:
         copy = Path(folder) / "copy"
-        copy_crates(copy, [edit["check"], edit.get("proved")])
+        copy_crates(copy, [edit["check"], edit.get("proved"), "model_house_cases" if "wards" in edit else None])
         target = copy / edit["file"]
         text = target.read_text(encoding="utf-8")
         for old, new in edit["changes"]:

@@ -3,7 +3,7 @@ use lib.Seq.{paste-suc}
 use Rattle.base.specs.Prelude.{ℕ, _+_, zero, suc, _≤_, _<_, arith, add-zero, add-suc, suc-add, add-one, zero-add, le-of-lt, _≡_, refl}
 use Rattle.base.specs.Prelude.{sym, _∙_}
 use Rattle.base.specs.Prelude.{List, [], _∷_, _++_, map, length, length-map, length-set, getD, set, set-out, sets, take, take-suc}
-use Rattle.base.specs.Prelude.{length-take-le, drop}
+use Rattle.base.specs.Prelude.{length-take-le, drop, getD-set-other, ℕ-discrete}
 
 -- The length of an array in a struct, as the struct's own rule has it: that of the list of its elements' values.
 pub length-mapped : (X Y : Type 0) (f : X → Y) (l : List X) (n : ℕ) → length (map f l) ≡ n → length l ≡ n
@@ -14,6 +14,15 @@ pub getD-set-keeps : {A : Type 0} (P : A → Type 0) (l : List A) (i : ℕ) (x d
 getD-set-keeps P [] i x d new old = old
 getD-set-keeps P (y ∷ l) zero x d new old = new
 getD-set-keeps P (y ∷ l) (suc i) x d new old = getD-set-keeps P l i x d new old
+
+-- The same of any place, which is the one stored in or another.
+pub getD-set-cases : {A : Type 0} (P : A → Type 0) (l : List A) (i j : ℕ) (x d : A) → (j ≡ i → P x) → P (getD l j d) →
+    P (getD (set l i x) j d)
+getD-set-cases P l i j x d new old =
+    elim (ℕ-discrete j i) [
+      | yes e ↦ rw e (getD-set-keeps P l i x d (new e) (rw e at old))
+      | no ne ↦ rw (getD-set-other l i j x d ne) old
+    ]
 
 -- Two lists stored one behind the other: their concatenation stored.
 pub sets-append : (l : List ℕ) (i : ℕ) (vs ws : List ℕ) → sets l i (vs ++ ws) ≡ sets (sets l i vs) (i + length vs) ws

@@ -36,11 +36,18 @@ pub record HouseAccepted (h : House) (c : Counts) (o : HouseOperation) : Type 0 
   pub few : workerOf o < 16
   pub own : NoneHolds (workerTests (phaseOf (workerAt h (workerOf o) .stance)) c o)
 
+-- What the machine's tests tell where none refuses.
 own-without : (φ : Phase) (c : Counts) (o : HouseOperation) → Without 0 (workerTests φ c o)
 own-without φ c (proposes p v) = omega arith
 own-without φ c (turns p hint) = omega arith
 own-without φ c (learns p) = omega arith
 own-without φ c (crashes p) = omega arith
+
+pub tests-known : (h : House) (c : Counts) (o : HouseOperation) → refusal (houseTests h c o) ≡ 0 →
+    (workerOf o < h .n) × NoneHolds (workerTests (phaseOf (workerAt h (workerOf o) .stance)) c o)
+tests-known h c o e =
+    let a = none-holds (houseTests h c o) (omega arith, own-without (phaseOf (workerAt h (workerOf o) .stance)) c o) e in
+    (leb-false (h .n) (workerOf o) (a .0), a .1)
 
 module _ (h : House) (c : Counts) (o : HouseOperation) where
   -- The number, with the own tests made on the record that the code reads.
@@ -74,9 +81,8 @@ module _ (h : House) (c : Counts) (o : HouseOperation) where
         where
           go : (b : Bool) → soundHouse h ≡ b → cond (not b) unsound (refusal (houseTests h c o)) ≡ 0 → HouseAccepted h c o
           go true eb e =
-              let a = none-holds (houseTests h c o) (omega arith, own-without (phaseOf (workerAt h (workerOf o) .stance)) c o) e in
-              let low = leb-false (h .n) (workerOf o) (a .0) in
-              record { whole = eb; below = low; few = omega (arith, low, numbers-of h eb .few); own = a .1 }
+              let a = tests-known h c o e in
+              record { whole = eb; below = a .0; few = omega (arith, a .0, numbers-of h eb .few); own = a .1 }
           go false eb e = absurd (omega arith)
 
       pub house-index : workerOf o % 16 ≡ workerOf o

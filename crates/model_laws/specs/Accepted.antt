@@ -1,11 +1,12 @@
 -- What is known where an operation is accepted: none of its tests holds.
-use Rattle.base.specs.Prelude.{ℕ, _<_, arith, _≡_, refl, Bool, true, false, cond, List, [], _∷_, _++_, eqb, ne-eqb, leb-false}
+use Rattle.base.specs.Prelude.{ℕ, _<_, arith, _≡_, refl, Bool, true, false, cond, List, [], _∷_, _++_, eqb, ne-eqb, leb-false, lt-leb}
 use Rattle.base.specs.Bools.{cond-cases}
 use Rattle.model_laws.specs.Types.{Phase, Session, Counts, Operation, Propose, Step, Learn, Crash}
 use Rattle.model.specs.Board.{processAt}
 use Rattle.model.specs.Machine.{processOf}
 use Rattle.model.specs.Numbers.{unsound}
-use Rattle.model.specs.Refusal.{Test, refusal, proposeTests, stepTests, learnTests, crashTests, processTests, tests}
+use Rattle.model.specs.declared.Status.the-variants.{Active}
+use Rattle.model.specs.Refusal.{Test, status, isOutside, full, refusal, proposeTests, stepTests, learnTests, crashTests, processTests, tests}
 
 -- No test of the list holds.
 abbrev pub NoneHolds : List Test → Type 0
@@ -74,3 +75,15 @@ pub accepted : (s : Session) (c : Counts) (o : Operation) → refusal (tests s c
 accepted s c o e =
     let a = rw (tests-are s c o) at (none-holds (tests s c o) (tests-without 0 (omega arith) s c o) e) in
     record { below = leb-false (s .n) (processOf o) (a .0); own = a .1 }
+
+-- The other way round: what is enough for an operation to be accepted.
+module _ (s : Session) (c : Counts) (p : ℕ) (below : p < s .n) where
+  pub propose-accepts : (v : ℕ) → 0 < v → isOutside (status (processAt s p .phase)) ≡ true → s .closed ≡ false →
+      refusal (tests s c (Propose p v)) ≡ 0
+  propose-accepts v some out unclosed = rw (lt-leb (s .n) p below, ne-eqb v 0 (λ z. omega arith), out, unclosed) refl
+
+  pub step-accepts : (leader : Bool) → status (processAt s p .phase) ≡ Active → full c ≡ false → refusal (tests s c (Step p leader)) ≡ 0
+  step-accepts leader works room = rw (lt-leb (s .n) p below, works, room) refl
+
+  pub learn-accepts : status (processAt s p .phase) ≡ Active → full c ≡ false → refusal (tests s c (Learn p)) ≡ 0
+  learn-accepts works room = rw (lt-leb (s .n) p below, works, room) refl

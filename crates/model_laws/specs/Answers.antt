@@ -53,6 +53,12 @@ module _ (poll : Bool) (W : ℕ) (s : Session) (c : Counts) where
   unfolding operateForAs perform answered
   operate-sound o ok = rw ok
 
+  -- What the machine answers where it accepts.
+  pub perform-accepted : (o : Operation) → refusal (tests s c o) ≡ 0 →
+      perform W s c o ≡ record { code = 0; session = after W s o; counts = countsAfter s c o }
+  unfolding perform answered
+  perform-accepted o ok = rw ok
+
   -- A proposal and a crash leave any counts.
   pub propose-counts : (p v : ℕ) → withCounts (proposeForAs poll W s p v) c ≡ operateForAs poll W s c (Propose p v)
   unfolding proposeForAs operateForAs answered countsAfter accessOf counted

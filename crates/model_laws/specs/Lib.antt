@@ -7,6 +7,7 @@ pub mod Phases
 pub mod WaitingRules
 pub mod Ranges
 pub mod Keeps
+pub mod Works
 pub mod Sounds
 pub mod Operations
 pub mod Callers

@@ -5,7 +5,7 @@ use Rattle.model_laws.specs.Types.{Phase, Idle, Waiting, Write, Scan, Ad
 use Rattle.model_laws.specs.Types.{Crashed, Decided, HasCommitted, HasAdopted, Process}
 use Rattle.model.specs.declared.Status.{Status}
 use Rattle.model.specs.declared.Status.the-variants.{Outside, Active, Spent, Gone}
-use Rattle.model.specs.Refusal.{status, isOutside, isGone}
+use Rattle.model.specs.Refusal.{status, isOutside, isActive, isGone, isDecided}
 use Rattle.model.specs.Sound.{soundPhaseAs, soundPhase, soundProcessAs, soundProcess}
 use Rattle.base.specs.Bools.{and-left, and-right, and-both}
 
@@ -92,3 +92,28 @@ outside-here Outside o = refl
 outside-here Active o = absurd (true≢false (sym o))
 outside-here Spent o = absurd (true≢false (sym o))
 outside-here Gone o = absurd (true≢false (sym o))
+
+-- Only a working process is active,
+pub active-is : (σ : Status) → isActive σ ≡ true → σ ≡ Active
+active-is Outside t = absurd (true≢false (sym t))
+active-is Active t = refl
+active-is Spent t = absurd (true≢false (sym t))
+active-is Gone t = absurd (true≢false (sym t))
+
+-- and only Decided is decided.
+pub decided-is : (φ : Phase) → isDecided φ ≡ true → φ ≡ Decided
+decided-is Idle t = absurd (true≢false (sym t))
+decided-is Waiting t = absurd (true≢false (sym t))
+decided-is Write t = absurd (true≢false (sym t))
+decided-is (Scan k) t = absurd (true≢false (sym t))
+decided-is (Adopt k) t = absurd (true≢false (sym t))
+decided-is (Compare i) t = absurd (true≢false (sym t))
+decided-is (Flag i) t = absurd (true≢false (sym t))
+decided-is (CheckMark i) t = absurd (true≢false (sym t))
+decided-is (CheckValue i) t = absurd (true≢false (sym t))
+decided-is Commit t = absurd (true≢false (sym t))
+decided-is Exhausted t = absurd (true≢false (sym t))
+decided-is Crashed t = absurd (true≢false (sym t))
+decided-is Decided t = refl
+decided-is HasCommitted t = absurd (true≢false (sym t))
+decided-is HasAdopted t = absurd (true≢false (sym t))

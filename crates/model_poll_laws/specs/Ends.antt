@@ -1,23 +1,24 @@
 -- How a pass ends (document 02, wish 6): what its sentences say of the machine of polls, at any window, of any poll and counts; and that
 -- sessions and polls with such an end are apart.
-use Rattle.base.specs.Prelude.{ℕ, _+_, _-_, _<_, _≤_, arith, _≡_, refl, sym, _∙_, ⊎-elim, Bool, true, false, true≢false, length}
+use Rattle.base.specs.Prelude.{ℕ, _+_, _-_, _<_, _≤_, arith, _≡_, refl, sym, _∙_, ap, ⊎-elim, Bool, true, false, true≢false, length}
 use Rattle.base.specs.Prelude.{getD-set-same, ne-eqb, lt-leb, ltb-true}
 use Rattle.model_laws.specs.Types.{Phase, Waiting, CheckMark, CheckValue, Commit, Exhausted, Decided, HasCommitted, HasAdopted, Process}
-use Rattle.model_laws.specs.Types.{Session, Counts, Operation}
+use Rattle.model_laws.specs.Types.{Session, Counts, Stepped, Operation, Propose}
 use Rattle.model.specs.declared.Status.the-variants.{Active, Gone}
 use Rattle.model.specs.Window.{window}
 use Rattle.model.specs.Board.{valueAt, markAt, processAt, withProcess, idle}
 use Rattle.model.specs.Step.{phaseAccess, access, phaseNext, next, found, stored, turn, counted, process}
 use Rattle.model.specs.Numbers.{unsound, processGone}
-use Rattle.model.specs.Refusal.{full, status}
+use Rattle.model.specs.Refusal.{full, status, isOutside}
 use Rattle.model.specs.Machine.{answered, perform}
 use Rattle.model.specs.Sound.{soundPhaseAs, soundForAs, soundAs, sound, soundPoll}
 use Rattle.model_laws.specs.Sounds.{sound-process}
 use Rattle.model_laws.specs.Phases.{process-facts}
-use Rattle.model_laws.specs.Answers.{codeAs}
+use Rattle.model_laws.specs.Accepted.{propose-accepts}
+use Rattle.model_laws.specs.Answers.{codeAs, perform-accepted}
 use Rattle.model_poll.specs.declared.Answer.the-variants.{Pending, Commits, Adopts}
 use Rattle.model_poll.specs.Turn.{withoutDecision, pollAccess, ending, pollNext, answerOf, Carries}
-use Rattle.model_poll.specs.Machine.{turns, crashes, turnAfter, turnCounts, turned, pollPerform}
+use Rattle.model_poll.specs.Machine.{proposes, turns, crashes, turnAfter, turnCounts, turned, pollPerform}
 use Rattle.model_poll_laws.specs.Sounds.{phase-rule, poll-limit, poll-blank, poll-open}
 use Rattle.model_poll_laws.specs.Performs.{answer-cases}
 
@@ -60,6 +61,12 @@ module _ (W : ℕ) (s : Session) (c : Counts) (p : ℕ) (below : p < s .n) where
     other-adopts i at other =
         let unlike = ne-eqb (valueAt s (q .round - i)) (q .estimate) other in
         rw (lt-leb (s .n) p below, at, room, unlike, ends-at HasAdopted) refl
+
+  -- A number is taken from a process that is out.
+  pub out-proposal : (v : ℕ) → 0 < v → isOutside (status (q .phase)) ≡ true → s .closed ≡ false → pollPerform W s c (proposes p v) .code ≡ 0
+  unfolding pollPerform
+  out-proposal v some out unclosed =
+      ap (λ (a : Stepped). a .code) (perform-accepted true W s c (Propose p v) (propose-accepts s c p below v some out unclosed))
 
   -- A turn of a process that works is refused by 16 alone.
   pub working-turn : status (q .phase) ≡ Active → full c ≡ false → pollPerform W s c (turns p) .code ≡ 0

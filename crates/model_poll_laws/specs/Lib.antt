@@ -4,3 +4,4 @@ pub mod Answers
 pub mod Performs
 pub mod Pass
 pub mod Ends
+pub mod Works

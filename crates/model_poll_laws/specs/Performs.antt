@@ -1,6 +1,6 @@
 -- What the machine of polls does in one operation: an accepted one has the session after it, a refused one leaves the poll; and which
 -- records change.
-use Rattle.base.specs.Prelude.{ℕ, suc, zero, _≡_, refl, _⊎_, inl, inr, false, true≢false, _<_, length}
+use Rattle.base.specs.Prelude.{ℕ, suc, zero, arith, _≡_, refl, _⊎_, inl, inr, false, true≢false, _<_, length}
 use Rattle.base.specs.Prelude.{getD-set-same, getD-set-other, not-false, ⊎-elim}
 use Rattle.model_laws.specs.Types.{Phase, Idle, Waiting, Write, Scan, Adopt, Compare, Flag, CheckMark, CheckValue, Commit, Exhausted}
 use Rattle.model_laws.specs.Types.{Crashed, Decided, HasCommitted, HasAdopted, Process, Session, Access, Counts, Propose, Crash}
@@ -48,6 +48,12 @@ perform-cases P W s c (proposes p v) done left = stepped-session P _ s _ c _ (λ
 perform-cases P W s c (turns p) done left = stepped-session P _ s _ c _ (λ e. done (turn-accepted s c p e)) left
 perform-cases P W s c (crashes p) done left = stepped-session P _ s _ c _ (λ e. done (accepted s c (Crash p) e)) left
 
+-- What the machine leaves where it accepts.
+pub perform-accepted : (W : ℕ) (s : Session) (c : Counts) (o : PollOperation) → pollPerform W s c o .code ≡ 0 →
+    PollAccepted s c o × (pollPerform W s c o .session ≡ pollAfter W s o)
+perform-accepted W s c o =
+    perform-cases (λ k t. k ≡ 0 → PollAccepted s c o × (t ≡ pollAfter W s o)) W s c o (λ a e. (a, refl)) (λ k e. absurd (omega arith))
+
 -- A turn leaves n.
 pub turn-size : (W : ℕ) (s : Session) (p : ℕ) → turnAfter W s p .n ≡ s .n
 unfolding turnAfter turn
@@ -56,11 +62,11 @@ turn-size W s p = stored-same s _ _ .n
 -- ---- the records
 
 -- A turn changes the record of its own process alone.
-turn-others : (s : Session) (p : ℕ) (a : Access) (f : ℕ → Process) (o : ℕ) → (o ≡ p → ⊥) → processAt (turn s p a f) o ≡ processAt s o
+pub turn-others : (s : Session) (p : ℕ) (a : Access) (f : ℕ → Process) (o : ℕ) → (o ≡ p → ⊥) → processAt (turn s p a f) o ≡ processAt s o
 unfolding turn
 turn-others s p a f o other = rw (stored-same s _ _ .processes) (getD-set-other (s .processes) p o _ idle other)
 
-turn-own : (s : Session) (p : ℕ) (a : Access) (f : ℕ → Process) → p < length (s .processes) → processAt (turn s p a f) p ≡ f (found s a)
+pub turn-own : (s : Session) (p : ℕ) (a : Access) (f : ℕ → Process) → p < length (s .processes) → processAt (turn s p a f) p ≡ f (found s a)
 unfolding turn
 turn-own s p a f below = rw (stored-same s _ _ .processes) (getD-set-same (s .processes) p _ idle below)
 

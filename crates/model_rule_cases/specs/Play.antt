@@ -75,6 +75,18 @@ pub at-the-end : {State Input Answer Event : Type 0} (M : System State Input Ans
 at-the-end M P none holds = holds
 at-the-end M P (call run c e) holds = holds .0
 
+-- What holds at the end of every list of calls, of the state and the past that the machine then has, holds after a list of operations.
+pub played-holds : {State O Answer Event : Type 0} (M : System State (Input O) Answer Event) (P : State → List Event → Type 0)
+    {promised : State → Input O → Answer} {start : State} (os : List O) →
+    ((cs : List (Call (Input O) Answer)) (s : State) → Run (M .state) promised start cs s →
+    P s (past M start (inputs cs)) × (s ≡ machine M start (inputs cs))) → let end = played M start [] os in P (end .0) (end .1)
+played-holds {State} {O} {Answer} {Event} M P {promised} {start} os all =
+    let c : Called (Run (M .state) promised start) (fedBy os []) = called (fedBy os []) in
+    let holds = all (c .calls) (c .left) (c .run) in
+    subst (λ (end : State × List Event). P (end .0) (end .1)) (sym (played-machine M start os []))
+    (subst (λ (fs : List (Input O)). P (machine M start fs) (past M start fs)) (c .same)
+    (subst (λ (s : State). P s (past M start (inputs (c .calls)))) (holds .1) (holds .0)))
+
 -- ---- of sessions
 
 -- A step that is told to lead. (01: a work turn with hint yes.)
@@ -89,12 +101,10 @@ pub played-rule : (most : Limits) (w : ℕ → ℕ) (n L : ℕ) (os : List Comma
 played-rule most w n L os ok rule =
     let M = sessions (w n) in
     let start = openingFor most (w n) n L .session in
-    let c : Called (RunWith w start) (fedBy os []) = called (fedBy os []) in
-    let all = rule ok (c .calls) (c .left) (c .run) in
-    let holds = at-the-end M (λ s cs. Rule s (past M start (inputs cs)) × ProposalsStand (w n) start cs) (c .run) (all .2) .0 in
-    subst (λ (end : Session × List Event). Rule (end .0) (end .1)) (sym (played-machine M start os []))
-    (subst (λ (fs : List (Input Command)). Rule (machine M start fs) (past M start fs)) (c .same)
-    (subst (λ (s : Session). Rule s (past M start (inputs (c .calls)))) (all .1) holds))
+    played-holds M Rule os
+    (λ cs s run.
+    let all = rule ok cs s run in
+    (at-the-end M (λ t ds. Rule t (past M start (inputs ds)) × ProposalsStand (w n) start ds) run (all .2) .0, all .1))
 
 -- A past that no rule allows: the agreement rule is false within those limits.
 pub breaks-rule : (most : Limits) (w : ℕ → ℕ) (n L : ℕ) (os : List Command) →

@@ -1,5 +1,4 @@
 // The soundness of one board of a house: a ward's session, or a poll.
-ghost use Prim.Native.Nat.{_≤_};
 ghost use mathlib.Core.Path.{_≡_};
 ghost use lib.ListN.{length};
 ghost use lib.Dec.{leb};

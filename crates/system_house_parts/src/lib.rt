@@ -1,6 +1,7 @@
-// Functions of a worker's record, and whether its seats are as its next turn needs them (document 02, wish 11).
+// Functions of a worker's record, a seat's record, and whether a worker's seats are as its next turn needs (document 02, wish 11).
 ghost use Prim.Native.Nat.{_-_};
 ghost use mathlib.Core.Path.{_≡_};
+ghost use Rattle.model.specs.Board.{processAt};
 ghost use Rattle.model.specs.Refusal.{status as statusOf, isOutside, isActive, isDecided};
 ghost use Rattle.model_poll.specs.Turn.{answerOf, isAnswered, isCommitted};
 ghost use Rattle.model_house.specs.House.{wardSeats};
@@ -9,6 +10,7 @@ ghost use Rattle.model_house.specs.Sound.{seatsFit};
 ghost use Rattle.model_house_laws.specs.Sounds.{numbersSound};
 use model::Phase;
 use model::Process;
+use model::Session;
 use model::Status;
 use model_house::Place;
 use model_house::Stance;
@@ -25,6 +27,20 @@ pub fn phase_of(stance: Stance) -> Phase
         Stance::Exhausted => Phase::Exhausted,
         Stance::Crashed => Phase::Crashed,
         Stance::Decided => Phase::Decided,
+    }
+}
+
+// The record of process p. Past the end there is none, and one that is out stands for it.
+pub fn seat(s: Session, p: usize) -> Process
+    ensures { λ r. ⌜ r ≡ processAt s p ⌝ }
+{
+    if p < 64 {
+        return s.processes[p];
+    }
+    Process {
+        phase: Phase::Idle,
+        round: 0,
+        estimate: 0,
     }
 }
 

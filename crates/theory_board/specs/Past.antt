@@ -1,5 +1,5 @@
 -- Older parts of a past: what was true of one stays true, and what an event on top of it can add.
-use Rattle.base.specs.Prelude.{ℕ, _≤_, _≡_, refl, List, [], _∷_, _⊎_, inl, inr, ⊎-elim, length, le-refl, arith}
+use Rattle.base.specs.Prelude.{ℕ, _≤_, _≡_, refl, List, [], _∷_, _++_, _⊎_, inl, inr, ⊎-elim, length, le-refl, arith}
 use Rattle.model_rule.specs.Event.{Event, write, Past, Happened}
 use Rattle.model_rule.specs.Event.Past.{here, there}
 use Rattle.theory_board.specs.Epoch.{top, HappenedIn, ComparedBy, Passed, PassedBy}
@@ -21,6 +21,11 @@ past-none q = elim q [ ]
 pub past-empty : (h : List Event) → Past [] h
 past-empty [] = here
 past-empty (x ∷ h) = there (past-empty h)
+
+-- Events in front of a past make it longer.
+pub past-append : (es : List Event) {h : List Event} → Past h (es ++ h)
+past-append [] = here
+past-append (e ∷ es) = there (past-append es)
 
 -- Of two older parts of a past one is an older part of the other.
 pub past-total : {a b h : List Event} → Past a h → Past b h → Past a b ⊎ Past b a

@@ -43,6 +43,12 @@ opened-reached W n L sound few low = record { sound = sound; size = refl; rounds
 -- ---- the machine of sessions
 
 module _ {W n L : ℕ} (wide : 1 ≤ W) where
+  -- An accepted operation of a process.
+  pub after-reached : {s : Session} {h : List Event} (c : Counts) (o : Operation) → Reached false W n L s h → Accepted s c o →
+      Reached false W n L (after W s o) (eventsOf (processAt s (processOf o)) (s .decision) o ++ h)
+  after-reached {s} c o i a =
+      accepted-reached i c o a (sound-process false W s (processOf o) (i .sound)) (after-sound W wide s c o (i .sound) a)
+
   -- One operation of a process, accepted or refused.
   pub operation-reached : {s : Session} {h : List Event} (c : Counts) (o : Operation) → Reached false W n L s h →
       let a = perform W s c o in
@@ -53,9 +59,7 @@ module _ {W n L : ℕ} (wide : 1 ≤ W) where
       go : (c : Counts) (o : Operation) (k : ℕ) → refusal (tests s c o) ≡ k →
           let a = stepped k s (after W s o) c (countsAfter s c o) in
           Reached false W n L (a .session) (ifAccepted (a .code) (eventsOf (processAt s (processOf o)) (s .decision) o) ++ h)
-      go c o zero e =
-          let a = accepted s c o e in
-          accepted-reached i c o a (sound-process false W s (processOf o) (i .sound)) (after-sound W wide s c o (i .sound) a)
+      go c o zero e = after-reached c o i (accepted s c o e)
       go c o (suc k) e = i
 
   -- One command: a close reads and writes nothing but the closed mark, of which neither the invariant nor soundness speaks.

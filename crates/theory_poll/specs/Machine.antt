@@ -22,7 +22,7 @@ use Rattle.theory_count.specs.Agreed.{agreed}
 use Rattle.theory_poll.specs.Turn.{turn-kept}
 
 -- An accepted operation.
-accepted-poll : {W n : ℕ} {s : Session} {h : List Event} → 1 ≤ W → (c : Counts) (o : PollOperation) → Reached true W n W s h →
+pub accepted-poll : {W n : ℕ} {s : Session} {h : List Event} → 1 ≤ W → (c : Counts) (o : PollOperation) → Reached true W n W s h →
     PollAccepted s c o →
     Reached true W n W (pollAfter W s o) (pollEventsOf s o ++ h)
 accepted-poll {W} {n} {s} wide c (proposes p v) i a =

@@ -9,10 +9,9 @@ use Rattle.model.specs.Board.{processAt, markAt, valueAt, idle, opened, maxProc
 use Rattle.model.specs.Step.{waitingRule, access, phaseAccess, goOn, next, phaseNext, found, bit}
 use Rattle.model_laws.specs.Phases.{PhaseSound, process-facts}
 use Rattle.model_rule.specs.Event.{Event, flag, stepEvents, Happened, Proposed, Written}
-use Rattle.model_rule.specs.Event.Past.{there, here}
 use Rattle.model_poll.specs.Turn.{withoutDecision, pollAccess, ending, pollNext, answerOf, Carries}
 use Rattle.theory_board.specs.Epoch.{last}
-use Rattle.theory_board.specs.Past.{past-before, past-none, happened-past, happened-older}
+use Rattle.theory_board.specs.Past.{past-before, past-none, past-append, happened-past, happened-older}
 use Rattle.theory_board.specs.Registers.{wrote-round, last-written}
 use Rattle.theory_board.specs.Lawful.{lawful-at, blank-above}
 use Rattle.theory_board.specs.Place.{Placed}
@@ -124,11 +123,6 @@ calm-events p r e φ h calm none =
 
 -- ---- the machine
 
--- Older parts of a past.
-happened-append : {x : Event} (es : List Event) {h : List Event} → Happened x h → Happened x (es ++ h)
-happened-append [] k = k
-happened-append (e ∷ es) k = happened-past (there here) (happened-append es k)
-
 -- What is known of a poll and its past where all that was proposed is v.
 pub record AllCalm (s : Session) (h : List Event) : Type 0 where
   pub calm : (p : ℕ) → Calm (processAt s p .phase)
@@ -178,7 +172,7 @@ machine-calm wide i k v [] only = k
 machine-calm {W} {n} {start} wide i k v (f ∷ fs) only =
     let m = machine (polls W) start fs in
     let h = past (polls W) start fs in
-    let older : Only v h = λ w p. only w (happened-append (events (polls W) m f) p) in
+    let older : Only v h = λ w p. only w (happened-past (past-append (events (polls W) m f)) p) in
     let r = machine-calm wide i k v fs older in
     perform-cases (λ j t. AllCalm t (ifAccepted j (pollEventsOf m (f .operation)) ++ h)) W m (f .counts) (f .operation)
     (λ a. accepted-calm (poll-reached wide i fs) wide v older (f .counts) (f .operation) a r)

@@ -1,5 +1,5 @@
 -- `system_house_open::opened` meets its contract: its sessions and polls are opened with the definition's numbers. Assumes nothing.
-use Rattle.base.specs.Prelude.{ℕ, _-_, _≡_, _∙_, ap, needs, arith, length, List, _++_, replicate}
+use Rattle.base.specs.Prelude.{ℕ, _-_, _≡_, _∙_, ap, needs, length, List, _++_, replicate}
 use Rattle.model.specs.declared.Session.{Session}
 use Rattle.model.specs.Window.{window}
 use Rattle.model.specs.Board.{opened}

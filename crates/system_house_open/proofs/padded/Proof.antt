@@ -1,5 +1,5 @@
 -- `system_house_open::padded` meets its contract. The loop's invariant: the first `i` wards are copied. Assumes nothing.
-use Rattle.base.specs.Prelude.{ℕ, zero, suc, _-_, _≡_, refl, _∙_, ap₂, needs, arith, length, replicate, take, take-all, drop, List, _++_}
+use Rattle.base.specs.Prelude.{ℕ, zero, suc, _-_, _≡_, refl, _∙_, ap₂, needs, arith, length, replicate, take-all, drop, List, _++_}
 use Rattle.base.specs.Prelude.{le-refl, sub-zero, zero-sub, suc-sub-suc}
 use Rattle.base.specs.Arrays.{Copied, copied-more, copied-all}
 use Rattle.system_house_open.proofs.padded.Statement.{statement}

@@ -4,4 +4,5 @@ use Rattle.system_house_parts.proofs.ward_seats.Statement.{statement}
 use Rattle.system_house_parts.proofs.ward_seats.Tie as tie
 
 pub ward-seats-spec : {M : Type 1} → statement M
-ward-seats-spec = tie.close (tie.spec (λ c κs. search needs) (λ c κs. search needs) (λ c. c .less2 .ensures ∙ rw (c .before .less .ensures)))
+ward-seats-spec =
+    tie.close (tie.spec (λ c κs. search needs) (λ c κs. search needs) (λ c. c .less2 .ensures ∙ rw (c .before .less .ensures)))

@@ -1,5 +1,5 @@
 -- `system_house_sound::workers_sound` meets its contract. The loop's invariant: the first `p` workers are sound. Assumes nothing.
-use Rattle.base.specs.Prelude.{ℕ, _-_, _%_, _≤_, _<_, _≡_, refl, sym, _∙_, true, needs, arith, length, not-false}
+use Rattle.base.specs.Prelude.{_-_, _%_, _≤_, _<_, _≡_, refl, sym, _∙_, true, needs, arith, length, not-false}
 use Rattle.base.specs.Arrays.{length-mapped}
 use Rattle.model_house.specs.declared.House.{House}
 use Rattle.model_house.specs.House.{allBelow, workerAt}
