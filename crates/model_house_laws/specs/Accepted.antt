@@ -1,14 +1,13 @@
 -- The answer of a call on a house, by the number of its first refusal and by what is left where it is 0. Assumes nothing.
-use Rattle.base.specs.Prelude.{ℕ, suc, zero, _%_, _<_, arith, _≡_, refl, sym, _∙_, ap, Bool, true, false, cond, not, List, _∷_, leb}
+use Rattle.base.specs.Prelude.{ℕ, suc, zero, _%_, _<_, arith, _≡_, refl, sym, _∙_, ap, Bool, true, false, cond, not, _∷_, leb}
 use Rattle.base.specs.Prelude.{leb-false}
 use Rattle.model.specs.declared.Counts.{Counts}
 use Rattle.model.specs.declared.Phase.{Phase}
 use Rattle.model.specs.Numbers.{unsound, noSuchProcess}
 use Rattle.model.specs.Board.{noCounts}
-use Rattle.model.specs.Refusal.{Test, refusal, full}
+use Rattle.model.specs.Refusal.{refusal, full}
 use Rattle.model_laws.specs.Accepted.{NoneHolds, Without, none-holds, returned}
 use Rattle.model_house.specs.declared.House.{House}
-use Rattle.model_house.specs.declared.HouseStepped.{HouseStepped}
 use Rattle.model_house.specs.declared.Stance.the-variants.{Working, Crashed}
 use Rattle.model_house.specs.declared.Place.the-variants.{ProposeWard}
 use Rattle.model_house.specs.declared.Worker.{Worker}

@@ -10,8 +10,8 @@
 use mir.Syntax.{Sym, tyInt, tyRef, mut, tyNamed, local, valueLocal, deref, assign, rvOpd, aggregate, return, w32}
 use mir.Val.{vstruct}
 use Rattle.base.specs.Prelude.{_≡_, refl, sym, subst, ap₂, ℕ, Bool, [], _∷_, map}
-use Rattle.base.specs.Walks.{URA, Heap, Atoms, Given, emp, id⊢, factI, flft, ftrue, ‵, raw, _⊛_, _$_, !, by, move, keep, use1, w64}
-use Rattle.base.specs.Walks.{use2, split, fsplit, fjoin, ent, SProp, Val, vint, ofList, Typed, Lfts, Last, left, yes, Denots, Plains}
+use Rattle.base.specs.Walks.{URA, Heap, Atoms, Given, id⊢, flft, ftrue, ‵, raw, _⊛_, _$_, !, by, move, keep, use1, w64}
+use Rattle.base.specs.Walks.{use2, split, fsplit, fjoin, ent, SProp, Val, vint, ofList, Typed, Last, left, yes, Denots, Plains}
 use Rattle.base.specs.Walks.{layout, Declared}
 use Rattle.base.specs.Walks.{fields, shape, row, Fn, Name, Ty, named, tyBool, place, copy, seq, call, field as part}
 use Rattle.base.specs.Walks.{agg, look, look-raw, init, store-raw, stop, hop, from, load, of-opd, and-then, no-more, assigns, land}
@@ -21,7 +21,7 @@ use denote.Struct.Declared.{field}
 use denote.Struct.Field.{rows, u32-field}
 use denote.Struct.Laws as LL
 use Rattle.base_walk.proofs.Promise.{Args, own-all, token, on-entry, Row, uint, truth, struct, Promise}
-use Rattle.base_walk.proofs.Walk.{Walk, gone, asks, proved}
+use Rattle.base_walk.proofs.Walk.{Walk, gone, asks}
 use Rattle.model.specs.declared.Counts.{Counts}
 use Rattle.model.proofs.Counts as Ct
 use Rattle.model.proofs.Counts.Laws as Ct′
