@@ -59,6 +59,7 @@ module _ {h : House} {x : List Event} {p : ℕ} {place : Place} (t : Turning h x
   abbrev k : ℕ
   k = wardSeats (h .n) (h .c)
 
+  -- What is remembered of the house and of its boards.
   abbrev pub memoryOf : Memory
   memoryOf = memory (t .held .polls) (h .table) x
 
@@ -68,6 +69,7 @@ module _ {h : House} {x : List Event} {p : ℕ} {place : Place} (t : Turning h x
   abbrev pub pollPast : List Event
   pollPast = pastAt (t .held .polls) (roundOf h p)
 
+  -- Its record and its seats.
   pub fit : Fits (window (h .n)) memoryOf q (wardSeat (h .wards) (h .sessions) p) (pollSeat (h .polls) p) (wardOf h p)
   fit = t .held .worker p (t .low)
 
@@ -80,9 +82,10 @@ module _ {h : House} {x : List Event} {p : ℕ} {place : Place} (t : Turning h x
   pub knows : KnowsAt (window (h .n)) memoryOf place (roundOf h p) (q .value) (wardOf h p) (processAt P p)
   knows = rw (t .stance) at (fit .knows)
 
-  pub was : q .stance ≡ Decided → ⊥
-  was e = let same = t .stance in let z : _≡_ {A = ℕ} 0 1 = cc in omega arith
+  pub undecided : q .stance ≡ Decided → ⊥
+  undecided e = let same = t .stance in let z : _≡_ {A = ℕ} 0 1 = cc in omega arith
 
+  -- Its boards.
   pub round-low : roundOf h p < 8
   round-low = omega (arith, fit .start, fit .few)
 

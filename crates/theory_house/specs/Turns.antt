@@ -29,7 +29,7 @@ use Rattle.theory_house.specs.Invariant.{wardSeat, pollSeat, Fits, memor
 use Rattle.theory_house.specs.Store.{ward-known, poll-known}
 use Rattle.theory_house.specs.Workers.{fits-next, quiet-held}
 use Rattle.theory_house.specs.Turning.{Turning, roundOf, ownSeat, indexOf, ownSession, ownPoll, Ready, memoryOf, wardPast, pollPast}
-use Rattle.theory_house.specs.Turning.{fit, some, was, round-low, ward-low, index-low, ward-reached, ward-open, poll-reached}
+use Rattle.theory_house.specs.Turning.{fit, some, undecided, round-low, ward-low, index-low, ward-reached, ward-open, poll-reached}
 use Rattle.theory_house.specs.Turning.{seat-low, poll-low}
 
 -- A seat that is not seat z of board i stays, where those of board i do.
@@ -61,7 +61,7 @@ module _ {h : House} {x : List Event} {p : ℕ} {place : Place} (t : Turning h x
   unfolding withView
   plain-turn q′ c known more fits now =
       rw (set-getD (h .sessions) (indexOf h p) noSession, set-getD (h .polls) (roundOf h p) noSession)
-      (quiet-held (t .held) p (t .low) [] q′ known more (λ j l other o l₁. (refl, refl)) fits (was t) (λ e. true≢false (rw e at now))
+      (quiet-held (t .held) p (t .low) [] q′ known more (λ j l other o l₁. (refl, refl)) fits (undecided t) (λ e. true≢false (rw e at now))
       (λ j u b y. y))
 
   -- ---- an accepted operation of its seat in the ward's session
@@ -111,7 +111,7 @@ module _ {h : House} {x : List Event} {p : ℕ} {place : Place} (t : Turning h x
         ))
         (fits-next (fit t) (some t) y (λ e from l. (ward-stays (8 * (wardOf h p - 1) + e) s (λ z u. omega (arith, fit t .start)), refl))
         (rw here (ready .1)) (rw here (ready .2)))
-        (was t) (λ e. true≢false (rw e at (ready .0))) (λ j u b y. y))
+        (undecided t) (λ e. true≢false (rw e at (ready .0))) (λ j u b y. y))
 
   -- ---- an accepted operation of its seat in the poll
 
@@ -148,4 +148,4 @@ module _ {h : House} {x : List Event} {p : ℕ} {place : Place} (t : Turning h x
         (quiet-held (t .held) p (t .low) [] _ (known .0) (known .1) (λ j l other e l₁. (refl, poll-stays e j (λ same. other)))
         (fits-next (fit t) (some t) y (λ e from l. (refl, poll-stays e p (λ z u. omega (arith, fit t .start))))
         (rw here (ready (memoryOf t) .1)) (rw here (ready _ .2)))
-        (was t) (λ e. true≢false (rw e at (ready (memoryOf t) .0))) (λ j u b y. y))
+        (undecided t) (λ e. true≢false (rw e at (ready (memoryOf t) .0))) (λ j u b y. y))
