@@ -20,6 +20,9 @@ use Rattle.model_house.specs.Rule.{housePromised}
 use Rattle.system_house_open.proofs.open as opens
 use Rattle.system_house_change.proofs.propose as propose
 use Rattle.system_house_change.proofs.crash as crash
+use Rattle.system_house_lent.proofs.turn as turn
+use Rattle.system_house_lent.proofs.learn as learn
+use Rattle.system_house_turn.proofs.turn as turn-by-value
 use Rattle.system_house_change.proofs.learn as learn-by-value
 use Rattle.theory_functions.specs.Contracts.{ensures}
 
@@ -37,7 +40,22 @@ module _ {M : Type 1} (𝓤 : URA M) (H : Heap 𝓤) (A : Atoms 𝓤) (mem : Mem
     pub house-crash-contract : crash.clauses 𝓤 H A mem run tt (h, (p, tt)) ≡ ensures 𝓤 (λ r e. r ≡ houseCrash h p)
     house-crash-contract = refl
 
+    -- A turn and a house look are: e has the counts as they stand at exit.
+    pub house-turn-contract : (κ : Lft) (hint : Bool) (counts : RefT Counts) →
+        turn.clauses 𝓤 H A mem run (κ, tt) (h, (p, (hint, (counts, tt))))
+        ≡ ensures 𝓤 (λ r e. withHouseCounts r (now (e .1 .1 .1 .0)) ≡ housePromised h (now counts) (turns p hint))
+    house-turn-contract κ hint counts = refl
+
+    pub house-learn-contract : (κ : Lft) (counts : RefT Counts) →
+        learn.clauses 𝓤 H A mem run (κ, tt) (h, (p, (counts, tt)))
+        ≡ ensures 𝓤 (λ r e. withHouseCounts r (now (e .1 .1 .0)) ≡ housePromised h (now counts) (learns p))
+    house-learn-contract κ counts = refl
+
     -- With the counts by value.
+    pub house-turn-value-contract : (hint : Bool) (c : Counts) →
+        turn-by-value.clauses 𝓤 H A mem run tt (h, (p, (hint, (c, tt)))) ≡ ensures 𝓤 (λ r e. r ≡ housePromised h c (turns p hint))
+    house-turn-value-contract hint c = refl
+
     pub house-learn-value-contract : (c : Counts) →
         learn-by-value.clauses 𝓤 H A mem run tt (h, (p, (c, tt))) ≡ ensures 𝓤 (λ r e. r ≡ housePromised h c (learns p))
     house-learn-value-contract c = refl
