@@ -1,5 +1,5 @@
--- `session_step_lent::learn` meets its contract: by the walk of such functions. All that the proof knows of `session_learn::learn` is that it
--- meets its contract. Assumes nothing.
+-- `session_step_lent::learn` meets its contract: by the walk of such functions. All that the proof knows of `session_learn::learn` is that
+-- it meets its contract. Assumes nothing.
 use Rattle.base.specs.Prelude.{refl}
 use Rattle.base.specs.Walks.{givenOf, emp, factI}
 use Rattle.base_walk.proofs.Walk.{proved}
