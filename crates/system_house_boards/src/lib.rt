@@ -42,10 +42,10 @@ pub fn step_poll(v: View, p: usize) -> View
     let poll = v.poll;
     let counts = v.counts;
     let a = poll_turn::turn(poll, p, counts);
-    let after = a.session;
-    let told = a.counts;
+    let stepped = a.session;
+    let polled = a.counts;
     let mut left = v;
-    left.poll = after;
-    left.counts = told;
+    left.poll = stepped;
+    left.counts = polled;
     left
 }
