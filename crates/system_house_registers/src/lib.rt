@@ -51,12 +51,18 @@ fn after_read(t: Table, q: Worker, seat: Process) -> Worker
 {
     match part_poll::answer(seat) {
         Answer::Pending => q,
-        Answer::Commits(u) => Worker {
-            stance: Stance::Working(Place::WriteHouse),
-            outer: q.outer,
-            value: value_read(t, q, u),
-        },
-        Answer::Adopts(u) => round_over(q.outer, value_read(t, q, u)),
+        Answer::Commits(u) => {
+            let committed = value_read(t, q, u);
+            Worker {
+                stance: Stance::Working(Place::WriteHouse),
+                outer: q.outer,
+                value: committed,
+            }
+        }
+        Answer::Adopts(u) => {
+            let adopted = value_read(t, q, u);
+            round_over(q.outer, adopted)
+        }
     }
 }
 
