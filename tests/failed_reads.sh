@@ -7,7 +7,7 @@ set -euo pipefail
 takes_nothing "$@"
 needs rt gcc
 cd "$root"
-programs=(use_report test_run test_poll test_bench)
+programs=(use_report test_run test_poll test_house test_bench)
 ./build.sh "${programs[@]}"
 out=target/tests/failed_reads
 rm -rf "$out"

@@ -1,10 +1,10 @@
 #!/usr/bin/env bash
 # The program test_house beside the separately written one on random houses (02, wish 11): no difference may be found, the claims of the wish
-# must hold of every house, and in a run of 1,000 houses or more every place, every end of an outer round, every refusal of every call, each
+# must hold of every house, and in a run of 800 houses or more every place, every end of an outer round, every refusal of every call, each
 # reason of 1, 19 and 3, and what 3 leaves free must be reached, and a first house write in each outer round. Then that wrong programs are
 # found: beside the proved one by a difference, and those that break a claim also beside themselves.
 #
-# usage: tests/houses.sh [HOUSES [SEED]]      as long as one likes; 1,000 houses from seed 1, and the wrong programs, in the gate
+# usage: tests/houses.sh [HOUSES [SEED]]      as long as one likes; 800 houses from seed 1, and the wrong programs, in the gate
 set -euo pipefail
 . "$(dirname "$0")/../common.sh"
 helped "$@"
@@ -13,7 +13,7 @@ cd "$root"
 ./build.sh reference test_house
 houses=$PWD/target/reference/houses
 proved=$PWD/target/bin/test_house
-"$houses" "$proved" "${1-1000}" "${2-1}" "${@:3}"
+"$houses" "$proved" "${1-800}" "${2-1}" "${@:3}"
 (($# == 0)) || exit 0
 
 out=target/tests/houses
@@ -22,7 +22,7 @@ mkdir -p "$out"
 
 # A short run passes, and says that it is short.
 "$houses" "$proved" 40 7 >"$out/short.log" || { cat "$out/short.log"; exit 1; }
-grep -q '^40 houses are too few for full coverage, [0-9]* short of it; 1000 are enough$' "$out/short.log"
+grep -q '^40 houses are too few for full coverage, [0-9]* short of it; 800 are enough$' "$out/short.log"
 echo "houses: a run of 40 houses says that it is too short"
 
 found() { # WHAT WORDS COMMAND..: 400 houses must end in a difference, or a claim that fails, told in those words

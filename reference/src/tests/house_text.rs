@@ -78,6 +78,10 @@ fn fields_that_are_set() {
     for (v, stance) in (1..).zip(stances.split(' ')) {
         assert_eq!(after_setting(133, 0, v), format!("worker 0 {stance} 1 0"));
     }
+}
+
+#[test]
+fn fields_of_boards_that_are_set() {
     // Of a board alone, n and L do not show.
     assert_eq!(after_setting(134, 0, 5) + &after_setting(140, 0, 5), "");
     assert_eq!(after_setting(136, 33, 8), "board 1 1 64 0 closed");
@@ -94,6 +98,10 @@ fn fields_that_are_set() {
     );
     assert_eq!(after_setting(149, 2, 9), "board 2 1 64 9 open");
     assert_eq!(after_setting(150, 2, 9), "board 34 1 2 9 open");
+}
+
+#[test]
+fn registers_and_counts_that_are_set() {
     assert_eq!(after_setting(144, 29, 9), "row 8 0 9 0 0");
     assert_eq!(after_setting(144, 32, 9), "row 1 9 0 0 0");
     assert_eq!(after_setting(145, 0, 9), "decision 9");

@@ -355,6 +355,13 @@ fn every_place_of_an_outer_round() {
     home.shows(2, "look 1 9", "1 0 0");
     home.turn(2);
     home.shows(2, "work 1 9", "2 0 0");
+}
+
+/// The same from the ward's decision on.
+#[test]
+fn every_place_from_the_decision_on() {
+    let mut home = Home::open(&[2, 1, 2], &[]);
+    assert_eq!(home.house.propose(2, 9), Ok(()));
     home.to(2, Place::WriteTable);
     assert_eq!(home.session(2, 1).processes[1].phase, Phase::Decided);
     let (reads, writes) = home.made();
