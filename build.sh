@@ -6,7 +6,8 @@
 #                             window        the window's function by itself: target/staticlib/libtest_window.a
 #                             callers       what either caller gets (02, wish 9): target/staticlib/libtest_callers.a
 #                             reference     the separately written program and what compares the two: target/reference/
-#                             use_report    a program of the crates: target/bin/use_report; likewise test_run, test_poll, test_bench
+#                             use_report    a program of the crates: target/bin/use_report; likewise test_run, test_poll, test_house
+#                                           and test_bench
 #
 # It needs the Rattle kit, and for the reference rustc and gcc.
 set -euo pipefail

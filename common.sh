@@ -49,6 +49,19 @@ tell_end() {
     printf '%s\n' "$*" >&2
 }
 
+# KIND NAME [FILE]: plays FILE, a poll or a house as KIND says, or examples/NAME.KIND: makes the bytes of its text, and runs the proved
+# program test_KIND on them.
+plays() {
+    local text=${3:-$root/examples/$2.$1}
+    (($# <= 3)) || refuse "one $1 at a time; this is too much: ${*:4}"
+    needs rt python3
+    bytes=$(mktemp)
+    trap 'rm -f "$bytes"' EXIT
+    "$root/examples/$1.py" "$text" "$bytes"
+    "$root/build.sh" "test_$1"
+    "$root/target/bin/test_$1" <"$bytes"
+}
+
 # CRATE: how many crates of crates.txt it is made of, itself among them.
 crates_of() {
     awk -F: -v crate="$1" '

@@ -1,23 +1,24 @@
 #!/usr/bin/env bash
-# The benchmark: builds both sides for release and prints a table of sheets that are run, one of a sheet that is written and one of single
-# operations. With valgrind on the machine it also counts instructions an entry that is run: those of 11 calls on a sheet of 10,921 entries
-# less those of one call, by the entries of ten.
+# The benchmark: builds both sides for release and prints a table of sheets that are run, one of a sheet that is written, one of single
+# operations and one of calls on a house. With valgrind on the machine it also counts instructions an entry that is run: those of 11 calls on
+# a sheet of 10,921 entries less those of one call, by the entries of ten.
 #
 # usage: bench/run.sh
 #
-# It needs the Rattle kit, rustc and gcc.
+# It needs the Rattle kit, rustc, gcc and python3.
 set -euo pipefail
 . "$(dirname "$0")/../common.sh"
 takes_nothing "$@"
-needs rt rustc gcc
+needs rt rustc gcc python3
 cd "$root"
-./build.sh archive test_bench reference
+./build.sh archive test_bench test_house reference
 out=target/bench
 mkdir -p "$out"
 rustc --edition 2021 -O -D warnings --crate-name bench --extern janus_reference=target/reference/libjanus_reference.rlib \
     -L native=target/staticlib -l static=janus bench/bench.rs -o "$out/bench"
 "$out/bench"
 "$out/bench" operations target/bin/test_bench
+bench/houses.py target/bin/test_house target/reference/reference
 command -v valgrind >/dev/null || exit 0
 
 instructions() { # the words of `bench count`

@@ -36,11 +36,11 @@ def parts(text, markdown):
             told, form = html.split("<table>")
             yield [], told
             yield ["form-sheet"], f'{FORM_HEAD}<table class="case-table">{form}'
-        elif "case" in names or "poll" in names:
-            long = html.count("<tr>") > MOST_TURNS + 1
-            yield ["wide", "long" if long else "case"], html.replace("<table>", '<table class="case-table">')
+        elif {"case", "poll", "house"} & set(names):
+            long, table = html.count("<tr>") > MOST_TURNS + 1, "house-table" if "house" in names else "case-table"
+            yield ["wide", "long" if long else "case"], html.replace("<table>", f'<table class="{table}">')
         else:
-            yield ["wide"] * wide + ["picture"] * ("](walk.svg)" in part) + names, html
+            yield ["wide"] * (wide or "house-cases" in names) + ["picture"] * ("](walk.svg)" in part) + names, html
 
 
 def written(chosen):

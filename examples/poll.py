@@ -24,8 +24,8 @@ import sys
 sys.dont_write_bytecode = True
 import sheet
 
-# The program reads 65,536 bytes.
-MOST_OPERATIONS = (65_536 - 4) // 6
+# What the program reads, in bytes.
+MOST_BYTES = 65_536
 SERVER, CART = "server", "cart"
 CALLERS = {SERVER: 0, CART: 1}
 KINDS = {"propose": 0, "turn": 1, "crash": 2}
@@ -39,38 +39,50 @@ def operation(words):
 
 
 class Lines(sheet.Lines):
-    """A poll's lines: who opens it, n, and the words of each operation."""
+    """The lines of a poll or a house: its sizes, one line that may stand once, and the words of each operation. `make` makes of the words
+    of that line what is given; `check` knows an operation."""
 
-    def __init__(self):
-        super().__init__(SIZES)
-        self.caller, self.operations = SERVER, []
+    def __init__(self, sizes, name, make, check):
+        super().__init__(sizes)
+        self.name, self.make, self.check, self.given, self.operations = name, make, check, None, []
 
     def add(self, words):
-        """Takes in the line cart, or an operation that has its six bytes."""
+        """Takes in that line, or an operation that has its six bytes."""
         name, *rest = words
-        if name != CART:
-            operation(words)
+        if name != self.name:
+            self.check(words)
             self.operations.append(words)
-        elif self.caller == CART:
+        elif self.given is not None:
             raise sheet.Wrong(f"{name} is given twice")
-        elif rest:
-            raise sheet.Wrong(f"{name} takes nothing, not {' '.join(rest)}")
         else:
-            self.caller = CART
+            self.given = self.make(rest)
+
+
+def cart(words):
+    """Who opens the poll where the line cart stands, which has no other words."""
+    if words:
+        raise sheet.Wrong(f"{CART} takes nothing, not {' '.join(words)}")
+    return CART
 
 
 def listed(text):
     """What a poll's text gives: who opens it, n and the words of each operation."""
-    lines = Lines()
+    lines = Lines(SIZES, CART, cart, operation)
     [n] = lines.read(text)
-    return lines.caller, n, lines.operations
+    return lines.given or SERVER, n, lines.operations
+
+
+def counted(head, operations):
+    """The bytes of a head, of the number of the operations behind it, and of these."""
+    most = (MOST_BYTES - len(head) - 2) // 6
+    if len(operations) > most:
+        raise sheet.Wrong(f"{len(operations)} operations are too many: the program reads {most} at most")
+    return head + struct.pack("<H", len(operations)) + b"".join(operations)
 
 
 def poll(caller, n, operations):
     """The bytes of the whole poll."""
-    if len(operations) > MOST_OPERATIONS:
-        raise sheet.Wrong(f"{len(operations)} operations are too many: the program reads {MOST_OPERATIONS} at most")
-    return struct.pack("<BBH", CALLERS[caller], n, len(operations)) + b"".join(map(operation, operations))
+    return counted(bytes([CALLERS[caller], n]), [operation(words) for words in operations])
 
 
 if __name__ == "__main__":

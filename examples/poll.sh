@@ -8,12 +8,4 @@
 set -euo pipefail
 . "$(dirname "$0")/../common.sh"
 helped "$@"
-program=test_poll
-(($# <= 1)) || refuse "one poll at a time; this is too much: ${*:2}"
-needs rt python3
-
-bytes=$(mktemp)
-trap 'rm -f "$bytes"' EXIT
-"$root/examples/poll.py" "${1:-$root/examples/two_answers.poll}" "$bytes"
-"$root/build.sh" "$program"
-"$root/target/bin/$program" <"$bytes"
+plays poll two_answers "$@"

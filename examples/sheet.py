@@ -24,7 +24,7 @@ import struct
 import sys
 
 # What each word of a line may be: the largest number that fits its bytes.
-MOST = {"n": 255, "L": 65_535, "kind": 255, "seat": 255, "value": 4_294_967_295}
+MOST = {"n": 255, "L": 65_535, "c": 255, "ward": 255, "kind": 255, "seat": 255, "worker": 255, "value": 4_294_967_295}
 MOST_RUNS = 255
 MOST_PLACE = 65_535
 KINDS = {"propose": 0, "work": 1, "look": 2, "crash": 3, "close": 4}
@@ -76,8 +76,8 @@ def entry(words, kinds=KINDS, shapes=SHAPES, others=(*SIZES, RUN)):
     if len(rest) != len(shape):
         raise Wrong(f"{name} takes {' '.join(shape).upper() or 'nothing'}, not {' '.join(rest) or 'nothing'}")
     parts = {what: part(what, word) for what, word in zip(shape, rest)}
-    kind = parts.get("kind", kinds.get(name))
-    return struct.pack("<BBI", kind, parts.get("seat", 0), parts.get("value", parts.get("hint", 0)))
+    kind, whose = parts.get("kind", kinds.get(name)), parts.get("seat", parts.get("worker", 0))
+    return struct.pack("<BBI", kind, whose, parts.get("value", parts.get("hint", 0)))
 
 
 class Lines:

@@ -1,7 +1,7 @@
 #!/usr/bin/env bash
-# Builds the reference program, its unit tests, polls, which compares it with the
-# program test_poll, and short_windows, which breaks the agreement rule at windows
-# that are too short, into target/reference/ and runs the tests. With the paths of a
+# Builds the reference program, its unit tests, polls and houses, which compare it with
+# the programs test_poll and test_house, and short_windows, which breaks the agreement
+# rule at windows that are too short, into target/reference/ and runs the tests. With the paths of a
 # libjanus.a and a libtest_callers.a it also builds the programs that compare those
 # with the reference: differential, writes and callers.
 #
@@ -28,7 +28,7 @@ uses="--extern janus_reference=$out/libjanus_reference.rlib"
 build --crate-type rlib --crate-name janus_reference \
     reference/src/lib.rs -o "$out/libjanus_reference.rlib"
 build --crate-name reference $uses reference/src/main.rs -o "$out/reference"
-for program in polls short_windows; do
+for program in polls houses short_windows; do
     build --crate-name "$program" $uses "reference/$program.rs" -o "$out/$program"
 done
 build --test --crate-name tests reference/src/lib.rs -o "$out/tests"

@@ -10,24 +10,20 @@
 //! than W * W + 6 * W + 1 turns, D must stay blank, contested must be the number of
 //! marked rounds, and no call may give 18.
 //!
-//! `polls USE_POLL COUNT SEED`: so many polls from that seed through the program of
-//! that path. Poll I of a seed is the same whatever the COUNT. Many polls make up an
-//! input, of at most 60,000 bytes. It prints the seed, a table of what the polls
-//! reached, and the most turns that a process took before its answer. It ends with 1
-//! at the first difference, after making the poll as small as it still differs,
-//! telling its calls and both texts, and writing it to `difference-SEED-INDEX.poll`; a
-//! fault or an endless run of the program counts as one. From 4,000 polls on it ends
+//! `polls TEST_POLL COUNT SEED`: so many polls from that seed through the program of
+//! that path. Poll I of a seed is the same whatever the COUNT. It prints the seed, a table
+//! of what the polls reached, and the most turns that a process took before its answer. It
+//! ends with 1 at the first difference (`beside.rs` says how). From 4,000 polls on it ends
 //! with 1, too, if anything was not reached as often as the table expects; fewer may
 //! be too few for that, and it says so.
 
 #[macro_use]
 mod harness;
+mod beside;
 
-use std::io::{self, Read, Write};
-use std::process::{Child, Command, ExitCode, Stdio};
-use std::sync::mpsc::{channel, Receiver};
-use std::time::{Duration, Instant};
+use std::process::ExitCode;
 
+use beside::MOST_BYTES;
 use harness::{cart, raw, shorter, word, ByN, Entry, Random, Reached, CLOSE, ONE_SEAT, SERVER};
 use janus_reference::{
     poll_bytes, polls, window, Answer, Call, Caller, Counts, Phase, Poll, Process, Refusal, Voter,
@@ -35,8 +31,7 @@ use janus_reference::{
 
 // ---------------------------------------------------------------- polls
 
-/// The most bytes of an input, and so the most calls of a poll.
-const MOST_BYTES: usize = 60_000;
+/// The most calls of a poll.
 const MOST_CALLS: usize = (MOST_BYTES - 4) / 6;
 
 /// One poll in bytes. So many of them are cut off at the end, which ends the input.
@@ -48,7 +43,12 @@ struct Case {
     cut: usize,
 }
 
-impl Case {
+impl beside::Case for Case {
+    const ONE: &'static str = "poll";
+    const MANY: &'static str = "polls";
+    const FULL: u64 = 4_000;
+    type Coverage = Coverage;
+
     fn of(random: &mut Random) -> Case {
         let (n, calls) = match random.below(44) {
             0 | 1 => refused_opening(random),
@@ -76,6 +76,44 @@ impl Case {
         bytes
     }
 
+    fn text(bytes: &[u8]) -> String {
+        polls(bytes)
+    }
+
+    fn is_cut(&self) -> bool {
+        self.cut > 0
+    }
+
+    fn calls(&self) -> &[Entry] {
+        &self.calls
+    }
+
+    fn with(&self, calls: Vec<Entry>) -> Case {
+        let cut = self.cut.min(6 * calls.len() + 3);
+        Case {
+            calls,
+            cut,
+            ..*self
+        }
+    }
+
+    fn words(&self, calls: &str) -> String {
+        let caller = word(Caller::named(self.caller));
+        format!("{caller}, n {}: {calls}", self.n)
+    }
+
+    fn call_words(call: Entry) -> String {
+        match Call::decode(call) {
+            Call::Propose { process, value } => format!("propose {process} {value}"),
+            Call::Step { process } => format!("turn {process}"),
+            Call::Crash { process } => format!("crash {process}"),
+            Call::CloseAsSession => "close".to_string(),
+            Call::ReadAsSession { process } => format!("session {process}"),
+        }
+    }
+}
+
+impl Case {
     /// The number of seats that the bytes tell: none where they end before it.
     fn seats(&self) -> usize {
         match self.cut > 6 * self.calls.len() + 2 {
@@ -85,7 +123,7 @@ impl Case {
     }
 
     /// The calls that are whole.
-    fn calls(&self) -> impl Iterator<Item = Call> + '_ {
+    fn whole(&self) -> impl Iterator<Item = Call> + '_ {
         let whole = self.calls.len().saturating_sub(self.cut.div_ceil(6));
         self.calls[..whole].iter().map(|entry| Call::decode(*entry))
     }
@@ -545,7 +583,7 @@ struct Coverage {
     calls: u64,
 }
 
-impl Coverage {
+impl beside::Coverage<Case> for Coverage {
     fn new() -> Coverage {
         Coverage {
             reached: Reached::none_of(EVENTS),
@@ -561,16 +599,6 @@ impl Coverage {
         }
     }
 
-    fn note(&mut self, event: Event) {
-        self.reached.note(event);
-    }
-
-    fn note_if(&mut self, happened: bool, event: Event) {
-        self.reached.note_if(happened, event);
-    }
-
-    /// Carries a poll out call by call, noting what it reaches. Tells which claim does
-    /// not hold of it.
     fn case(&mut self, case: &Case) -> Result<(), String> {
         self.note_if(case.cut > 0, Event::CutShort);
         let (caller, n) = (Caller::named(case.caller), case.seats());
@@ -580,11 +608,36 @@ impl Coverage {
         };
         self.opened(caller, n);
         let mut observer = Observer::of(caller, poll);
-        for call in case.calls() {
+        for call in case.whole() {
             observer.call(call, self)?;
             self.calls += 1;
         }
         observer.left(self)
+    }
+
+    fn calls(&self) -> u64 {
+        self.calls
+    }
+
+    fn print(&self) -> Vec<String> {
+        let mut missing = self.reached.print();
+        for by_n in [&self.answers, &self.cart_answers, &self.cart_refused] {
+            by_n.print(&mut missing);
+        }
+        let Longest { turns, bound, n } = self.longest;
+        let ratio = self.longest.ratio();
+        println!("most turns before an answer: {turns} of {bound} (n {n}), ratio {ratio:.3}");
+        missing
+    }
+}
+
+impl Coverage {
+    fn note(&mut self, event: Event) {
+        self.reached.note(event);
+    }
+
+    fn note_if(&mut self, happened: bool, event: Event) {
+        self.reached.note_if(happened, event);
     }
 
     /// Notes a refused opening.
@@ -615,17 +668,6 @@ impl Coverage {
                 _ => Event::CartSeats,
             });
         }
-    }
-
-    fn print(&self) -> Vec<String> {
-        let mut missing = self.reached.print();
-        for by_n in [&self.answers, &self.cart_answers, &self.cart_refused] {
-            by_n.print(&mut missing);
-        }
-        let Longest { turns, bound, n } = self.longest;
-        let ratio = self.longest.ratio();
-        println!("most turns before an answer: {turns} of {bound} (n {n}), ratio {ratio:.3}");
-        missing
     }
 }
 
@@ -992,263 +1034,6 @@ fn ended(before: &Process) -> Event {
     }
 }
 
-// ---------------------------------------------------------------- the program
-
-/// How long one input may take, and how long a poll is made smaller.
-const PATIENCE: Duration = Duration::from_secs(60);
-const SHRINKING: Duration = Duration::from_secs(20);
-
-/// A run of test_poll on one input.
-struct Run {
-    child: Child,
-    output: Receiver<io::Result<Vec<u8>>>,
-}
-
-impl Run {
-    /// Starts it. Its input is written and its output read beside all else.
-    fn start(program: &str, input: Vec<u8>) -> io::Result<Run> {
-        let mut child = Command::new(program)
-            .stdin(Stdio::piped())
-            .stdout(Stdio::piped())
-            .spawn()?;
-        let mut pipe = child.stdin.take().expect("the input is a pipe");
-        // What it leaves unread shows in its output.
-        std::thread::spawn(move || pipe.write_all(&input));
-        let mut pipe = child.stdout.take().expect("the output is a pipe");
-        let (sender, output) = channel();
-        std::thread::spawn(move || {
-            let mut bytes = Vec::new();
-            let read = pipe.read_to_end(&mut bytes).map(|_| bytes);
-            sender.send(read)
-        });
-        Ok(Run { child, output })
-    }
-
-    /// What it printed, or how it failed in words.
-    fn finish(mut self) -> Result<Vec<u8>, String> {
-        let Ok(output) = self.output.recv_timeout(PATIENCE) else {
-            let _ = self.child.kill();
-            let _ = self.child.wait();
-            return Err(format!("no end in {PATIENCE:?}"));
-        };
-        let status = self.child.wait().map_err(|error| error.to_string())?;
-        if !status.success() {
-            return Err(format!("a fault ({status})"));
-        }
-        output.map_err(|error| error.to_string())
-    }
-}
-
-/// What the program prints for one poll, if it is not what the reference prints, and
-/// the latter.
-fn differs(program: &str, case: &Case) -> io::Result<Option<(String, String)>> {
-    let run = Run::start(program, case.bytes())?;
-    let ours = polls(&case.bytes());
-    let theirs = match run.finish() {
-        Ok(text) => String::from_utf8_lossy(&text).into_owned(),
-        Err(words) => words,
-    };
-    Ok((theirs != ours).then_some((theirs, ours)))
-}
-
-/// The poll without all calls that it can do without and still differ, as far as
-/// time allows: long pieces are tried first.
-fn in_small(program: &str, mut case: Case) -> io::Result<Case> {
-    let (begun, mut length) = (Instant::now(), case.calls.len());
-    while length > 0 {
-        let mut start = 0;
-        while start < case.calls.len() && begun.elapsed() < SHRINKING {
-            let mut fewer = case.clone();
-            let end = fewer.calls.len().min(start + length);
-            fewer.calls.drain(start..end);
-            fewer.cut = fewer.cut.min(6 * fewer.calls.len() + 3);
-            if differs(program, &fewer)?.is_some() {
-                case = fewer;
-            } else {
-                start = end;
-            }
-        }
-        length /= 2;
-    }
-    Ok(case)
-}
-
-/// The calls in words, equal ones in a row only once.
-fn words(case: &Case) -> String {
-    let mut words: Vec<(usize, String)> = Vec::new();
-    for call in case.calls() {
-        let call = match call {
-            Call::Propose { process, value } => format!("propose {process} {value}"),
-            Call::Step { process } => format!("turn {process}"),
-            Call::Crash { process } => format!("crash {process}"),
-            Call::CloseAsSession => "close".to_string(),
-            Call::ReadAsSession { process } => format!("session {process}"),
-        };
-        match words.last_mut() {
-            Some((times, last)) if *last == call => *times += 1,
-            _ => words.push((1, call)),
-        }
-    }
-    let words = words.into_iter().map(|(times, call)| match times {
-        1 => call,
-        _ => format!("{call} x {times}"),
-    });
-    words.collect::<Vec<String>>().join(", ")
-}
-
-/// The lines of a text from that one on, a few of them.
-fn lines_from(text: &str, first: usize) -> String {
-    let lines: Vec<&str> = text.lines().skip(first).take(6).collect();
-    lines.join("\n  ")
-}
-
-/// Tells in small how a poll differs.
-fn tell(program: &str, seed: u64, index: u64, case: Case) -> io::Result<()> {
-    let small = in_small(program, case)?;
-    let (theirs, ours) = differs(program, &small)?.expect("a poll that differs");
-    let equal = theirs.lines().zip(ours.lines()).take_while(|(a, b)| a == b);
-    let first = equal.count();
-    let line = |text: &str| text.lines().nth(first).unwrap_or("nothing").to_string();
-    let (proved, reference) = (line(&theirs), line(&ours));
-    println!("difference: seed {seed} index {index}: proved {proved}, reference {reference}");
-    let caller = word(Caller::named(small.caller));
-    println!("in small: {caller}, n {}: {}", small.n, words(&small));
-    println!("proved from there on:\n  {}", lines_from(&theirs, first));
-    println!("reference:\n  {}", lines_from(&ours, first));
-    let file = format!("difference-{seed}-{index}.poll");
-    match std::fs::write(&file, small.bytes()) {
-        Ok(()) => println!("poll written to {file}"),
-        Err(error) => println!("{file} could not be written: {error}"),
-    }
-    Ok(())
-}
-
-// ---------------------------------------------------------------- the comparison
-
-/// So many polls reach all that is expected, and a run of so many must.
-const FULL: u64 = 4_000;
-
-/// The polls of a seed, from the first on that was not yet compared.
-struct Comparison {
-    program: String,
-    seed: u64,
-    first: u64,
-    coverage: Coverage,
-    inputs: u64,
-}
-
-impl Comparison {
-    /// The next polls, as many as make up an input, below that index.
-    fn batch(&self, count: u64) -> Vec<Case> {
-        let (mut cases, mut room) = (Vec::<Case>::new(), MOST_BYTES);
-        for index in self.first..count {
-            let case = Case::of(&mut Random::of(self.seed, index));
-            let size = case.bytes().len();
-            if size > room || cases.last().is_some_and(|case| case.cut > 0) {
-                break;
-            }
-            room -= size;
-            cases.push(case);
-        }
-        cases
-    }
-
-    /// Compares the text of these polls, and checks the claims meanwhile; false after
-    /// telling what is wrong.
-    fn compare(&mut self, cases: &[Case]) -> io::Result<bool> {
-        let input: Vec<u8> = cases.iter().flat_map(Case::bytes).collect();
-        let run = Run::start(&self.program, input.clone())?;
-        let ours = polls(&input);
-        let claims: Vec<_> = cases.iter().map(|case| self.coverage.case(case)).collect();
-        let theirs = run.finish();
-        if theirs.as_deref() != Ok(ours.as_bytes()) {
-            let words = theirs.err().unwrap_or("another text".to_string());
-            self.difference(cases, &words)?;
-            return Ok(false);
-        }
-        for (index, claim) in (self.first..).zip(claims) {
-            if let Err(words) = claim {
-                println!("claim: seed {} index {index}: {words}", self.seed);
-                return Ok(false);
-            }
-        }
-        self.first += cases.len() as u64;
-        self.inputs += 1;
-        Ok(true)
-    }
-
-    /// Tells which of these polls differs, which in one input do so by these words.
-    fn difference(&self, cases: &[Case], words: &str) -> io::Result<()> {
-        let seed = self.seed;
-        for (index, case) in (self.first..).zip(cases) {
-            if differs(&self.program, case)?.is_some() {
-                return tell(&self.program, seed, index, case.clone());
-            }
-        }
-        let (first, count) = (self.first, cases.len());
-        println!(
-            "difference: seed {seed} index {first}: {words} with {count} polls in one input, with none alone"
-        );
-        Ok(())
-    }
-}
-
-/// Compares so many polls, after an input without any.
-fn run(program: String, count: u64, seed: u64) -> io::Result<ExitCode> {
-    println!("seed {seed}");
-    let start = Instant::now();
-    let mut comparison = Comparison {
-        program,
-        seed,
-        first: 0,
-        coverage: Coverage::new(),
-        inputs: 0,
-    };
-    let mut cases = Vec::new();
-    while comparison.compare(&cases)? {
-        cases = comparison.batch(count);
-        if cases.is_empty() {
-            return Ok(summary(&comparison, start.elapsed()));
-        }
-    }
-    Ok(ExitCode::FAILURE)
-}
-
-/// Prints what all polls reached, which must be enough.
-fn summary(comparison: &Comparison, time: Duration) -> ExitCode {
-    let (count, coverage) = (comparison.first, &comparison.coverage);
-    let missing = coverage.print();
-    for name in &missing {
-        println!("not reached: {name}");
-    }
-    let left = missing.len();
-    if left > 0 && count >= FULL {
-        return ExitCode::FAILURE;
-    }
-    if left > 0 {
-        println!(
-            "{count} polls are too few for full coverage, {left} short of it; {FULL} are enough"
-        );
-    }
-    let (calls, inputs) = (coverage.calls, comparison.inputs);
-    let seconds = time.as_secs_f64();
-    println!("{calls} calls in {inputs} inputs, {seconds:.1} s");
-    println!("polls: {count} polls, no difference");
-    ExitCode::SUCCESS
-}
-
 fn main() -> ExitCode {
-    let words: Vec<String> = std::env::args().skip(1).collect();
-    let arguments = match &words[..] {
-        [program, count, seed] => Some((program.clone(), count.parse(), seed.parse())),
-        _ => None,
-    };
-    let Some((program, Ok(count @ 1..), Ok(seed))) = arguments else {
-        eprintln!("usage: polls USE_POLL COUNT SEED");
-        return ExitCode::from(2);
-    };
-    run(program, count, seed).unwrap_or_else(|error| {
-        eprintln!("polls: {error}");
-        ExitCode::from(2)
-    })
+    beside::run::<Case>()
 }

@@ -18,7 +18,7 @@ ROOT = Path(__file__).resolve().parent.parent
 PAGE = ROOT / "docs" / "CRATES.md"
 KIT = {"io", "libc", "os", "bytes", "check"}
 # From the lowest up.
-LAYERS = ["base", "model", "part", "session", "poll", "sheet", "use", "janus", "test", "theory"]
+LAYERS = ["base", "model", "part", "session", "poll", "sheet", "system", "use", "janus", "test", "theory"]
 WAY = re.compile(r"<!-- way -->\n+```\n(.*?)```", re.S)
 
 

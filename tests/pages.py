@@ -17,7 +17,7 @@ CRATES = {folder.name for folder in (ROOT / "crates").iterdir()}
 CODE = ["crates", "crates.txt", "include", "examples", "tests", "reference", "bench", ".ci", "build.sh", "install.sh"]
 TEXTS = {".rt", ".antt", ".h", ".c", ".rs", ".sh", ".py", ".txt", ".edit", ".template", ""}
 PLACES = [ROOT / place for place in [".", "crates", "docs", "tests/theorem-edits", "reference/src", "reference/src/tests"]]
-PATH = re.compile(r"[\w.*/-]+\.(?:md|sh|py|rs|c|h|rt|antt|edit|template|svg|sheet|poll|txt|out)|[\w.*-]+/[\w.*/-]*")
+PATH = re.compile(r"[\w.*/-]+\.(?:md|sh|py|rs|c|h|rt|antt|edit|template|svg|sheet|poll|house|txt|out)|[\w.*-]+/[\w.*/-]*")
 MADE = re.compile(r"/|target/|guides/|.*\b[A-Z]{2,}\b(?!-|\.md)")  # not in the repository, or with a word that stands for something
 
 

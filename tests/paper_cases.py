@@ -1,14 +1,15 @@
 #!/usr/bin/env python3
-"""Holds docs/PAPER-CASES.md, its picture and the sample polls to the rules and to the separately written program.
+"""Holds docs/PAPER-CASES.md, its picture and the sample polls and houses to the rules and to the separately written program.
 
 usage:
-    paper_cases.py check     fails if a table differs, an arrow of the picture, or the text of a poll
+    paper_cases.py check     fails if a table differs, an arrow of the picture, or the text of a poll or a house
     paper_cases.py write     writes the tables and the texts anew
 
 A table stands between `<!-- NAME -->` and `<!-- end -->`. The page must have them in the order in which one works: board, rules,
-picture, refusals, counts, form, cases, polls, and at the end who opens, what the window saves and what is reported.
+picture, refusals, counts, form, cases, polls, houses, and at the end who opens, what the window saves and what is reported.
 
-- `rules`, `turns`, `refusals`, `counts`, `windows`, `opening-refusals`, `poll-rules` and `poll-refusals` are made of paper_rules.py.
+- `rules`, `turns`, `refusals`, `counts`, `windows`, `opening-refusals`, `poll-rules`, `poll-refusals`, `house-rules` and
+  `house-refusals` are made of paper_rules.py.
 - `openings` is worked by them for either caller. Each answer must be the separately written program's.
 - `case NAME` has the turns of examples/NAME.sheet, played by those rules. Each of its lines must be the trace's.
 - `scope` has the starred cases of document 01, with the n and L that they have there, at the window of then and of now. What 01 and
@@ -16,23 +17,27 @@ picture, refusals, counts, form, cases, polls, and at the end who opens, what th
 - `closes` has turns in a closed session (02, wish 10), by those rules. Each must be the trace's, and get the answer that stands here.
 - `form` is the table of a case with nothing in it.
 - `poll NAME` has the turns of examples/NAME.poll, played by the rules of a poll.
+- `house NAME` has the turns of examples/NAME.house, played by the rules of a house, long walks folded. After each turn the house must
+  be the separately written program's. `house-openings`, `house-cases` and `house-alone` have short cases; what becomes of each must be
+  that program's, and what the last turn of each answers is what stands here.
 - `turns-alone` is written and held by turns.py, and here left alone.
 - `report NAME` has the board report of examples/NAME.sheet, played by the rules. It and that of every sample must be the program's.
 
-The text of each examples/NAME.poll as it is played, answers, counts, registers and seats, stands in examples/NAME.out and must be
-the separately written program's. In docs/walk.svg a box is an element with data-stance, an arrow one with data-from and data-to;
-boxes, arrows and their words must be those of the rules, and the picture must fit on an A4 page.
+The text of each examples/NAME.poll and examples/NAME.house as it is played, answers, counts, registers and seats, stands in
+examples/NAME.out and must be the separately written program's. In docs/walk.svg a box is an element with data-stance, an arrow one with
+data-from and data-to; boxes, arrows and their words must be those of the rules, and the picture must fit on an A4 page.
 """
 import re
 import sys
 import xml.etree.ElementTree
-from itertools import zip_longest
+from collections import Counter
+from itertools import groupby, islice, zip_longest
 
 sys.dont_write_bytecode = True
-from paper_lists import LISTS, POLLS, ROOT, poll, poll_texts, printed, read_by, sheet
-from paper_play import POLL, SESSION, Opening, Play, Poll, Turn, shown
-from paper_rules import CLOSE, COUNTS, LIMITS, MOST_SEATS, NEVER_IN_POLLS, OPENING_REFUSALS, RULES, SESSION_STANCES, STANCES, WINDOW
-from paper_rules import window, window_before
+from paper_lists import HOUSES, LISTS, POLLS, ROOT, held, house, house_texts, poll, poll_texts, printed, read_by, sheet
+from paper_play import COUNT_KINDS, HOUSE, POLL, SESSION, House, HouseOpening, Opening, Play, Poll, Turn, shown
+from paper_rules import CLOSE, COUNTS, FOLLOWED, HOUSE_OPENING_REFUSALS, LIMITS, MOST_SEATS, NEVER_IN_POLLS, OPENING_REFUSALS
+from paper_rules import RULES, SESSION_STANCES, STANCES, WINDOW, window, window_before
 
 EXAMPLES = ROOT / "examples"
 PAGE = ROOT / "docs" / "PAPER-CASES.md"
@@ -41,6 +46,7 @@ MARKED = re.compile(r"(<!-- ([\w-]+(?: \w+)?) -->\n)(.*?)(<!-- end -->)", re.S)
 RULE_HEAD = ["Rule", "Stands at", "Turn", "Do", "If", "Then stands at"]
 COUNTED = [count.capitalize() for count, _, _ in COUNTS]
 CASE_HEAD = ["No.", "Turn", "Rule", "Read or written", "T", "C", "D", "Stands at", "r", "Own", *COUNTED]
+HOUSE_HEAD = ["No.", "Turn", "Rule", "Read or written", "Seat stands at", "Stands at", "o", "Value", "V", "H", *COUNTED]
 FORM_ROWS = 30
 NOTHING = "·"
 # In millimetres: A4 less the margins of docs/print.css.
@@ -56,23 +62,28 @@ def table(head, rows):
 # ---------------------------------------------------------------- the rules
 
 def bold(then):
-    """What comes next, its stance bold and `go on` slanted."""
+    """What comes next, its stance bold, and slanted what is followed in the same turn."""
     stance, rest = re.fullmatch(r"([^;]*)(.*)", then).groups()
-    return {"go on": "*go on*", "as before": "as before"}.get(stance, f"**{stance}**") + rest
+    return slanted(stance if stance in (*FOLLOWED, "as before") else f"**{stance}**") + rest
+
+
+def slanted(stance):
+    """A stance, slanted if it is none but is followed in the same turn."""
+    return f"*{stance}*" if stance in FOLLOWED else stance
 
 
 def rule_lines(rules):
     """A line for each thing that may be found."""
     for first, (at, turn, when, does, outcomes) in rules.numbered():
-        turn = "the same turn" if at == "go on" else ", ".join(filter(None, [rules.turns(turn), when]))
+        turn = "the same turn" if at in FOLLOWED else ", ".join(filter(None, [rules.turns(turn), when]))
         for number, (found, then) in enumerate(outcomes, first):
-            yield [number, "*go on*" if at == "go on" else at, turn, does or "nothing", found, bold(then)]
+            yield [number, slanted(at), turn, does or "nothing", found, bold(then)]
 
 
-def rules_table():
+def rules_table(rules=SESSION):
     """What a turn does. Where the seat, the turn and what is done are those of the line above, their cells are empty."""
     rows, above = [], None
-    for number, *cells, found, then in rule_lines(SESSION):
+    for number, *cells, found, then in rule_lines(rules):
         rows.append([number, *(cells if cells != above else [""] * len(cells)), found, then])
         above = cells
     return table(RULE_HEAD, rows)
@@ -352,10 +363,15 @@ def played_poll(name):
     play = Poll(caller, n)
     rows = [[index, *played(play, " ".join(words))[0]] for index, words in enumerate(operations if play.opened else [])]
     [expected] = poll_texts([poll.poll(caller, n, operations)])
+    check_text(name, play, expected)
+    return rows, "".join(f"{line}\n" for line in play.text())
+
+
+def check_text(name, play, expected):
+    """Fails unless the text is the separately written program's."""
     for ours, theirs in zip_longest(play.text(), expected):
         if ours != theirs:
             sys.exit(f"paper cases: {name}: the rules give {ours}, the separately written program {theirs}")
-    return rows, "".join(f"{line}\n" for line in play.text())
 
 
 def poll_table(name):
@@ -363,9 +379,197 @@ def poll_table(name):
     return table(CASE_HEAD, played_poll(name)[0])
 
 
-def poll_outs():
-    """The text of each sample poll, and the file that it stands in."""
-    return {path.with_suffix(".out"): played_poll(path.stem)[1] for path in sorted(EXAMPLES.glob("*.poll"))}
+# ---------------------------------------------------------------- the houses
+
+# A walk through a ward or a poll is the turns at these places. Its first and last ones have a line each, those between share one.
+WALKING, WALK_HEAD, WALK_TAIL = ("work", "look", "poll"), 4, 2
+
+
+def house_line(play, words):
+    """Plays a turn of a house: the worker's place before it, and the page's line without its number."""
+    worker, used = play.of(words), len(play.used)
+    place, register = worker.head if worker else "", play.turn(words)
+    if register.startswith("refused"):
+        return place, [words, "", register, "", "", "", "", *house_columns(play), *play.counts]
+    rules = [", ".join(map(str, some)) for some in (play.used[used:], play.inner) if some]
+    seat = play.seat_in(*re.match(r"(\w+)", register).groups(), worker).stance() if play.inner else ""
+    return place, [words, "; ".join(rules), register, seat, worker.head, worker.round, worker.own, *house_columns(play), *play.counts]
+
+
+def house_columns(play):
+    """The table, row by row to the last one with an entry, and the house register."""
+    held_rows = range(1, max((o for o, _ in play.board["V"]), default=0) + 1)
+    rows = [" ".join(str(play.board["V"].get((o, w), NOTHING)) for w in range(1, play.c + 1)) for o in held_rows]
+    return [" / ".join(rows) or NOTHING, play.board["H"].get(None, NOTHING)]
+
+
+def folded(lines):
+    """The numbered lines, each behind its worker's place, with the middle of each long walk as one line."""
+    for walk, group in groupby(lines, lambda line: line[0] in WALKING and (line[0] == "poll", line[2].split()[1])):
+        group = [line for _, *line in group]
+        middle = group[WALK_HEAD:-WALK_TAIL] if walk else []
+        if len(middle) > 1:
+            first, last = middle[0], middle[-1]
+            rules = " and ".join(sorted({line[2].split(";")[0] for line in middle}))
+            between = [f"{first[0]} to {last[0]}", f"{first[1]}, {len(middle)} times", f"{rules}; ..", "..", *last[4:]]
+            group[WALK_HEAD:-WALK_TAIL] = [between]
+        yield from group
+
+
+def played_house(name):
+    """A sample house, played by the rules: the page's lines, and its text. After each turn it must be the separately written program's."""
+    c, wards, operations = house.listed((EXAMPLES / f"{name}.house").read_text(encoding="utf-8"))
+    play, lines = House(c, wards), []
+    expected = house_texts([house.house(c, wards, operations[:count]) for count in range(len(operations) + 1)])
+    for number, words in enumerate(operations if play.opened else []):
+        check_text(f"{name}, before turn {number}", play, expected[number])
+        place, line = house_line(play, " ".join(words))
+        lines.append([place, number, *line])
+    check_text(name, play, expected[-1])
+    check_alone(name, play)
+    return lines, "".join(f"{line}\n" for line in play.text())
+
+
+def check_alone(name, play):
+    """Fails unless the one seat of a ward takes the rules of the one seat alone, looks left out, as far as it comes."""
+    looks = {outcome[0] for row in SESSION.rows["gate", "look"] for outcome in row.outcomes}
+    solo, _ = played_sheet("solo", (EXAMPLES / "solo.sheet").read_bytes())
+    alone = [rule for rule in solo.used if rule not in looks]
+    for board in sum(play.wards, []):
+        walked = [rule for rule in board.used if rule not in looks]
+        if board.n == 1 and walked != alone[:len(walked)]:
+            sys.exit(f"paper cases: {name}: the one seat of a ward takes the rules {walked}, the seat alone {alone}")
+
+
+def house_table(name):
+    """A house, played by the rules."""
+    return table(HOUSE_HEAD, folded(played_house(name)[0]))
+
+
+def wards_told(wards):
+    """The workers' wards, in number order."""
+    return f"{len(wards)} times {wards[0]}" if len(wards) > 4 and len(set(wards)) == 1 else " ".join(map(str, wards)) or "none"
+
+
+# c, and the ward of each worker.
+HOUSES_OPENED = [(1, []), (5, [1] * 65), (1, [1] * 64), (1, [1] * 17), (1, [1] * 16), (0, [1]), (5, [1, 2, 3, 4, 5]), (2, [0, 2])]
+HOUSES_OPENED += [(2, [1, 3]), (2, [1, 1]), (2, [1, 2]), (4, [4, 3, 2, 1])]
+
+
+def house_openings_table():
+    """What a house's opening is refused with, and openings worked by that; each answer must be the program's, and each row is met."""
+    rows, met = [], set()
+    for c, wards in HOUSES_OPENED:
+        opening, [[line, *_]] = HouseOpening(c, wards), house_texts([house.house(c, wards, [])])
+        if line != f"house {c} {len(wards)} {opening.number}":
+            sys.exit(f"paper cases: c {c}, wards {wards}: the rules give {opening.number}, the separately written program {line}")
+        met.add(opening.place)
+        rows.append([c, wards_told(wards), len(wards), f"refused with {opening.number}" if opening.number else "opened"])
+    if len(met) != 1 + len(HOUSE_OPENING_REFUSALS):
+        sys.exit(f"paper cases: of the refusals of a house's opening these alone are met: {met}")
+    return table(["Refused with", "If"], HOUSE_OPENING_REFUSALS) + "\n" + table(["c", "The workers' wards", "n", "The house is"], rows)
+
+
+# The workers' wards; turns, and the last of them; and what it answers, a refusal or its register operation.
+BOTH = "propose 0 3, propose 1 8"
+HOUSE_CASES = [
+    ([1, 2], "", "propose 2 0", "refused 4"),
+    ([1, 2], "", "propose 0 0", "refused 5"),
+    ([1, 2], "propose 0 3", "propose 0 0", "refused 5"),
+    ([1, 2], "propose 0 3", "propose 0 8", "refused 6"),
+    ([1, 2], "", "turn 0 yes", "refused 7"),
+    ([1, 2], "", "look 0", "refused 7"),
+    ([1, 2], "", "crash 0", "refused 7"),
+    ([1, 2], "propose 0 3", "turn 0 no", "ward 1: none"),
+    ([1, 2], "propose 0 3, turn 0 yes", "turn 0 no", "ward 1: none"),
+    ([1, 2], "propose 0 3, 30 times turn 0 yes", "look 0", "H read blank"),
+    ([1, 2], "propose 0 3, 48 times turn 0 yes", "look 0", "H read 3"),
+    ([1, 2], "propose 0 3, 48 times turn 0 yes, look 0", "turn 0 yes", "refused 8"),
+    ([1, 2], "propose 0 3, 30 times turn 0 yes", "crash 0", "none"),
+    ([1, 2], "propose 0 3, 30 times turn 0 yes, crash 0", "look 0", "refused 8"),
+    ([1, 1], f"{BOTH}, 62 times turn 0 yes, 2 times turn 1 yes", "turn 1 yes", "ward 1: D read 3"),
+    ([1, 1], f"{BOTH}, 62 times turn 0 yes, 3 times turn 1 yes", "turn 1 yes", "V[1, 1] written 3"),
+    ([1], "propose 0 7, 327 times turn 0 yes", "turn 0 yes", "H written 7"),
+    ([1], "propose 0 7, 328 times turn 0 yes", "turn 0 yes", "refused 9"),
+    ([1, 1], f"{BOTH}, 2265 turns held back in the ward", "turn 1 yes", "ward 1: none"),
+    ([1, 1], f"{BOTH}, 2266 turns held back in the ward", "turn 0 yes", "refused 9"),
+    ([1, 1], f"{BOTH}, 2266 turns held back in the ward", "look 0", "H read blank"),
+    ([1, 1], f"{BOTH}, 2266 turns held back in the ward", "crash 0", "none"),
+    ([1, 2], f"{BOTH}, 711 turns held back in the poll", "turn 1 yes", "V[8, 2] read 8"),
+    ([1, 2], "reads 4294967295", "turn 2 yes", "refused 4"),
+    ([1, 2], "reads 4294967295", "turn 0 yes", "refused 7"),
+    ([1, 2], "propose 0 3, reads 4294967295", "turn 0 yes", "refused 16"),
+    ([1, 2], "propose 0 3, reads 4294967295", "look 0", "refused 16"),
+    ([1, 2], "propose 0 3, reads 4294967295", "crash 0", "none"),
+]
+
+
+def turns_told(play, words):
+    """The turns that the words of a short case stand for, each in the house as those before it leave it."""
+    for part in filter(None, words.split(", ")):
+        if found := re.fullmatch(r"(\d+) times (.+)", part):
+            yield from [found[2]] * int(found[1])
+        elif found := re.fullmatch(r"(\d+) turns held back in the (ward|poll)", part):
+            yield from islice(held(play, found[2]), int(found[1]))
+        else:
+            yield re.sub("^reads", f"set {COUNT_KINDS[0]} 0", part)
+
+
+def short_house(wards, before):
+    """A house after these turns, and the turns."""
+    play, turns = House(max(wards), wards), []
+    for words in turns_told(play, before):
+        play.turn(words)
+        turns.append(words)
+    return play, turns
+
+
+def check_short(play, wards, turns):
+    """Fails unless what becomes of a short case is the separately written program's."""
+    [text] = house_texts([house.house(play.c, wards, [words.split() for words in turns])])
+    check_text(f"wards {wards_told(wards)}, {len(turns)} turns to {turns[-1]}", play, text)
+
+
+def house_cases_table():
+    """Short cases of houses, by the rules; the last turn of each answers as it should."""
+    rows = []
+    for wards, before, words, said in HOUSE_CASES:
+        play, turns = short_house(wards, before)
+        _, (_, rule, register, _, *stands, _, _, reads, writes, contested) = house_line(play, words)
+        if register != said:
+            sys.exit(f"paper cases: wards {wards_told(wards)}, {before}: {words} should be {said}, and is {register}")
+        check_short(play, wards, [*turns, words])
+        rows.append([wards_told(wards), before, words, rule, register, *stands, reads, writes, contested])
+    return table(["Wards", "Before", "Turn", "Rule", "Read or written", "Then stands at", "o", "Value", *COUNTED], rows)
+
+
+# The workers' wards, and the one of them that is alone.
+HOUSES_ALONE = [([1], 0), ([1, 2], 0), ([1, 1], 0), ([1, 1, 2], 0), ([1, 2, 3, 4], 3), ([1] * 16, 15)]
+
+
+def house_alone_table():
+    """One worker alone, to its first house write and its house look."""
+    rows = []
+    for wards, alone in HOUSES_ALONE:
+        play, turns = short_house(wards, f"propose {alone} 7")
+        places = Counter()
+        while not play.board["H"]:
+            places[play.seats[alone].head] += 1
+            turns.append(f"turn {alone} yes")
+            play.turn(turns[-1])
+        turns.append(f"look {alone}")
+        play.turn(turns[-1])
+        check_short(play, wards, turns)
+        boards = [board.window for board in (play.wards[0][0], play.polls[0])]
+        rows.append([wards_told(wards), alone, *boards, places.total(), *[places[place] for place in WALKING], *play.counts])
+    walks = ["Of them at work", "At look", "At poll"]
+    return table(["Wards", "Worker", "Ward's W", "Poll's W", "Turns to the house write", *walks, *COUNTED], rows)
+
+
+def text_outs():
+    """The text of each sample poll and house, and the file that it stands in."""
+    kinds = {"poll": played_poll, "house": played_house}
+    return {path.with_suffix(".out"): play(path.stem)[1] for kind, play in kinds.items() for path in sorted(EXAMPLES.glob(f"*.{kind}"))}
 
 
 def form_table():
@@ -393,6 +597,12 @@ TABLES = {
     "poll-rules": poll_rules_table,
     "poll-refusals": lambda: refusals_table(POLL),
     "poll": poll_table,
+    "house-openings": house_openings_table,
+    "house-rules": lambda: rules_table(HOUSE),
+    "house-refusals": lambda: refusals_table(HOUSE),
+    "house": house_table,
+    "house-cases": house_cases_table,
+    "house-alone": house_alone_table,
     "opening-refusals": opening_refusals_table,
     "openings": openings_table,
     "turns-alone": None,
@@ -477,20 +687,21 @@ def main():
     page = PAGE.read_text(encoding="utf-8")
     kinds = check_order(page)
     new = MARKED.sub(lambda m: m[0] if m[2] in ELSEWHERE else m[1] + "\n" + made(m[2]) + "\n" + m[4], page)
-    texts = {PAGE: new, **poll_outs()}
+    texts = {PAGE: new, **text_outs()}
     if words == ["write"]:
         for path, text in texts.items():
             path.write_text(text, encoding="utf-8")
     for path, text in texts.items():
         if not path.exists() or path.read_text(encoding="utf-8") != text:
             sys.exit(f"paper cases: {path.relative_to(ROOT)} differs from the rules or the trace; `tests/paper_cases.py write` writes it anew")
-    for random in f"{LISTS:,} random lists", f"{POLLS:,} random polls":
+    for random in f"{LISTS:,} random lists", f"{POLLS:,} random polls", f"{HOUSES:,} random houses":
         if random not in page:
             sys.exit(f"paper cases: the page does not speak of {random}")
-    cases, polls, reports, others = *map(kinds.count, ("case", "poll", "report")), sum(map(kinds.count, ELSEWHERE))
-    print(f"paper cases: {cases} cases and {len(CLOSED)} turns in closed sessions are the trace's, {polls} of a poll, {len(texts) - 1} polls' "
-          f"texts and {check_reports()} reports the program's, {len(kinds) - cases - polls - reports - others} tables and {check_picture()} "
-          f"arrows the rules'; document 01 says so of {len(SCOPE)} cases")
+    cases, polls, houses, reports, others = *map(kinds.count, ("case", "poll", "house", "report")), sum(map(kinds.count, ELSEWHERE))
+    short, tables = len(HOUSE_CASES) + len(HOUSES_ALONE), len(kinds) - cases - polls - houses - reports - others
+    print(f"paper cases: {cases} cases and {len(CLOSED)} turns in closed sessions are the trace's, {polls} of a poll, {houses} of a house, "
+          f"{short} short ones of houses, {len(texts) - 1} texts of polls and houses and {check_reports()} reports the program's, {tables} tables "
+          f"and {check_picture()} arrows the rules'; document 01 says so of {len(SCOPE)} cases")
 
 
 if __name__ == "__main__":

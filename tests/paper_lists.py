@@ -1,8 +1,8 @@
 #!/usr/bin/env python3
-"""Plays random lists and random polls by the rules of docs/PAPER-CASES.md and compares each line with what the separately written
-program has: the trace of a list, the text of a poll.
+"""Plays random lists, polls and houses by the rules of docs/PAPER-CASES.md and compares each line with what the separately written
+program has: the trace of a list, the text of a poll or a house.
 
-usage: paper_lists.py [LISTS [SEED]]      and a third as many polls; 3000 lists from seed 1 where left out
+usage: paper_lists.py [LISTS [SEED]]      a third as many polls, a thirtieth as many houses; 3000 lists from seed 1 where left out
 
 Every rule and every refusal must be met, and marks of rounds that are unmarked and of rounds that are marked. Each list and each poll
 must leave as many rounds marked as contested says. Seats must become spent by turns with hint no, and take a further turn. Sessions must
@@ -10,7 +10,9 @@ be closed, before and after every stance is reached, closed again, worked on, lo
 their numbers; after a close no number may join those that were proposed. In polls too
 every rule and every refusal must be met, but for the rules that the page says are never taken; every answer must be a number that
 was proposed, the same for all seats where one has committed, and committed where all propose the same. Some polls are the cart's, with
-its most seats and with more among them. What opening answers to either caller must be the program's for every n.
+its most seats and with more among them. What opening answers to either caller must be the program's for every n. In houses too every
+rule and every refusal must be met, that of a full count apart. All decided workers must hold one number that was proposed to the house,
+and there must be such houses in which two wards decided different numbers.
 """
 import random
 import subprocess
@@ -22,21 +24,24 @@ ROOT = Path(__file__).resolve().parent.parent
 PROGRAM = ROOT / "target" / "reference" / "reference"
 sys.dont_write_bytecode = True
 sys.path.append(str(ROOT / "examples"))
+import house
 import poll
 import sheet
-from paper_play import POLL, SESSION, Opening, Play, Poll
-from paper_rules import ANSWERS, CLOSE, COUNTS, LIMITS, MOST_SEATS, NEVER_IN_POLLS, REFUSALS, STANCES, window
+from paper_play import HOUSE, POLL, SESSION, House, HouseOpening, Opening, Play, Poll
+from paper_rules import ANSWERS, CLOSE, COUNTS, LIMITS, MOST_SEATS, MOST_WARDS, NEVER_IN_POLLS, PLACES, REFUSALS, STANCES, window
 
 LISTS, SEED = 3000, 1
-POLLS = LISTS // 3
+POLLS, HOUSES = LISTS // 3, LISTS // 30
 MOST_TURNS = 130
+# No list here comes to it.
+COUNTS_FULL = 16
 CART_SEATS, _ = LIMITS["cart"]
 
 
 class Composer:
     """Makes up a list of turns while it is played, most of them legal."""
 
-    waking = "check-value"
+    waking, hinted = "check-value", "work"
 
     def __init__(self, chance):
         self.chance, n = chance, chance.randint(1, 6)
@@ -86,7 +91,7 @@ class Composer:
         seat, kind = self.chance.randint(0, self.play.n), self.chance.choice(list(self.play.rules.kinds))
         if kind == CLOSE:
             return kind
-        rest = {"propose": [self.chance.randint(0, 1)], "work": [self.chance.choice(["yes", "no"])]}.get(kind, [])
+        rest = {"propose": [self.chance.randint(0, 1)], self.hinted: [self.chance.choice(["yes", "no"])]}.get(kind, [])
         return " ".join(map(str, [kind, seat, *rest]))
 
     def add(self, words):
@@ -146,6 +151,8 @@ class PollComposer(Composer):
     """Makes up a poll, in which a refused turn ends nothing. One that is asleep may sleep until another one has committed. Now and then
     the cart opens one with all its seats, or is refused one with more."""
 
+    odd = 0.02
+
     def opened(self, n):
         self.waking = self.chance.choice(["check-value", "committed"])
         caller = self.chance.choice(list(LIMITS))
@@ -161,14 +168,18 @@ class PollComposer(Composer):
         """The whole poll: turns that are not refused, to the answers of most seats, and some that may be; any turns if it is not opened."""
         if not self.play.opened:
             self.turns = [self.any_words() for _ in range(self.chance.randrange(MOST_TURNS))]
-        for _ in range(self.chance.randrange(3 * MOST_TURNS * self.play.n) if self.play.opened else 0):
+        for _ in range(self.length() if self.play.opened else 0):
             words = self.words()
             if self.play.legal(words):
                 self.add(words)
-            elif self.chance.random() < 0.02:
+            elif self.chance.random() < self.odd:
                 self.add(self.any_words())
         self.lines = self.play.text()
         return self
+
+    def length(self):
+        """How many turns are made up."""
+        return self.chance.randrange(3 * MOST_TURNS * self.play.n)
 
     def add(self, words):
         """Plays one turn."""
@@ -178,6 +189,55 @@ class PollComposer(Composer):
     def poll(self):
         """The poll's bytes."""
         return poll.poll(self.play.caller, self.play.n, [words.split() for words in self.turns])
+
+
+def held(play, which):
+    """Turns of a house, one after another as those before them leave it: a worker that stands before a write to T in its ward, or in its
+    poll, is held back until another one stands before the same write; the lowest number that is not held back comes first."""
+    met = set()
+    while working := [worker for worker in play.seats if worker.head in PLACES]:
+        writes = {}
+        for worker in working:
+            seat = play.seat_in(which, worker)
+            if worker.head == {"ward": "work", "poll": "poll"}[which] and seat.head == "put":
+                writes[worker] = (play.board_of(which, worker)[0], seat.round)
+        met |= {write for write, workers in Counter(writes.values()).items() if workers > 1}
+        free = [worker for worker in working if worker not in writes or writes[worker] in met]
+        yield f"turn {(free or working)[0].number} yes"
+
+
+class HouseComposer(PollComposer):
+    """Makes up a house. In some two workers hold each other back in their ward or in the polls."""
+
+    hinted, odd = "turn", 0.5
+
+    def __init__(self, chance):
+        super().__init__(chance)
+        self.asleep = None
+
+    def opened(self, n):
+        chance, which = self.chance, self.chance.choice(["ward", "poll", *[None] * 10])
+        c = {"ward": 1, "poll": 2}.get(which) or chance.randint(1, min(n, MOST_WARDS))
+        wards = [*range(1, c + 1), *(chance.randint(1, c) for _ in range((2 if which else n) - c))]
+        chance.shuffle(wards)
+        play = House(c, wards)
+        self.held = held(play, which) if which else None
+        return play
+
+    def length(self):
+        return 3000 if self.held else self.chance.randrange(9 * MOST_TURNS)
+
+    def words(self):
+        if self.held and all(worker.head != "out" for worker in self.play.seats):
+            return next(self.held, None) or self.any_words()
+        return super().words()
+
+    def words_after_proposal(self):
+        return super(PollComposer, self).words_after_proposal().replace("work", "turn")
+
+    def house(self):
+        """The house's bytes."""
+        return house.house(self.play.c, [worker.ward for worker in self.play.seats], [words.split() for words in self.turns])
 
 
 def printed(what, data):
@@ -202,14 +262,24 @@ def traces(sheets):
     return found[:-1]
 
 
-def poll_texts(polls):
-    """The program's text of each poll."""
+def texts(kind, lists):
+    """The program's text of each poll or house."""
     found = []
-    for line in printed("polls", b"".join(polls)):
-        if line.startswith("poll "):
+    for line in printed(f"{kind}s", b"".join(lists)):
+        if line.startswith(f"{kind} "):
             found.append([])
         found[-1].append(line)
     return found
+
+
+def poll_texts(polls):
+    """The program's text of each poll."""
+    return texts("poll", polls)
+
+
+def house_texts(houses):
+    """The program's text of each house."""
+    return texts("house", houses)
 
 
 def compare(what, lists, found):
@@ -217,7 +287,7 @@ def compare(what, lists, found):
     for number, (one, expected) in enumerate(zip(lists, found, strict=True)):
         for ours, theirs in zip(one.lines + ["the end"], expected + ["the end"]):
             if ours != theirs:
-                turns = "\n".join([one.play.caller, f"n {one.play.n}", f"L {one.play.limit}", *one.turns])
+                turns = "\n".join([*one.play.head(), *one.turns])
                 sys.exit(f"paper lists: {what} {number}\n{turns}\nby the rules {ours}\nby the program {theirs}")
 
 
@@ -225,11 +295,11 @@ def check_used(lists, rules, never=()):
     """Fails if a rule or a refusal was never met, or a rule that is never to be met was."""
     used = Counter(rule for one in lists for rule in one.play.used)
     refusals = Counter(refusal for one in lists for refusal in one.play.refusals)
-    for rule in range(1, sum(len(row[4]) for row in rules.rules) + 1):
+    for rule in rules.numbers():
         if (rule in never) != (used[rule] == 0):
             sys.exit(f"paper lists: rule {rule} was used {used[rule]} times")
     for place, row in enumerate(rules.refusals):
-        if not refusals[place]:
+        if not refusals[place] and row[0] != COUNTS_FULL:
             sys.exit(f"paper lists: this refusal was never met: {row}")
     return len(used), len(refusals), min(used.values())
 
@@ -238,8 +308,8 @@ def check_marks(lists):
     """Fails if contested is not the number of marked rounds, or if one kind of mark is seldom made."""
     contested = [count for count, _, _ in COUNTS].index("contested")
     for number, one in enumerate(lists):
-        if one.play.counts[contested] != len(one.play.board["C"]):
-            sys.exit(f"paper lists: list {number}: contested {one.play.counts[contested]}, marked rounds {sorted(one.play.board['C'])}")
+        if one.play.counts[contested] != one.play.marked():
+            sys.exit(f"paper lists: list {number}: contested {one.play.counts[contested]}, marked rounds {one.play.marked()}")
     made = Counter(made for one in lists for made in one.play.made)
     first = made["mark of an unmarked round"]
     again = made["mark"] - first
@@ -301,6 +371,22 @@ def check_carts(polls):
     return sum(one.play.caller == "cart" for one in polls), full, sum(not one.play.opened for one in polls)
 
 
+def check_houses(houses):
+    """Fails if a decided number was not proposed, if two are decided in one house, or if in few houses with a decision two wards of an
+    outer round decided different numbers; how many have a decision, and how many such wards too."""
+    apart = 0
+    for number, one in enumerate(houses):
+        decided = {worker.own for worker in one.play.seats if worker.head == "decided"}
+        proposed = {int(line.split()[2]) for line in one.lines if line.startswith("propose") and line.endswith(" 0")}
+        if len(decided) > 1 or not decided <= proposed:
+            sys.exit(f"paper lists: house {number}: proposed {proposed}, decided {decided}")
+        rounds = [{board.board["D"][None] for board in boards if board.board["D"]} for boards in zip(*one.play.wards)]
+        apart += bool(decided) and max(map(len, rounds)) > 1
+    if apart * 50 < len(houses):
+        sys.exit(f"paper lists: {apart} houses decided whose wards did not agree are too few")
+    return sum("decided" in {worker.head for worker in one.play.seats} for one in houses), apart
+
+
 def openings(caller):
     """Each poll, by its n, and each session, about W and the limits of both callers, with its number by the rules and by the program."""
     for n, text in enumerate(poll_texts([poll.poll(caller, n, []) for n in range(256)])):
@@ -311,9 +397,19 @@ def openings(caller):
                 yield f"session, n {n}, L {limit}", Opening(caller, "session", n, limit).number, read_by(caller, sheet.sheet(n, limit, []))
 
 
+def house_openings():
+    """Houses of 0 to 6 wards and of numbers of workers about the limits, with all wards taken, one worker in ward 0 or c + 1, or all in
+    ward 1: each with its number by the rules and by the program."""
+    taken = [(c, [number % (c or 1) + 1 for number in range(n)]) for c in range(7) for n in [*range(20), 63, 64, 65, 66]]
+    opened = taken + [(c, [1] * len(wards)) for c, wards in taken]
+    opened += [(c, [first, *wards[1:]]) for c, wards in taken if wards for first in (0, c + 1)]
+    for (c, wards), text in zip(opened, house_texts([house.house(c, wards, []) for c, wards in opened])):
+        yield f"house, c {c}, wards {wards}", HouseOpening(c, wards).number, int(text[0].split()[3])
+
+
 def check_openings():
-    """Fails unless the numbers of either caller's openings are the program's; how many they are."""
-    found = [(caller, *one) for caller in LIMITS for one in openings(caller)]
+    """Fails unless the numbers of either caller's openings, and of those of houses, are the program's; how many they are."""
+    found = [(caller, *one) for caller in LIMITS for one in openings(caller)] + [("server", *one) for one in house_openings()]
     for caller, what, ours, theirs in found:
         if ours != theirs:
             sys.exit(f"paper lists: the {caller}'s {what}: by the rules {ours}, by the program {theirs}")
@@ -351,7 +447,11 @@ def main():
     carts, full, refused = check_carts(polls)
     print(f"paper lists: {told}; {check_answers(polls)} polls with both answers; {carts} polls of the cart's, {full} with {CART_SEATS} seats, "
           f"{refused} refused")
-    print(f"paper lists: {check_openings()} openings, by the server and by the cart, answered as the program answers them")
+    houses = [HouseComposer(chance).compose() for _ in range(count * HOUSES // LISTS)]
+    told = checked("house", houses, house_texts([one.house() for one in houses]), HOUSE)
+    decided, apart = check_houses(houses)
+    print(f"paper lists: {told}; {decided} houses with decided workers, {apart} of them with wards that decided different numbers")
+    print(f"paper lists: {check_openings()} openings, by the server and by the cart, of houses too, answered as the program answers them")
 
 
 if __name__ == "__main__":

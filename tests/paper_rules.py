@@ -1,7 +1,7 @@
 """The rules of docs/PAPER-CASES.md, each written once.
 
 paper_cases.py makes the page's tables of these rows and holds the picture docs/walk.svg to them; paper_lists.py plays random
-lists and polls by them, in these very words (paper_play.py knows what each word does), beside the separately written program.
+lists, polls and houses by them, in these very words (paper_play.py knows what each word does), beside the separately written program.
 
 In the rows r is the seat's round, k or i the number that stands with its stance, n the number of seats, L the round limit, W
 the window and p the number of a sheet's pairs.
@@ -31,6 +31,9 @@ CLOSE = "close"
 
 # The stances at which a seat is working.
 WORKING = STANCES[STANCES.index("gate"):STANCES.index("commit") + 1]
+
+# No stances: rows that are followed in the same turn.
+FOLLOWED = ["go on", "next round"]
 
 # Stands at, turn, if, does, and for each thing that may be found: what the seat then stands at. Of the rows for a stance and a
 # turn the first one that fits is taken, and of what is found the first one that fits. "go on" is no stance: it is followed in
@@ -186,3 +189,67 @@ POLL_REFUSALS = list(poll_refusals())
 # The outcomes, as the page numbers them, that no turn of a poll has: no seat is at gate in round L, no turn has hint no, and there are
 # no looks and no closes.
 NEVER_IN_POLLS = [2, 3, 24, 25, 27]
+
+# ---------------------------------------------------------------- houses
+
+# 02, wish 11: "c at most 4, at most 16 workers"; "for each outer round, 1 to 8, one session for each ward and one poll"; "64 rounds".
+MOST_WARDS, MOST_WORKERS, OUTER_ROUNDS, WARD_ROUNDS = 4, 16, 8, 64
+
+# Where a worker is working: what its next turn does.
+PLACES = ["propose-ward", "work", "look", "write-table", "propose-poll", "poll", "read-table", "write-house"]
+WORKER_STANCES = ["out", *PLACES, "spent", "crashed", "decided"]
+
+# Rows as those of a session, for a worker. o is its outer round, w its ward, a the ward that the poll answers it, V the value table and H
+# the house register. The ward and the poll are the boards of its outer round, played by the rules of a session and of a poll, and the ward
+# seat is its seat there; the decision is the number that a decided ward seat holds. A look is a house look.
+HOUSE_RULES = [
+    ("out", "propose", "", "", [("", "propose-ward; the number proposed becomes the value")]),
+    # "A worker proposes its value to its ward's session": "the first turn of an outer round only proposes to the ward"
+    ("propose-ward", "turn", "", "propose the value to the ward", [("", "work")]),
+    # "In a ward session a worker's turns alternate, work first, then a look at the ward's D"; it "works and looks until decided"; it
+    # "becomes spent in the turn that .. makes its ward seat spent"
+    ("work", "turn", "", "work in the ward, with the hint", [("the ward seat is now spent", "spent"), ("otherwise", "look")]),
+    ("look", "turn", "", "look at the ward's D", [("the ward seat is now decided", "write-table"), ("otherwise", "work")]),
+    ("write-table", "turn", "", "write the decision to V[o, w]", [("", "propose-poll")]),
+    # It "polls with its ward number": "the turn after the table write only proposes to the poll"
+    ("propose-poll", "turn", "", "propose w to the poll", [("", "poll")]),
+    ("poll", "turn", "", "take a turn in the poll", [("it answers", "read-table"), ("otherwise", "poll")]),
+    # It "reads the table at the answer's ward and takes that value"; "a blank table entry leaves the value"
+    (
+        "read-table",
+        "turn",
+        "",
+        "read V[o, a]; if filled, it becomes the value",
+        [("the answer is committed", "write-house"), ("the answer is adopted", "next round")],
+    ),
+    # "Committed, it then writes the house's own decision register; either way the next outer round follows"
+    ("write-house", "turn", "", "write the value to H", [("", "next round")]),
+    # It "becomes spent in the turn that ends outer round 8"
+    ("next round", "turn", "", "", [("o is 8", "spent"), ("otherwise", "propose-ward; add 1 to o")]),
+    # "A house look at the house register, taken instead of a turn by a working or spent worker, ends it as decided if filled"
+    ("any working place, spent", "look", "", "read H", [("blank", "as before"), ("filled", "decided; it becomes the value")]),
+    ("any working place, spent", "crash", "", "", [("", "crashed")]),
+]
+
+
+def house_refusals():
+    """The refusals of a house: "Seat refusals 4 to 9 and 16 keep their order". A house is not closed."""
+    for number, turns, met in REFUSALS:
+        if met != "the session is closed":
+            yield number, turns.replace("work", "turn"), met.replace("seat", "worker")
+    yield 16, "turn, look", "a count is already 4,294,967,295"
+
+
+HOUSE_REFUSALS = list(house_refusals())
+
+# Number, if: "c not 1 to 4, over 16 workers, a worker's ward not 1 to c, or an empty ward; at opening, after 1 by the server's limits".
+HOUSE_OPENING_REFUSALS = [
+    (1, "n is 0"),
+    (1, f"n is above {MOST_SEATS}"),
+    (19, "c is 0"),
+    (19, f"c is above {MOST_WARDS}"),
+    (19, f"n is above {MOST_WORKERS}"),
+    (19, "a worker's ward is 0"),
+    (19, "a worker's ward is above c"),
+    (19, "a ward has no worker"),
+]

@@ -102,6 +102,23 @@ told 1 '10923 operations are too many' "$poll" <(echo n 1; yes turn 0 | head -n 
 told 1 'No such file' "$poll" "$out/none.poll"
 told 2 'try --help' "$poll" one two three
 
+# ---------------------------------------------------------------- house.py, which reads its lines as poll.py does
+house=$root/examples/house.py
+printf 'c 2\npropose 1 258\nturn 1 yes # a remark\nturn 0 no\nlook 0\ncrash 1\nset 146 3 7\nwards 2 1\n' >"$out/here.house"
+printf '\2\2\2\1\6\0\0\1\2\1\0\0\1\1\1\0\0\0\1\0\0\0\0\0\3\0\0\0\0\0\2\1\0\0\0\0\222\3\7\0\0\0' >"$out/here.bytes"
+same <("$house" "$out/here.house") "$out/here.bytes"
+same <(printf 'wards\nc 0\n' | "$house") <(printf '\0\0\0\0')
+"$house" --help >"$out/help"
+grep -q '^usage: house.py \[HOUSE \[BYTES\]\]' "$out/help"
+told 1 'line 2: turn takes WORKER HINT, not 0' "$house" <(printf 'c 2\nturn 0\n')
+told 1 'line 1: n is none of c, wards, propose, turn, look, crash, set' "$house" <(echo n 2)
+told 1 'line 3: wards is given twice' "$house" <(printf 'wards 1\nc 1\nwards 1\n')
+told 1 'line 1: ward 256 is out of range' "$house" <(echo wards 1 256)
+told 1 'there is no line c' "$house" <(echo wards 1)
+told 1 'there is no line wards; c and wards must be given' "$house" <(echo c 1)
+told 1 '256 workers are too many' "$house" <(echo c 1; echo wards $(yes 1 | head -n 256))
+told 1 '10922 operations are too many: the program reads 10921 at most' "$house" <(printf 'c 1\nwards 1 1 1\n'; yes look 0 | head -n 10922)
+
 # ---------------------------------------------------------------- a tree of its own, with a script in place of rt
 export PATH=$out/bin:$PATH
 cat >"$out/bin/rt" <<'RT'
@@ -145,10 +162,11 @@ model: base io
 other: base model
 use_report: io base model
 test_poll: model base
+test_house: model base
 janus: model
 CRATES
 cp -r build.sh common.sh install.sh include "$out/tree"
-cp examples/{report.sh,poll.sh,poll.py,sheet.py,two_decide.sheet,two_answers.poll} "$out/tree/examples"
+cp examples/{report.sh,poll.sh,house.sh,poll.py,house.py,sheet.py,two_decide.sheet,two_answers.poll,two_wards.house} "$out/tree/examples"
 cd "$out/elsewhere"
 cp "$made" here.sheet
 cp "$list" here.txt
@@ -215,12 +233,21 @@ same <(without_seconds stderr) <(told_of test_poll)
 same stdout <(echo build 6; "$poll" "$root/examples/two_answers.poll")
 same stderr /dev/null
 
+# ---------------------------------------------------------------- house.sh
+play=$out/tree/examples/house.sh
+told 2 'one house at a time; this is too much: b' "$play" a b
+"$play" >stdout 2>stderr
+same stdout <(echo build 7; "$house" "$root/examples/two_wards.house")
+same <(without_seconds stderr) <(told_of test_house)
+"$play" "$out/here.house" >stdout 2>stderr
+same stdout <(echo build 7; cat "$out/here.bytes")
+
 # ---------------------------------------------------------------- build.sh and install.sh
 build=$out/tree/build.sh
 told 2 "there is no part called 'more'" "$build" archive more
 told 2 "there is no crate called 'use_more'" "$build" use_more
 told 2 'no part is named' "$build"
-same <(wc -l <"$out/tree/calls") <(echo 6)
+same <(wc -l <"$out/tree/calls") <(echo 7)
 "$out/tree/install.sh" prefix >stdout 2>stderr
 same <(without_seconds stderr) <(told_of janus)
 same stdout <(echo "installed include/janus.h, lib/libjanus.a and lib/pkgconfig/janus.pc under $PWD/prefix")

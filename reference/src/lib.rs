@@ -25,6 +25,8 @@
 #![forbid(unsafe_code)]
 
 pub mod board;
+pub mod house;
+pub mod houses;
 pub mod phase;
 pub mod poll;
 pub mod polls;
@@ -43,6 +45,8 @@ pub mod write;
 mod tests;
 
 pub use board::{Access, Counts, Registers};
+pub use house::{House, Place, Stance, Worker};
+pub use houses::{house_bytes, houses, HouseCall};
 pub use phase::{Phase, Process};
 pub use poll::{Answer, Poll, Voter};
 pub use polls::{poll_bytes, polls, Call};

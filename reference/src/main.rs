@@ -1,5 +1,5 @@
 //! The program `reference`: a sheet on standard input, its report, its trace or
-//! the C entry's answer on standard output; or polls, and what becomes of them.
+//! the C entry's answer on standard output; or polls or houses, and what becomes of them.
 //!
 //! - `reference report` prints the board report (01, "The board report").
 //! - `reference trace [WINDOW]` prints one line an entry, with that window in place
@@ -9,6 +9,7 @@
 //!   in 16 bits, and a blank line after each.
 //! - `reference polls` prints what becomes of many polls; the format of both is
 //!   described in `polls.rs`.
+//! - `reference houses` does so for many houses; both formats are in `houses.rs`.
 //! - `reference entry BUDGET` prints `code CODE`, the C entry's answer, and a
 //!   line `seat S decided VALUE` for each place of the buffer that is not 0
 //!   (01, "Turn sheets").
@@ -25,11 +26,12 @@ use std::process::ExitCode;
 use janus_reference::runner::BUFFER;
 use janus_reference::sheet::MAX_BYTES;
 use janus_reference::{
-    entry, polls, report, run, trace, trace_at, traces, Caller, Counts, Refusal, Session, Sheet,
+    entry, houses, polls, report, run, trace, trace_at, traces, Caller, Counts, Refusal, Session,
+    Sheet,
 };
 
 const USAGE: &str =
-    "usage: reference report | trace [WINDOW] | traces | polls | entry BUDGET | run BUDGET PLACES [cart]   (sheet or polls on standard input)";
+    "usage: reference report | trace [WINDOW] | traces | polls | houses | entry BUDGET | run BUDGET PLACES [cart]   (sheet, polls or houses on standard input)";
 
 fn main() -> ExitCode {
     let arguments: Vec<String> = std::env::args().skip(1).collect();
@@ -42,6 +44,7 @@ fn main() -> ExitCode {
         ["trace", _] => (one, trace_text),
         ["traces"] => (u64::MAX, |sheets, _| traces(sheets)),
         ["polls"] => (u64::MAX, |bytes, _| polls(bytes)),
+        ["houses"] => (u64::MAX, |bytes, _| houses(bytes)),
         ["entry", _] => (one, entry_text),
         ["run", _, _] => (one, |sheet, told| run_text(Caller::Server, sheet, told)),
         ["run", _, _, "cart"] => (one, |sheet, told| run_text(Caller::Cart, sheet, told)),

@@ -35,7 +35,15 @@ pub enum Voter {
 
 impl Voter {
     /// A process that has not proposed.
-    const IDLE: Voter = Voter::Walking(Process::IDLE);
+    pub(crate) const IDLE: Voter = Voter::Walking(Process::IDLE);
+
+    /// The own value.
+    pub const fn value(self) -> u32 {
+        match self {
+            Voter::Walking(process) => process.estimate,
+            Voter::Answered(answer, _) => answer.value(),
+        }
+    }
 }
 
 /// One pass, adopt or commit. (02, wish 6: a poll.)
@@ -112,7 +120,7 @@ impl Poll {
         self.propose_trusted(process, value)
     }
 
-    fn propose_trusted(&mut self, process: usize, value: u32) -> Result<(), Refusal> {
+    pub(crate) fn propose_trusted(&mut self, process: usize, value: u32) -> Result<(), Refusal> {
         let voter = present(&mut self.voters[..self.n], process)?;
         if value == 0 {
             return Err(Refusal::BlankProposal);
@@ -146,7 +154,7 @@ impl Poll {
         self.step_trusted(window, process, counts)
     }
 
-    fn step_trusted(
+    pub(crate) fn step_trusted(
         &mut self,
         window: u32,
         process: usize,

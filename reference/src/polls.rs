@@ -115,8 +115,8 @@ pub fn polls(bytes: &[u8]) -> String {
     text
 }
 
-/// The bytes of a poll's calls and those after them, from the number of the calls on.
-fn split_calls(bytes: &[u8]) -> (&[u8], &[u8]) {
+/// The bytes of a list of calls and those after them, from the number of the calls on.
+pub(crate) fn split_calls(bytes: &[u8]) -> (&[u8], &[u8]) {
     let &[low, high, ref calls @ ..] = bytes else {
         return (&[], &[]);
     };

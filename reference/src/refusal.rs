@@ -1,4 +1,4 @@
-//! The numbers returned. (01, "Numbers returned"; 02, wishes 3, 6, 9 and 10.)
+//! The numbers returned. (01, "Numbers returned"; 02, wishes 3, 6, 9, 10 and 11.)
 
 /// A row of the table in 01, "Numbers returned", or a number that 02 adds to it;
 /// `code` gives its number.
@@ -9,7 +9,7 @@ pub enum Refusal {
     BadProcessCount = 1,
     /// L below W or above the caller's most rounds. (02, wish 9.)
     BadRoundLimit = 2,
-    /// Session or poll not sound.
+    /// Session, poll or house not sound.
     Unsound = 3,
     /// Seat number n or above.
     NoSuchProcess = 4,
@@ -47,6 +47,9 @@ pub enum Refusal {
     BadCuts = 17,
     /// Proposal to a closed session. (02, wish 10.)
     ClosedToProposals = 18,
+    /// Opening a house: c not 1 to 4, over 16 workers, a worker's ward not 1 to c, or an
+    /// empty ward. (02, wish 11.)
+    BadWards = 19,
 }
 
 impl Refusal {

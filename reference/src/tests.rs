@@ -1,8 +1,11 @@
 //! The paper cases of document 01, each number that it and 02 return, polls, the window
-//! as a parameter, both callers, and closed sessions.
+//! as a parameter, both callers, closed sessions, and houses.
 
 mod callers;
 mod closing;
+mod house_soundness;
+mod house_text;
+mod houses;
 mod operations;
 mod paper;
 mod polls;

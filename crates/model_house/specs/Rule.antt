@@ -1,5 +1,5 @@
--- The rule of houses (document 02, wish 11): "Show for any order of proposals, turns, hints, house looks and crashes from an opening that all
--- workers decided by a house look hold one number, and that some worker proposed it to the house."
+-- The rule of houses (document 02, wish 11): "Show for any order of proposals, turns, hints, house looks and crashes from an opening that
+-- all workers decided by a house look hold one number, and that some worker proposed it to the house."
 use Prim.Native.Nat.{ℕ}
 use mathlib.Core.Path.{_≡_}
 use mathlib.Core.List.{List, [], _∷_}
@@ -37,8 +37,8 @@ abbrev pub HouseCall : Type 0
 HouseCall = Call (Input HouseOperation) HouseStepped
 
 -- What the contract of the called function says, given house h: `system_house_change::propose`, `system_house_lent::turn`,
--- `system_house_lent::learn`, `system_house_change::crash` (`theory_house`, `Contracts`). (A proposal and a crash are lent no counts: theirs
--- are any, and stand as they stood.)
+-- `system_house_lent::learn`, `system_house_change::crash` (`theory_functions`). (A proposal and a crash are lent no counts: theirs are
+-- any, and stand as they stood.)
 abbrev pub housePromised : House → Counts → HouseOperation → HouseStepped
 housePromised h c (proposes p v) = withHouseCounts (housePropose h p v) c
 housePromised h c (turns p hint) = houseTurn h p hint c

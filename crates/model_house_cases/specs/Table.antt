@@ -45,7 +45,8 @@ both : (k j : ℕ) → List HouseOperation
 unfolding alone
 both k j = proposes 0 3 ∷ proposes 1 8 ∷ alone 0 k ++ alone 1 j
 
--- They propose as above; worker 1 takes 28 turns, to its first write in the poll; worker 0 takes 48, to its house write; worker 1 takes j more.
+-- They propose as above; worker 1 takes 28 turns, to its first write in the poll; worker 0 takes 48, to its house write; then worker 1
+-- takes j.
 late : (j : ℕ) → List HouseOperation
 unfolding alone
 late j = proposes 0 3 ∷ proposes 1 8 ∷ alone 1 28 ++ alone 0 48 ++ alone 1 j
@@ -123,8 +124,8 @@ table =
     ∷ case 1 (1 ∷ []) (solo 40) (stands 0 (Working WriteHouse) 1 7 ∷ decides 0 ∷ sound ∷ [])
     -- a house look that finds nothing leaves the place
     ∷ case 1 (1 ∷ []) (solo 27 ++ (learns 0 ∷ [])) (answers 0 ∷ stands 0 (Working StepPoll) 1 7 ∷ sound ∷ [])
-    -- all eight outer rounds: the house write of the last one makes the worker spent, and its outer round stays 8; then a turn is refused, a
-    -- house look and a crash are not
+    -- all eight outer rounds: the house write of the last one makes the worker spent, and its outer round stays 8; then a turn is refused,
+    -- a house look and a crash are not
     ∷ case 1 (1 ∷ []) (solo 327) (answers 0 ∷ stands 0 (Working WriteHouse) 8 7 ∷ sound ∷ [])
     ∷ case 1 (1 ∷ []) (solo 328) (answers 0 ∷ stands 0 Exhausted 8 7 ∷ decides 7 ∷ entry 8 1 7 ∷ sound ∷ [])
     ∷ case 1 (1 ∷ []) (solo 329) (answers 9 ∷ [])
@@ -148,7 +149,8 @@ table =
     ∷ case 1 (1 ∷ 1 ∷ []) (both 62 3) (wardSeat 1 1 1 3 ∷ stands 1 (Working WriteTable) 1 8 ∷ sound ∷ [])
     ∷ case 1 (1 ∷ 1 ∷ []) (both 62 4) (entry 1 1 3 ∷ stands 1 (Working ProposePoll) 1 8 ∷ sound ∷ [])
     -- worker 2 is the second of ward 2: its seat is 1 in the ward's session, and 2 in the poll
-    ∷ case 2 (2 ∷ 1 ∷ 2 ∷ []) (proposes 2 7 ∷ alone 2 1) (wardSeat 1 2 1 7 ∷ wardSeat 1 2 0 0 ∷ wardSeat 1 1 1 0 ∷ sound ∷ [])
+    ∷ case 2 (2 ∷ 1 ∷ 2 ∷ []) (proposes 2 7 ∷ alone 2 1)
+    (wardSeat 1 2 1 7 ∷ wardSeat 1 2 0 0 ∷ wardSeat 1 1 1 0 ∷ sound ∷ [])
     ∷ case 2 (2 ∷ 1 ∷ 2 ∷ []) (proposes 2 7 ∷ alone 2 41) (stands 2 (Working StepPoll) 1 7 ∷ pollSeat 1 2 2 ∷ pollSeat 1 1 0 ∷ [])
     -- refusals: 4, 5, 6, 7, 8
     ∷ case 1 (1 ∷ []) (proposes 1 0 ∷ []) (answers 4 ∷ [])

@@ -1,14 +1,13 @@
 -- The answer of a call on a house, by the number of its first refusal and by what is left where it is 0. Assumes nothing.
-use Rattle.base.specs.Prelude.{ℕ, suc, zero, _%_, _<_, arith, _≡_, refl, sym, _∙_, ap, Bool, true, false, cond, not, List, _∷_, leb}
+use Rattle.base.specs.Prelude.{ℕ, suc, zero, _%_, _<_, arith, _≡_, refl, sym, _∙_, ap, Bool, true, false, cond, not, _∷_, leb}
 use Rattle.base.specs.Prelude.{leb-false}
 use Rattle.model.specs.declared.Counts.{Counts}
 use Rattle.model.specs.declared.Phase.{Phase}
 use Rattle.model.specs.Numbers.{unsound, noSuchProcess}
 use Rattle.model.specs.Board.{noCounts}
-use Rattle.model.specs.Refusal.{Test, refusal, full}
-use Rattle.model_laws.specs.Accepted.{NoneHolds, Without, none-holds}
+use Rattle.model.specs.Refusal.{refusal, full}
+use Rattle.model_laws.specs.Accepted.{NoneHolds, Without, none-holds, returned}
 use Rattle.model_house.specs.declared.House.{House}
-use Rattle.model_house.specs.declared.HouseStepped.{HouseStepped}
 use Rattle.model_house.specs.declared.Stance.the-variants.{Working, Crashed}
 use Rattle.model_house.specs.declared.Place.the-variants.{ProposeWard}
 use Rattle.model_house.specs.declared.Worker.{Worker}
@@ -36,17 +35,24 @@ pub record HouseAccepted (h : House) (c : Counts) (o : HouseOperation) : Type 0 
   pub few : workerOf o < 16
   pub own : NoneHolds (workerTests (phaseOf (workerAt h (workerOf o) .stance)) c o)
 
--- What the machine's tests tell where none refuses.
-own-without : (φ : Phase) (c : Counts) (o : HouseOperation) → Without 0 (workerTests φ c o)
-own-without φ c (proposes p v) = omega arith
-own-without φ c (turns p hint) = omega arith
-own-without φ c (learns p) = omega arith
-own-without φ c (crashes p) = omega arith
+-- The machine's tests have numbers from 4 on: not 0, and not 3.
+tests-without : (k : ℕ) → k < 4 → (h : House) (c : Counts) (o : HouseOperation) → Without k (houseTests h c o)
+tests-without k low h c o = (omega arith, own (phaseOf (workerAt h (workerOf o) .stance)) o)
+  where
+    own : (φ : Phase) (o : HouseOperation) → Without k (workerTests φ c o)
+    own φ (proposes p v) = omega arith
+    own φ (turns p hint) = omega arith
+    own φ (learns p) = omega arith
+    own φ (crashes p) = omega arith
 
+pub house-never-three : (h : House) (c : Counts) (o : HouseOperation) → refusal (houseTests h c o) ≡ unsound → ⊥
+house-never-three h c o e = omega (arith, returned unsound (houseTests h c o) (tests-without unsound (omega arith) h c o) e .0)
+
+-- What they tell where none refuses.
 pub tests-known : (h : House) (c : Counts) (o : HouseOperation) → refusal (houseTests h c o) ≡ 0 →
     (workerOf o < h .n) × NoneHolds (workerTests (phaseOf (workerAt h (workerOf o) .stance)) c o)
 tests-known h c o e =
-    let a = none-holds (houseTests h c o) (omega arith, own-without (phaseOf (workerAt h (workerOf o) .stance)) c o) e in
+    let a = none-holds (houseTests h c o) (tests-without 0 (omega arith) h c o) e in
     (leb-false (h .n) (workerOf o) (a .0), a .1)
 
 module _ (h : House) (c : Counts) (o : HouseOperation) where

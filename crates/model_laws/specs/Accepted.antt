@@ -6,7 +6,8 @@ use Rattle.model.specs.Board.{processAt}
 use Rattle.model.specs.Machine.{processOf}
 use Rattle.model.specs.Numbers.{unsound}
 use Rattle.model.specs.declared.Status.the-variants.{Active}
-use Rattle.model.specs.Refusal.{Test, status, isOutside, full, refusal, proposeTests, stepTests, learnTests, crashTests, processTests, tests}
+use Rattle.model.specs.Refusal.{Test, status, isOutside, full, refusal, proposeTests, stepTests, learnTests, crashTests, processTests}
+use Rattle.model.specs.Refusal.{tests}
 
 -- No test of the list holds.
 abbrev pub NoneHolds : List Test → Type 0

@@ -89,14 +89,15 @@ opened-unmarked n L = none L
     none zero = refl
     none (suc r) = rw (none r, same-everywhere maxRounds r _)
 
--- Calls on one tally that are answered as the machine answers.
-module _ {O A E : Type 0} (M : System Session (Input O) A E) (tally : A → Counts) (start : Session) (unmarked : markedRounds start ≡ 0)
+-- Calls on one tally that are answered as the machine answers, where marked is the number of marked rounds.
+module _ {State O A E : Type 0} (M : System State (Input O) A E) (tally : A → Counts) (marked : State → ℕ) (start : State)
+    (unmarked : marked start ≡ 0)
     (adds : (fs : List (Input O)) (f : Input O) →
     let s = machine M start fs in
     let r = M .perform s f in
-    GrowAlike (f .counts) s (tally r) (M .state r)) where
+    tally r .contested + marked s ≡ f .counts .contested + marked (M .state r)) where
   pub calls-contested : (cs : List (Call (Input O) A)) (c : Counts) → EachAsTheMachine M start cs → OneTally tally cs c →
-      c .contested ≡ markedRounds (machine M start (inputs cs))
+      c .contested ≡ marked (machine M start (inputs cs))
   calls-contested [] c each one = rw (one, unmarked) refl
   calls-contested (k ∷ ks) c each one =
       let before = calls-contested ks (k .input .counts) (each .2) (one .1) in

@@ -1,8 +1,8 @@
 -- Lemmas 13 and 14 of source document 002 (02, wish 11): what is committed for the house was proposed to it, and is one number. From what
 -- the boards, the table and the pasts have in common; of workers nothing is said here. Rounds and wards count from 0, as the arrays do; the
 -- numbers of a poll are wards, from 1.
-use Rattle.base.specs.Prelude.{ℕ, suc, zero, _+_, _*_, _-_, _%_, _≤_, _<_, arith, _≡_, refl, sym, _∙_, Bool, true, false, List, [], length, getD}
-use Rattle.base.specs.Prelude.{List·getD-eq-default, _⊎_, decLe, decLt, ℕ-discrete}
+use Rattle.base.specs.Prelude.{ℕ, suc, zero, _+_, _*_, _-_, _%_, _≤_, _<_, arith, _≡_, refl, sym, _∙_, Bool, true, false, List, [], length}
+use Rattle.base.specs.Prelude.{getD, List·getD-eq-default, _⊎_, decLe, decLt, ℕ-discrete}
 use Rattle.model_laws.specs.Types.{Session}
 use Rattle.model.specs.Window.{window}
 use Rattle.model_laws.specs.Windows.{window-square, window-least}
@@ -12,8 +12,8 @@ use Rattle.theory_board.specs.Lawful.{Lawful, none, IsCommitted, lawful-at, com
 use Rattle.theory_board.specs.Reached.{Reached}
 use Rattle.theory_count.specs.Grid.{wide-below}
 use Rattle.theory_count.specs.Agreed.{agreed}
-use Rattle.model_house.specs.House.{outerRounds, wardRounds, maxWards, wardSeats, noSession, noRow}
-use Rattle.theory_house.specs.Types.{Row, Table}
+use Rattle.model_house.specs.House.{wardRounds, wardSeats, noSession, noRow}
+use Rattle.theory_house.specs.Types.{Table}
 
 -- ---- what is remembered
 

@@ -8,8 +8,8 @@ use Rattle.model_rule.specs.Event.{Event, decision, Past, Proposed, DecidedOn}
 use Rattle.model_house.specs.House.{noSession, wardOf, workerAt, seatOf, wardSeats, allowed}
 use Rattle.model_house.specs.Machine.{phaseOf}
 use Rattle.model_house.specs.Sound.{seatsFit}
-use Rattle.theory_house.specs.Types.{Place, ProposeWard, StepWard, LearnWard, WriteTable, ProposePoll, StepPoll, ReadTable, WriteHouse}
-use Rattle.theory_house.specs.Types.{Stance, Idle, Working, Exhausted, Crashed, Decided, Worker, Table, House}
+use Rattle.theory_house.specs.Types.{Place, ProposeWard, StepWard, LearnWard, WriteTable, ProposePoll, StepPoll, ReadTable}
+use Rattle.theory_house.specs.Types.{WriteHouse, Stance, Idle, Working, Exhausted, Crashed, Decided, Worker, Table, House}
 use Rattle.theory_house.specs.Core.{cell, Filled, Memory, Begins, HouseCommitted, Known}
 
 -- n workers of c wards, as an accepted opening has them; `wards` is the array of sixteen. Two workers of one ward have different seats.
@@ -36,8 +36,8 @@ pollSeat polls p o = processAt (getD polls o noSession) p
 abbrev pub Out : Process → Type 0
 Out a = isOutside (status (a .phase)) ≡ true
 
--- What is known at each place, beside the seat that the next turn needs: of the value v, of the entry of ward w, and of the poll's seat b of
--- round r, which is out until the worker proposes to the poll.
+-- What is known at each place, beside the seat that the next turn needs: of the value v, of the entry of ward w, and of the poll's seat b
+-- of round r, which is out until the worker proposes to the poll.
 abbrev pub KnowsAt : (W : ℕ) → Memory → Place → (r v w : ℕ) → (b : Process) → Type 0
 KnowsAt W m ProposeWard r v w b = Begins W m r v × Out b
 KnowsAt W m StepWard r v w b = Out b
@@ -88,7 +88,7 @@ pub record Held (h : House) (x : List Event) : Type 0 where
   pub numbers : Numbers (h .n) (h .c) (h .wards)
   pub long : length (h .workers) ≡ 16
   pub known : Known (h .n) (h .c) (h .sessions) (h .polls) (h .decision) sessions (memory polls (h .table) x)
-  pub worker : (p : ℕ) → p < h .n →
-      Fits (window (h .n)) (memory polls (h .table) x) (workerAt h p) (wardSeat (h .wards) (h .sessions) p) (pollSeat (h .polls) p) (wardOf h p)
+  pub worker : (p : ℕ) → p < h .n → Fits (window (h .n)) (memory polls (h .table) x) (workerAt h p) (wardSeat (h .wards) (h .sessions) p)
+      (pollSeat (h .polls) p) (wardOf h p)
   pub told : (p : ℕ) → Told p (workerAt h p) x
   pub rests : Rests (window (h .n)) (memory polls (h .table) x)

@@ -1,10 +1,10 @@
 -- "A ward session has n - c + 1 seats, taken by its workers in number order": they are enough, and two workers of one ward have two.
-use Rattle.base.specs.Prelude.{ℕ, suc, zero, _+_, _-_, _≤_, _<_, arith, _≡_, refl, sym, _∙_, ap, subst, Bool, true, cond, _&&_, List, [], _∷_, _++_}
-use Rattle.base.specs.Prelude.{length, length-append, length-replicate, replicate, getD, take, take-append-seam, List·getD-append}
-use Rattle.base.specs.Prelude.{eqb, eq-eqb, ne-eqb, leb, leb-true, le-leb, lt-leb, ℕ-discrete, decLe, add-one}
+use Rattle.base.specs.Prelude.{ℕ, suc, zero, _+_, _-_, _≤_, _<_, arith, _≡_, refl, sym, _∙_, subst, Bool, true, cond, _&&_, List, [], _∷_}
+use Rattle.base.specs.Prelude.{_++_, length, length-append, length-replicate, replicate, getD, take, take-append-seam, List·getD-append}
+use Rattle.base.specs.Prelude.{eqb, eq-eqb, ne-eqb, leb, leb-true, le-leb, lt-leb, ℕ-discrete, decLe}
 use Rattle.base.specs.Bools.{and-left, and-right, cond-cases}
 use Rattle.model.specs.Sound.{every}
-use Rattle.model_house.specs.House.{allBelow, members, seatOf, wardSeats, allowed}
+use Rattle.model_house.specs.House.{allBelow, members, seatOf, allowed}
 use Rattle.model_house_laws.specs.Below.{below-at, every-all, members-next}
 use Rattle.theory_house.specs.Invariant.{Numbers}
 
@@ -47,7 +47,8 @@ upTo c (x ∷ xs) = cond (leb x c) 1 0 + upTo c xs
 
 up-to-most : (c : ℕ) (l : List ℕ) → upTo c l ≤ length l
 up-to-most c [] = omega arith
-up-to-most c (x ∷ xs) = cond-cases (λ y. y + upTo c xs ≤ suc (length xs)) (leb x c) (λ t. omega (arith, up-to-most c xs)) (λ t. omega (arith, up-to-most c xs))
+up-to-most c (x ∷ xs) =
+    let rest = up-to-most c xs in cond-cases (λ y. y + upTo c xs ≤ suc (length xs)) (leb x c) (λ t. omega arith) (λ t. omega arith)
 
 up-to-next : (c : ℕ) (l : List ℕ) → upTo (suc c) l ≡ upTo c l + members (suc c) l
 up-to-next c [] = refl
@@ -80,7 +81,8 @@ members-few l (suc c) w each =
 
 -- ---- the numbers of an accepted opening
 
-pub opened-numbers : (c : ℕ) (ws : List ℕ) → 1 ≤ length ws → allowed c ws ≡ true → Numbers (length ws) c (ws ++ replicate (16 - length ws) 0)
+pub opened-numbers : (c : ℕ) (ws : List ℕ) → 1 ≤ length ws → allowed c ws ≡ true →
+    Numbers (length ws) c (ws ++ replicate (16 - length ws) 0)
 unfolding allowed seatOf
 opened-numbers c ws some t =
     let n = length ws in

@@ -1,20 +1,20 @@
 -- Accepted proposals, house looks and crashes keep the invariant: they change the record of their worker, and no board.
 use lib.Seq.{set-getD}
-use Rattle.base.specs.Prelude.{ℕ, suc, zero, _-_, _≤_, _<_, arith, _≡_, refl, sym, _∙_, true, false, true≢false, List, [], _∷_, _++_, eqb-false}
-use Rattle.base.specs.Prelude.{not-false, ne-eqb, ⊎-elim}
+use Rattle.base.specs.Prelude.{ℕ, suc, zero, _<_, arith, _≡_, refl, sym, true, true≢false, List, [], _∷_, _++_, eqb-false, not-false}
+use Rattle.base.specs.Prelude.{ne-eqb, ⊎-elim}
 use Rattle.model_laws.specs.Types.{Counts}
 use Rattle.model.specs.Window.{window}
 use Rattle.model.specs.Refusal.{status, isOutside}
 use Rattle.model_laws.specs.Accepted.{NoneHolds}
-use Rattle.model_rule.specs.Event.{Event, proposal, decision, lookEvents, Past, here, there}
-use Rattle.theory_board.specs.Past.{past-cons, happened-cases, happened-older, happened-past}
+use Rattle.model_rule.specs.Event.{Event, proposal, decision, lookEvents, here}
+use Rattle.theory_board.specs.Past.{past-cons, happened-cases, happened-older}
 use Rattle.model_house.specs.House.{noWorker, workerAt, wardOf, worker, withWorker}
 use Rattle.model_house.specs.Machine.{proposes, learns, crashes, phaseOf, workerTests, houseLearnt, houseAfter}
 use Rattle.model_house.specs.Sound.{seatsFit}
 use Rattle.theory_house.specs.Types.{ProposeWard, Stance, Idle, Working, Exhausted, Crashed, Decided, House}
-use Rattle.theory_house.specs.Core.{HouseCommitted, Grown, committed-grown, house-proposed}
+use Rattle.theory_house.specs.Core.{HouseCommitted, unmoved, committed-grown, house-proposed}
 use Rattle.theory_house.specs.Invariant.{wardSeat, pollSeat, Fits, memory, Held}
-use Rattle.theory_house.specs.Store.{past-known}
+use Rattle.theory_house.specs.Store.{house-known}
 use Rattle.theory_house.specs.Workers.{fits-next, next-held, quiet-held}
 
 idle-is : (x : Stance) → isOutside (status (phaseOf x)) ≡ true → x ≡ Idle
@@ -35,7 +35,7 @@ module _ {h : House} {x : List Event} (i : Held h x) (p : ℕ) (low : p < h .n) 
   proposal-held v own =
       let out = idle-is (workerAt h p .stance) (not-false _ (own .1 .0)) in
       let k = rw out at (fit .knows) in
-      let known = past-known (i .known) (proposal v ∷ []) in
+      let known = house-known (i .known) (proposal v ∷ []) (h .decision) (i .known .decision) in
       quiet-held i p low (proposal v ∷ []) (worker (Working ProposeWard) 1 v) (known .0) (known .1) (λ j l other o l₁. (refl, refl))
       (record {
         start = omega arith;
@@ -53,8 +53,7 @@ module _ {h : House} {x : List Event} (i : Held h x) (p : ℕ) (low : p < h .n) 
   pub crash-held : NoneHolds (workerTests (phaseOf (workerAt h p .stance)) c (crashes p)) → Held (houseAfter h c (crashes p)) x
   unfolding houseAfter seatsFit
   crash-held own =
-      let known = past-known (i .known) [] in
-      quiet-held i p low [] _ (known .0) (known .1) (λ j l other o l₁. (refl, refl))
+      quiet-held i p low [] _ (i .known) unmoved (λ j l other o l₁. (refl, refl))
       (fits-next fit (fit .some (own .0)) Crashed (λ o from l. (refl, refl)) refl tt)
       (λ e. true≢false (rw e at (own .1 .0)))
       (λ e. let z : _≡_ {A = ℕ} 0 1 = cc in absurd (omega arith))
@@ -65,7 +64,7 @@ module _ {h : House} {x : List Event} (i : Held h x) (p : ℕ) (low : p < h .n) 
       Held (withWorker h p (worker Decided (workerAt h p .outer) v)) (decision p v ∷ x)
   unfolding seatsFit
   found-held v committed some was =
-      let known = past-known (i .known) (decision p v ∷ []) in
+      let known = house-known (i .known) (decision p v ∷ []) (h .decision) (i .known .decision) in
       next-held i p low (decision p v ∷ []) _ (known .0) (known .1) (λ j l other o l₁. (refl, refl))
       (fits-next fit some Decided (λ o from l. (refl, refl)) refl tt)
       (record {

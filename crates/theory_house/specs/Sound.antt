@@ -1,7 +1,7 @@
 -- A house that is held is sound: no call returns 3.
-use Rattle.base.specs.Prelude.{ℕ, suc, zero, _+_, _-_, _*_, _/_, _%_, _≤_, _<_, arith, _≡_, refl, sym, _∙_, ap, Bool, true, false, cond, _&&_, _||_}
-use Rattle.base.specs.Prelude.{List, length, getD, take, leb, eqb, ltb, le-leb, lt-ltb, eq-eqb, eqb-true, not, ℕ-discrete}
-use Rattle.base.specs.Bools.{and-left, and-right, and-both}
+use Rattle.base.specs.Prelude.{ℕ, suc, _-_, _*_, _≤_, _<_, arith, _≡_, refl, _∙_, ap, Bool, true, false, _||_, List, length, getD, leb, ltb}
+use Rattle.base.specs.Prelude.{le-leb, lt-ltb, eq-eqb, eqb-true, ℕ-discrete}
+use Rattle.base.specs.Bools.{and-both}
 use Rattle.model_laws.specs.Types.{Process, Session}
 use Rattle.model.specs.Window.{window}
 use Rattle.model.specs.Board.{processAt, idle}
@@ -15,17 +15,12 @@ use Rattle.theory_board.specs.Past.{past-before, happened-past}
 use Rattle.theory_board.specs.Lawful.{lawful-at}
 use Rattle.theory_board.specs.Registers.{last-written}
 use Rattle.theory_board.specs.Reached.{Reached}
-use Rattle.model_house.specs.House.{allBelow, noSession, wardSeats, wardRounds, workerAt}
+use Rattle.model_house.specs.House.{wardRounds, workerAt}
 use Rattle.model_house.specs.Machine.{phaseOf}
 use Rattle.model_house.specs.Sound.{soundWard, soundNumbers, soundVote, soundWorker, soundWards, soundHouse}
-use Rattle.model_house_laws.specs.Below.{every-all}
-use Rattle.model_house_laws.specs.Sounds.{sessionsSound, pollsSound, workers-left}
+use Rattle.model_house_laws.specs.Below.{below-all, every-all}
 use Rattle.theory_house.specs.Types.{House}
 use Rattle.theory_house.specs.Invariant.{Held}
-
-below-all : (test : ℕ → Bool) (k : ℕ) → ((i : ℕ) → i < k → test i ≡ true) → allBelow k test ≡ true
-below-all test zero each = refl
-below-all test (suc k) each = and-both (below-all test k (λ i l. each i (omega arith))) (each k (omega arith))
 
 reached-sound : {poll : Bool} {k L : ℕ} {s : Session} {h : List Event} → Reached poll (window k) k L s h → soundAs poll s ≡ true
 unfolding soundAs
@@ -89,16 +84,13 @@ module _ {h : House} {x : List Event} (i : Held h x) where
       has-value false v some = lt-ltb 0 v (some refl)
 
   pub house-sound : soundHouse h ≡ true
-  unfolding soundWards
+  unfolding soundHouse soundWards
   house-sound =
       let nums = i .numbers in
-      sym
-      (workers-left h
+      and-both
+      (and-both
+      (and-both
       (and-both (and-both (le-leb 1 (h .n) (nums .some)) (le-leb (h .n) 16 (nums .few))) (nums .allow))
-      (sym
-      (below-all (sessionsSound h) (8 * h .c)
-      (λ j l. let b = i .known .wards .each j (omega (arith, l, nums .most)) in ward-sound (b .0) (b .1))))
-      refl
-      (sym (below-all (pollsSound h) 8 (λ j l. vote-sound (i .known .votes .each j l .0) (λ u t. i .known .polled j u t .0))))
-      refl
-      (sym (below-all (soundWorker h) (h .n) worker-sound)))
+      (below-all _ (8 * h .c) (λ j l. let b = i .known .wards .each j (omega (arith, nums .most)) in ward-sound (b .0) (b .1))))
+      (below-all _ 8 (λ j l. vote-sound (i .known .votes .each j l .0) (λ u t. i .known .polled j u t .0))))
+      (below-all _ (h .n) worker-sound)

@@ -1,24 +1,23 @@
 -- What one operation may store so that the boards and the table stay known, and the house held: a session with a longer past, a poll with a
 -- longer past, an entry that was committed, and the record of its own worker.
-use Rattle.base.specs.Prelude.{ℕ, suc, _+_, _-_, _*_, _%_, _≤_, _<_, arith, _≡_, refl, sym, _∙_, ap, Bool, true, false, List, [], _∷_, _++_}
-use Rattle.base.specs.Prelude.{length, length-set, set, getD, getD-set-same, getD-set-other, _⊎_, inl, inr, ⊎-elim, ℕ-discrete}
+use Rattle.base.specs.Prelude.{ℕ, _+_, _-_, _*_, _%_, _≤_, _<_, arith, _≡_, refl, _∙_, ap, Bool, true, false, List, [], _++_, length}
+use Rattle.base.specs.Prelude.{length-set, set, getD, getD-set-same, getD-set-other, _⊎_, inl, inr, ⊎-elim, ℕ-discrete}
 use Rattle.base.specs.Arrays.{getD-set-cases}
-use Rattle.model_laws.specs.Types.{Process, Session}
+use Rattle.model_laws.specs.Types.{Session}
 use Rattle.model_laws.specs.Windows.{window-square, window-least}
 use Rattle.model.specs.Window.{window}
-use Rattle.model_rule.specs.Event.{Event, decision, Past, here, Proposed, DecidedOn}
+use Rattle.model_rule.specs.Event.{Event, decision, Past, here, Proposed}
 use Rattle.model_poll_laws.specs.Sounds.{poll-open}
 use Rattle.theory_board.specs.Past.{happened-past, past-append}
 use Rattle.theory_board.specs.Lawful.{IsCommitted}
 use Rattle.theory_board.specs.Reached.{Reached}
 use Rattle.theory_count.specs.Grid.{wide-below}
 use Rattle.theory_count.specs.Agreed.{agreed-commits}
-use Rattle.model_house.specs.House.{noSession, noWorker, noRow, workerAt, wardOf, wardSeats, wardRounds, withEntry}
-use Rattle.theory_house.specs.Types.{Place, ProposeWard, StepWard, LearnWard, WriteTable, ProposePoll, StepPoll, ReadTable, WriteHouse}
-use Rattle.theory_house.specs.Types.{Stance, Idle, Working, Exhausted, Crashed, Decided, Worker, Row, Table, House}
-use Rattle.theory_house.specs.Core.{pastAt, cell, Filled, Memory, Begins, HouseCommitted, Boards, Known, Grown}
-use Rattle.theory_house.specs.Core.{boards-lawful, begins-grown, committed-grown}
-use Rattle.theory_house.specs.Invariant.{wardSeat, pollSeat, KnowsAt, Knows, Fits, Told, Rests, memory, Held}
+use Rattle.model_house.specs.House.{noSession, noRow, wardSeats, wardRounds, withEntry}
+use Rattle.theory_house.specs.Types.{Row, Table}
+use Rattle.theory_house.specs.Core.{pastAt, cell, Filled, Memory, Begins, HouseCommitted, Boards, Known, Grown, boards-lawful}
+use Rattle.theory_house.specs.Core.{begins-grown, committed-grown}
+use Rattle.theory_house.specs.Invariant.{memory}
 
 -- ---- boards and table
 
@@ -42,7 +41,8 @@ longer : (g : List (List Event)) (i j : ℕ) (es : List Event) → Past (pastAt 
 longer g i j es = getD-set-cases (λ l. Past (pastAt g j) l) g i j _ [] (λ e. rw e (past-append es)) here
 
 -- Another entry: what holds of it, and of the one before, holds of each.
-cell-cases : (P : ℕ → Type 0) (t : Table) (o w v r j : ℕ) → (r ≡ o - 1 → j ≡ w - 1 → P v) → P (cell t r j) → P (cell (withEntry t o w v) r j)
+cell-cases : (P : ℕ → Type 0) (t : Table) (o w v r j : ℕ) → (r ≡ o - 1 → j ≡ w - 1 → P v) → P (cell t r j) →
+    P (cell (withEntry t o w v) r j)
 cell-cases P t o w v r j new old =
     getD-set-cases (λ (y : Row). P (getD (y .entries) j 0)) (t .rows) (o - 1) r _ noRow
     (λ eo. getD-set-cases P (getD (t .rows) (o - 1) noRow .entries) (w - 1) j v 0 (new eo) (rw eo at old))
@@ -69,23 +69,10 @@ module _ {n c d : ℕ} {S P : List Session} {g : List (List Event)} {m : Memory}
         decision = i .decision;
       }
 
-  -- The house's decision register.
-  pub decision-known : (v : ℕ) → HouseCommitted (window n) m v → Known n c S P v g m
-  decision-known v k =
-      record {
-        wards = i .wards;
-        votes = i .votes;
-        rows = i .rows;
-        columns = i .columns;
-        table = i .table;
-        polled = i .polled;
-        begun = i .begun;
-        decision = inr k;
-      }
-
-  -- A longer past of the house.
-  pub past-known : (es : List Event) → let m′ = memory (m .polls) (m .table) (es ++ m .past) in Known n c S P d g m′ × Grown m m′
-  past-known es =
+  -- A longer past of the house, and what was committed for it in its decision register.
+  pub house-known : (es : List Event) (v : ℕ) → (v ≡ 0) ⊎ HouseCommitted (window n) m v →
+      let m′ = memory (m .polls) (m .table) (es ++ m .past) in Known n c S P v g m′ × Grown m m′
+  house-known es v k =
       let more : Grown m (memory (m .polls) (m .table) (es ++ m .past)) =
       record { polls = λ o. here; table = λ o j f. refl; past = past-append es } in (
         record {
@@ -96,7 +83,7 @@ module _ {n c d : ℕ} {S P : List Session} {g : List (List Event)} {m : Memory}
           table = i .table;
           polled = i .polled;
           begun = λ k v t. begins-grown i more (k % 8) v (i .begun k v t);
-          decision = ⊎-elim inl (λ k. inr (committed-grown i more k)) (i .decision);
+          decision = ⊎-elim inl (λ k. inr (committed-grown i more k)) k;
         },
         more,
       )
@@ -104,7 +91,8 @@ module _ {n c d : ℕ} {S P : List Session} {g : List (List Event)} {m : Memory}
   -- The poll of round r, where what was proposed to it is a ward with an entry.
   pub poll-known : (r : ℕ) → r < 8 → {s : Session} (es : List Event) →
       Reached true (window n) n (window n) s (es ++ pastAt (m .polls) r) →
-      ((u : ℕ) → Proposed u (es ++ pastAt (m .polls) r) → Proposed u (pastAt (m .polls) r) ⊎ ((u ≤ c) × Filled (cell (m .table) r (u - 1)))) →
+      ((u : ℕ) → Proposed u (es ++ pastAt (m .polls) r) →
+      Proposed u (pastAt (m .polls) r) ⊎ ((u ≤ c) × Filled (cell (m .table) r (u - 1)))) →
       let m′ = memory (set (m .polls) r (es ++ pastAt (m .polls) r)) (m .table) (m .past) in Known n c S (set P r s) d g m′ × Grown m m′
   poll-known r low {s} es reached proposed =
       let m′ = memory (set (m .polls) r (es ++ pastAt (m .polls) r)) (m .table) (m .past) in

@@ -1,20 +1,18 @@
 -- The record of one worker changes, with what its operation stores: the others stay as they were, and the house is held.
-use Rattle.base.specs.Prelude.{ℕ, suc, zero, _+_, _-_, _*_, _≤_, _<_, arith, _≡_, refl, sym, _∙_, Bool, true, false, List, [], _∷_, _++_}
-use Rattle.base.specs.Prelude.{length, length-set, set, getD, getD-set-same, getD-set-other, ℕ-discrete, ltb, ltb-true, ltb-false}
+use Rattle.base.specs.Prelude.{ℕ, suc, _+_, _-_, _≤_, _<_, arith, _≡_, refl, sym, _∙_, true, List, _∷_, _++_, length, length-set, set}
+use Rattle.base.specs.Prelude.{getD-set-same, getD-set-other, ℕ-discrete, ltb, ltb-true}
 use Rattle.base.specs.Bools.{cond-cases}
 use Rattle.model_laws.specs.Types.{Process, Session}
 use Rattle.model.specs.Window.{window}
-use Rattle.model.specs.Refusal.{status, isOutside}
 use Rattle.model_rule.specs.Event.{Event, decision, Past, DecidedOn}
 use Rattle.theory_board.specs.Past.{happened-past}
 use Rattle.model_house.specs.House.{noWorker, workerAt, wardOf, worker}
-use Rattle.model_house.specs.Machine.{phaseOf}
 use Rattle.model_house.specs.Turn.{roundOver}
 use Rattle.model_house.specs.Sound.{seatsFit}
-use Rattle.theory_house.specs.Types.{Place, ProposeWard, StepWard, LearnWard, WriteTable, ProposePoll, StepPoll, ReadTable, WriteHouse}
-use Rattle.theory_house.specs.Types.{Stance, Idle, Working, Exhausted, Crashed, Decided, Worker, Table, House}
+use Rattle.theory_house.specs.Types.{Place, ProposeWard, StepWard, LearnWard, WriteTable, ProposePoll, StepPoll, ReadTable}
+use Rattle.theory_house.specs.Types.{WriteHouse, Stance, Idle, Working, Exhausted, Crashed, Decided, Worker, Table, House}
 use Rattle.theory_house.specs.Core.{Memory, Begins, Known, Grown, begins-grown, committed-grown}
-use Rattle.theory_house.specs.Invariant.{wardSeat, pollSeat, Out, KnowsAt, Knows, Fits, Told, Rests, memory, Held}
+use Rattle.theory_house.specs.Invariant.{wardSeat, pollSeat, KnowsAt, Knows, Fits, Told, Rests, memory, Held}
 
 -- ---- a worker that stands as it stood, while memory grows
 

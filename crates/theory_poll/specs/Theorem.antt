@@ -19,7 +19,7 @@ use Rattle.model_rule.specs.Safe.{threshold, PollBelowThreshold}
 use Rattle.model_rule.specs.System.{inputs, machine, past, EachAsTheMachine}
 use Rattle.model_rule.specs.PollCalls.{polls, PollCall, PollRunWith}
 use Rattle.model_rule.specs.PollRule.{Gave, PollRule, PollClaimWith, EveryPollWindow, PollClaim, CallerPollClaim}
-use Rattle.model_rule.specs.Contested.{PollContestedRule}
+use Rattle.model_rule.specs.Contested.{markedRounds, PollContestedRule}
 use Rattle.theory_board.specs.Marks.{GrowAlike, turn-adds, perform-adds, opened-unmarked, calls-contested}
 use Rattle.theory_board.specs.Opening.{same-everywhere}
 use Rattle.theory_board.specs.Lists.{after-each}
@@ -131,6 +131,6 @@ poll-contested most up n ok cs s c run tally =
     let here : PollRunWith window (opened n (window n)) cs s = rw (o .3) at run in
     let f = polls-followed window wide reached here in
     rw (f .1)
-    (calls-contested (polls (window n)) (λ (a : PollStepped). a .counts) _ (opened-unmarked n (window n))
+    (calls-contested (polls (window n)) (λ (a : PollStepped). a .counts) markedRounds _ (opened-unmarked n (window n))
     (λ fs f. poll-reached-adds (f .counts) (f .operation) (poll-reached wide reached fs))
     cs c (f .0) tally)

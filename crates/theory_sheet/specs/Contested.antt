@@ -45,7 +45,7 @@ contested most up n L ok cs s c run tally =
     let wide : 1 ≤ window n = omega (arith, window-least n (o .0)) in
     let f = sessions-followed window wide (o .1) run in
     rw (f .1)
-    (calls-contested (sessions (window n)) (λ (a : Stepped). a .counts) _
+    (calls-contested (sessions (window n)) (λ (a : Stepped). a .counts) markedRounds _
     (rw (opening-held most up (window n) n L ok .4) (opened-unmarked n L))
     (λ fs f. reached-adds (f .counts) (f .operation) (machine-reached wide (o .1) fs))
     cs c (f .0) tally)

@@ -19,10 +19,11 @@ code : (c : tie.After-first-refusal) →
     let a = start c .args in c .first-refusal .result ≡ houseCode (a .t1) noCounts (operation (start c))
 code c =
     let a = start c .args in
+    let φ = c .before .before .before .phase-of .result in
+    let own : c .before .before .propose-refusal .result ≡ refusal (proposeTests false φ (a .v)) =
+    c .before .before .propose-refusal .ensures in
     house-code (a .t1) noCounts (operation (start c)) (c .before .sound .ensures)
-    (c .before .before .propose-refusal .ensures
-    ∙ ap (λ φ. refusal (proposeTests false φ (a .v))) (c .before .before .before .phase-of .ensures))
-    (c .first-refusal .ensures)
+    (own ∙ ap (λ φ. refusal (proposeTests false φ (a .v))) (c .before .before .before .phase-of .ensures)) (c .first-refusal .ensures)
 
 returns : tie.Need-returns
 unfolding housePropose
