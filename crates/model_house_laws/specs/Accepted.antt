@@ -119,12 +119,12 @@ module _ (h : House) (p : ℕ) {i : ℕ} (ei : i ≡ p) where
   unfolding houseAfter
   crashed-is c = rw ei
 
-  pub houseLearnt-is : (c : Counts) {q : Worker} → q ≡ houseLearnt (workerAt h i) (h .decision) →
+  pub learnt-is : (c : Counts) {q : Worker} → q ≡ houseLearnt (workerAt h i) (h .decision) →
       withWorker h i q ≡ houseAfter h c (learns p)
   unfolding houseAfter
-  houseLearnt-is c eq = rw (eq, ei)
+  learnt-is c eq = rw (eq, ei)
 
-pub houseLearnt-counts : (h : House) (c : Counts) (p : ℕ) {d : Counts} → HouseAccepted h c (learns p) → d ≡ cond (full c) c (oneRead c) →
+pub learnt-counts : (h : House) (c : Counts) (p : ℕ) {d : Counts} → HouseAccepted h c (learns p) → d ≡ cond (full c) c (oneRead c) →
     d ≡ houseCounts h c (learns p)
 unfolding houseCounts
-houseLearnt-counts h c p a ed = ed ∙ rw (a .own .1 .1 .0)
+learnt-counts h c p a ed = ed ∙ rw (a .own .1 .1 .0)

@@ -3,8 +3,8 @@ use Rattle.base.specs.Prelude.{_≡_, _∙_, ap, needs}
 use Rattle.model.specs.Refusal.{refusal, learnTests}
 use Rattle.model_house.specs.Machine.{HouseOperation, learns}
 use Rattle.model_house.specs.Public.{houseLearn}
-use Rattle.model_house_laws.specs.Accepted.{houseCode, house-code, house-refused, house-known, house-index, house-left, houseLearnt-is}
-use Rattle.model_house_laws.specs.Accepted.{houseLearnt-counts}
+use Rattle.model_house_laws.specs.Accepted.{houseCode, house-code, house-refused, house-known, house-index, house-left, learnt-is}
+use Rattle.model_house_laws.specs.Accepted.{learnt-counts}
 use Rattle.system_house_change.proofs.learn.Statement.{statement}
 use Rattle.system_house_change.proofs.learn.Tie as tie
 
@@ -32,8 +32,8 @@ returns c =
     let e = code (then .before) in
     let none = then .if1 .taken in
     house-left (a .t1) (a .c) o e none
-    (houseLearnt-is (a .t1) (a .p) (house-index (a .t1) (a .c) o e none) (a .c) (c .before .learnt .ensures))
-    (houseLearnt-counts (a .t1) (a .c) (a .p) (house-known (a .t1) (a .c) o e none) (c .counted .ensures))
+    (learnt-is (a .t1) (a .p) (house-index (a .t1) (a .c) o e none) (a .c) (c .before .learnt .ensures))
+    (learnt-counts (a .t1) (a .c) (a .p) (house-known (a .t1) (a .c) o e none) (c .counted .ensures))
 
 returns-2 : tie.Need-returns-2
 unfolding houseLearn
