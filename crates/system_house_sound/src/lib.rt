@@ -17,7 +17,7 @@ fn sessions_sound(c: usize, seats: usize, sessions: [Session; 32]) -> bool
     let mut i = 0;
     while i < last {
         let s = sessions[i];
-        if !system_house_board::ward_sound(seats, s) {
+        if !system_house_board_sound::ward_sound(seats, s) {
             return false;
         }
         i += 1;
@@ -32,7 +32,7 @@ fn polls_sound(n: usize, c: usize, polls: [Session; 8]) -> bool
     let mut i = 0;
     while i < 8 {
         let s = polls[i];
-        if !system_house_board::vote_sound(n, c, s) {
+        if !system_house_board_sound::vote_sound(n, c, s) {
             return false;
         }
         i += 1;

@@ -1,11 +1,11 @@
--- `system_house_board::vote_sound` meets its contract: the poll, then its numbers. Assumes nothing.
+-- `system_house_board_sound::vote_sound` meets its contract: the poll, then its numbers. Assumes nothing.
 use Rattle.base.specs.Prelude.{ℕ, leb, _≡_, refl, needs, Bool, true, false, not, _&&_, eqb, not-true, not-false}
 use Rattle.model.specs.declared.Session.{Session}
 use Rattle.model.specs.declared.Process.{Process}
 use Rattle.model.specs.Sound.{every, soundAs, soundPoll}
 use Rattle.model_house.specs.Sound.{soundVote, soundNumbers}
-use Rattle.system_house_board.proofs.vote_sound.Statement.{statement}
-use Rattle.system_house_board.proofs.vote_sound.Tie as tie
+use Rattle.system_house_board_sound.proofs.vote_sound.Statement.{statement}
+use Rattle.system_house_board_sound.proofs.vote_sound.Tie as tie
 
 module _ (n c : ℕ) (s : Session) {b : Bool} (told : b ≡ soundAs true s) where
   refused : not (eqb (s .n) n && b) ≡ true → false ≡ soundVote n c s

@@ -1,4 +1,4 @@
--- `system_house_board::estimates_low` meets its contract. The loop's invariant: the test holds of the first `i` records. Assumes nothing.
+-- `system_house_board_sound::estimates_low` meets its contract. The loop's invariant: the test holds of the first `i` records. Assumes nothing.
 use Rattle.base.specs.Prelude.{ℕ, _-_, _≤_, _≡_, refl, sym, _∙_, Bool, true, needs, arith, getD, leb, length, List}
 use Rattle.base.specs.Arrays.{length-mapped}
 use Rattle.model.specs.declared.Process.{Process}
@@ -6,8 +6,8 @@ use Rattle.model.specs.Board.{idle}
 use Rattle.model.specs.Sound.{every}
 use Rattle.model_house.specs.House.{allBelow}
 use Rattle.model_house_laws.specs.Below.{below-more, below-stop, below-ends, every-all}
-use Rattle.system_house_board.proofs.estimates_low.Statement.{statement}
-use Rattle.system_house_board.proofs.estimates_low.Tie as tie
+use Rattle.system_house_board_sound.proofs.estimates_low.Statement.{statement}
+use Rattle.system_house_board_sound.proofs.estimates_low.Tie as tie
 
 abbrev low : ℕ → Process → Bool
 low c q = leb (q .estimate) c

@@ -1,8 +1,8 @@
--- `system_house_board::ward_sound` meets its contract. Assumes nothing.
+-- `system_house_board_sound::ward_sound` meets its contract. Assumes nothing.
 use Rattle.base.specs.Prelude.{refl, needs}
 use Rattle.model_house.specs.Sound.{soundWard}
-use Rattle.system_house_board.proofs.ward_sound.Statement.{statement}
-use Rattle.system_house_board.proofs.ward_sound.Tie as tie
+use Rattle.system_house_board_sound.proofs.ward_sound.Statement.{statement}
+use Rattle.system_house_board_sound.proofs.ward_sound.Tie as tie
 
 returns : tie.Need-returns
 unfolding soundWard

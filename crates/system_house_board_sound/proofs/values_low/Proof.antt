@@ -1,9 +1,9 @@
--- `system_house_board::values_low` meets its contract. The loop's invariant: the test holds of the first `i` registers. Assumes nothing.
+-- `system_house_board_sound::values_low` meets its contract. The loop's invariant: the test holds of the first `i` registers. Assumes nothing.
 use Rattle.base.specs.Prelude.{ℕ, _-_, _≤_, _≡_, refl, sym, _∙_, Bool, true, needs, arith, getD, leb, List}
 use Rattle.model_house.specs.House.{allBelow}
 use Rattle.model_house_laws.specs.Below.{below-more, below-stop, below-ends, every-all}
-use Rattle.system_house_board.proofs.values_low.Statement.{statement}
-use Rattle.system_house_board.proofs.values_low.Tie as tie
+use Rattle.system_house_board_sound.proofs.values_low.Statement.{statement}
+use Rattle.system_house_board_sound.proofs.values_low.Tie as tie
 
 abbrev low : ℕ → ℕ → Bool
 low c x = leb x c
