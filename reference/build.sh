@@ -1,9 +1,9 @@
 #!/usr/bin/env bash
 # Builds the reference program, its unit tests, polls and houses, which compare it with
 # the programs test_poll and test_house, and short_windows, which breaks the agreement
-# rule at windows that are too short, into target/reference/ and runs the tests. With the paths of a
-# libjanus.a and a libtest_callers.a it also builds the programs that compare those
-# with the reference: differential, writes and callers.
+# rule at windows that are too short, into target/reference/ and runs the tests. With
+# the paths of a libjanus.a and a libtest_callers.a it also builds the programs that
+# compare those with the reference: differential, writes and callers.
 #
 # usage: reference/build.sh [LIBRARY CALLERS]
 set -euo pipefail

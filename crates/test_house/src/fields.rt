@@ -127,7 +127,7 @@ fn entry(t: Table, a: usize, v: u32) -> Table {
     after
 }
 
-pub fn set(h: House, kind: u8, a: usize, v: u32) -> House {
+pub(crate) fn set(h: House, kind: u8, a: usize, v: u32) -> House {
     let mut after = h;
     match kind {
         128 => {
@@ -159,7 +159,7 @@ pub fn set(h: House, kind: u8, a: usize, v: u32) -> House {
     after
 }
 
-pub fn count(c: Counts, kind: u8, v: u32) -> Counts {
+pub(crate) fn count(c: Counts, kind: u8, v: u32) -> Counts {
     let mut after = c;
     match kind {
         146 => {

@@ -11,25 +11,25 @@ use model_house::Stance;
 use model_house::Table;
 use model_house::Worker;
 
-pub fn word(w: &[u8]) {
+pub(crate) fn word(w: &[u8]) {
     io::write_all(1, w);
 }
 
 // A number behind a blank.
-pub fn number(n: u64) {
+pub(crate) fn number(n: u64) {
     word(b" ");
     io::print_decimal(1, n);
 }
 
 // Two numbers behind a word.
-pub fn line(w: &[u8], a: u64, b: u64) {
+pub(crate) fn line(w: &[u8], a: u64, b: u64) {
     word(w);
     number(a);
     number(b);
 }
 
 // The smaller of two numbers.
-pub fn least(a: usize, b: usize) -> usize
+pub(crate) fn least(a: usize, b: usize) -> usize
     ensures { λ r. ⌜ (r ≤ a) × (r ≤ b) ⌝ }
 {
     if a < b { a } else { b }
@@ -206,7 +206,7 @@ fn boards(h: House) {
     }
 }
 
-pub fn end(h: House, c: Counts) {
+pub(crate) fn end(h: House, c: Counts) {
     line(b"tally", c.reads as u64, c.writes as u64);
     number(c.contested as u64);
     word(b"\ndecision");
