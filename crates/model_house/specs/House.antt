@@ -75,8 +75,8 @@ pollAt h o = getD (h .polls) (o - 1) noSession
 abbrev pub entriesOf : Table → (o : ℕ) → List ℕ
 entriesOf t o = getD (t .rows) (o - 1) noRow .entries
 
-abbrev pub entryAt : Table → (o w : ℕ) → ℕ
-entryAt t o w = getD (entriesOf t o) (w - 1) 0
+abbrev pub tableAt : Table → (o w : ℕ) → ℕ
+tableAt t o w = getD (entriesOf t o) (w - 1) 0
 
 abbrev pub withEntry : Table → (o w v : ℕ) → Table
 withEntry t o w v = record { rows = set (t .rows) (o - 1) (record { entries = set (entriesOf t o) (w - 1) v }) }

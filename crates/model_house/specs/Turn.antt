@@ -26,7 +26,7 @@ use Rattle.model_house.specs.declared.Stance.the-variants.{Working, Exha
 use Rattle.model_house.specs.declared.Worker.{Worker}
 use Rattle.model_house.specs.declared.Table.{Table}
 use Rattle.model_house.specs.declared.View.{View}
-use Rattle.model_house.specs.House.{outerRounds, worker, entryAt, withEntry}
+use Rattle.model_house.specs.House.{outerRounds, worker, tableAt, withEntry}
 
 -- ---- what a turn changes of its view
 
@@ -82,8 +82,8 @@ taken x v = cond (eqb x 0) v x
 
 abbrev pub afterRead : Table → Worker → Answer → Worker
 afterRead t q Pending = q
-afterRead t q (Commits u) = worker (Working WriteHouse) (q .outer) (taken (entryAt t (q .outer) u) (q .value))
-afterRead t q (Adopts u) = roundOver (q .outer) (taken (entryAt t (q .outer) u) (q .value))
+afterRead t q (Commits u) = worker (Working WriteHouse) (q .outer) (taken (tableAt t (q .outer) u) (q .value))
+afterRead t q (Adopts u) = roundOver (q .outer) (taken (tableAt t (q .outer) u) (q .value))
 
 -- ---- the turn of worker p, of ward w, whose seat in its ward's session is s, at each place
 

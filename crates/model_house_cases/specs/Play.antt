@@ -20,7 +20,7 @@ use Rattle.model_house.specs.declared.Table.{Table}
 use Rattle.model_house.specs.declared.House.{House}
 use Rattle.model_house.specs.declared.HouseStepped.{HouseStepped}
 use Rattle.model_house.specs.declared.HouseChanged.{HouseChanged}
-use Rattle.model_house.specs.House.{workerAt, sessionAt, pollAt, entryAt, withEntry, withWorker, houseOpening}
+use Rattle.model_house.specs.House.{workerAt, sessionAt, pollAt, tableAt, withEntry, withWorker, houseOpening}
 use Rattle.model_house.specs.Machine.{HouseOperation, housePerform}
 use Rattle.model_house.specs.Public.{houseOperate}
 use Rattle.model_house.specs.Sound.{soundHouse}
@@ -97,7 +97,7 @@ shown : HouseStepped → Shows → Bool
 unfolding number
 shown t (answers k) = eqb (t .code) k
 shown t (decides v) = eqb (t .house .decision) v
-shown t (entry o w v) = eqb (entryAt (t .house .table) o w) v
+shown t (entry o w v) = eqb (tableAt (t .house .table) o w) v
 shown t (stands p a o v) =
     let q = workerAt (t .house) p in
     eqb (number (q .stance)) (number a) && eqb (q .outer) o && eqb (q .value) v

@@ -5,7 +5,7 @@ ghost use mathlib.Core.Path.{_≡_};
 ghost use mathlib.Core.Bool.{Bool, cond};
 ghost use Rattle.model.specs.Refusal.{full as fullOf};
 ghost use Rattle.model_poll.specs.Turn.{answerOf};
-ghost use Rattle.model_house.specs.House.{entryAt};
+ghost use Rattle.model_house.specs.House.{tableAt};
 ghost use Rattle.model_house.specs.Turn.{roundOver, taken, afterRead, turnAt};
 use model::Access;
 use model::Process;
@@ -39,7 +39,7 @@ fn round_over(outer: usize, value: u32) -> Worker
 
 // It "takes that value"; "a blank table entry leaves the value". u is the answer's ward.
 fn value_read(t: Table, q: Worker, u: u32) -> u32
-    ensures { λ r. ⌜ r ≡ taken (entryAt t (q .outer) u) (q .value) ⌝ }
+    ensures { λ r. ⌜ r ≡ taken (tableAt t (q .outer) u) (q .value) ⌝ }
 {
     let x = system_house_table::entry(t, q.outer, u as usize);
     if x == 0 { q.value } else { x }

@@ -5,7 +5,7 @@ use Rattle.base.specs.Prelude.{ℕ, suc, zero, _+_, _-_, arith, _≡_, refl, sy
 use Rattle.base.specs.Prelude.{drop, drop-cons, drop-of-length-le}
 use Rattle.model_house.specs.declared.Row.{Row}
 use Rattle.model_house.specs.declared.Table.{Table}
-use Rattle.model_house.specs.House.{noRow, entryAt, withEntry}
+use Rattle.model_house.specs.House.{noRow, tableAt, withEntry}
 
 abbrev pub entriesIn : Row → List ℕ
 entriesIn r = r .entries
@@ -41,7 +41,7 @@ map-set f (y ∷ l) zero x = refl
 map-set f (y ∷ l) (suc i) x = rw (map-set f l i x)
 
 module _ (t : Table) (o w : ℕ) {cells : List (List ℕ)} {i j : ℕ} (ec : cells ≡ cellsOf t) (ei : i ≡ o - 1) (ej : j ≡ w - 1) where
-  pub cell-is : getD (getD cells i []) j 0 ≡ entryAt t o w
+  pub cell-is : getD (getD cells i []) j 0 ≡ tableAt t o w
   cell-is = rw (ec, ei, ej, List·getD-map entriesIn (t .rows) (o - 1) noRow) refl
 
   pub written-is : (v : ℕ) → tableOf (set cells i (set (getD cells i []) j v)) ≡ withEntry t o w v

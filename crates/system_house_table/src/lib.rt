@@ -4,7 +4,7 @@ ghost use Prim.Native.Nat.{_-_};
 ghost use mathlib.Core.Path.{_≡_};
 ghost use mathlib.Core.List.{[]};
 ghost use lib.ListN.{getD, set};
-ghost use Rattle.model_house.specs.House.{entryAt, withEntry};
+ghost use Rattle.model_house.specs.House.{tableAt, withEntry};
 ghost use Rattle.system_house_table.specs.Cells.{cellsOf, tableOf};
 use model_house::Row;
 use model_house::Table;
@@ -106,7 +106,7 @@ fn with_cell(cells: [[u32; 4]; 8], i: usize, j: usize, v: u32) -> [[u32; 4]; 8]
 
 // The entry of outer round o and ward w.
 pub fn entry(t: Table, o: usize, w: usize) -> u32
-    ensures { λ r. ⌜ r ≡ entryAt t o w ⌝ }
+    ensures { λ r. ⌜ r ≡ tableAt t o w ⌝ }
 {
     cell(cells(t), prior(o), prior(w))
 }

@@ -26,7 +26,7 @@ use Rattle.theory_board.specs.Lawful.{IsCommitted, lawful-at, commit-lawful}
 use Rattle.theory_board.specs.Step.{step-older}
 use Rattle.theory_board.specs.Start.{decided-committed}
 use Rattle.theory_poll.specs.Machine.{answer-known, answer-committed}
-use Rattle.model_house.specs.House.{workerAt, wardOf, entryAt}
+use Rattle.model_house.specs.House.{workerAt, wardOf, tableAt}
 use Rattle.model_house.specs.Turn.{view, oneRead, standing, inWard, inPoll, turnAt, afterStep, afterLearn, afterPoll, afterRead, roundOver}
 use Rattle.model_house.specs.Machine.{phaseOf, withView, viewOf}
 use Rattle.model_house.specs.Sound.{seatsFit}
@@ -164,7 +164,7 @@ module _ (h : House) (x : List Event) (p : ℕ) (c : Counts) (room : full c ≡ 
       go (Commits u) ea e =
           let known = answer-known (poll-reached t) p u (rw ea refl) in
           let f = t .held .known .polled (roundOf h p) u (known .0) .1 in
-          rw (ne-eqb (entryAt (h .table) (q .outer) u) 0 f)
+          rw (ne-eqb (tableAt (h .table) (q .outer) u) 0 f)
           (plain-turn t _ _ (t .held .known) unmoved
           (fits-next (fit t) (omega (arith, f)) (Working WriteHouse) (λ o from l. (refl, refl)) (rw ea refl)
           ((u, known .1, refl), (roundOf h p, u, answer-committed (poll-reached t) p u (rw ea refl) ea, refl)))
@@ -172,7 +172,7 @@ module _ (h : House) (x : List Event) (p : ℕ) (c : Counts) (room : full c ≡ 
       go (Adopts u) ea e =
           let known = answer-known (poll-reached t) p u (rw ea refl) in
           let f = t .held .known .polled (roundOf h p) u (known .0) .1 in
-          rw (ne-eqb (entryAt (h .table) (q .outer) u) 0 f)
+          rw (ne-eqb (tableAt (h .table) (q .outer) u) 0 f)
           (plain-turn t _ _ (t .held .known) unmoved (fits-over (fit t) (omega (arith, f)) (u, known .1, refl)) (over-here (q .outer) _))
 
   write-house : Turned WriteHouse
