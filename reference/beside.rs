@@ -55,9 +55,9 @@ pub trait Coverage<C> {
 
 // ---------------------------------------------------------------- the program
 
-/// How long one input may take, and how long a case is made smaller.
+/// How long one input may take, and how often a smaller case is tried: a number, and no time, so that the case does not depend on the machine.
 const PATIENCE: Duration = Duration::from_secs(60);
-const SHRINKING: Duration = Duration::from_secs(3);
+const TRIES: usize = 60;
 
 /// A run of the program on one input.
 struct Run {
@@ -112,13 +112,14 @@ fn differs<C: Case>(program: &str, case: &C) -> io::Result<Option<(String, Strin
     Ok((theirs != ours).then_some((theirs, ours)))
 }
 
-/// The case without all calls that it can do without and still differ, as far as
-/// time allows: long pieces are tried first.
+/// The case without all calls that it can do without and still differ, as far as so many
+/// tries lead: long pieces are tried first.
 fn in_small<C: Case>(program: &str, mut case: C) -> io::Result<C> {
-    let (begun, mut length) = (Instant::now(), case.calls().len());
+    let (mut tries, mut length) = (0, case.calls().len());
     while length > 0 {
         let mut start = 0;
-        while start < case.calls().len() && begun.elapsed() < SHRINKING {
+        while start < case.calls().len() && tries < TRIES {
+            tries += 1;
             let mut calls = case.calls().to_vec();
             let end = calls.len().min(start + length);
             calls.drain(start..end);

@@ -106,21 +106,23 @@ wrong() { # NAME WHAT DIFFERENCE: beside the proved program it differs in those 
 untrue() { # NAME WHAT CLAIM
     WRONG=$1 found "a program that $2, beside itself," "$3" ./houses ./beside
 }
-wrong own-ward "reads the table at its own ward" 'proved worker ([0-9]+) write-house 1 [0-9]+, reference worker \2 write-house 1 [0-9]+$'
-wrong committed "does not take the value where it committed" 'proved worker ([0-9]+) write-house 1 [0-9]+, reference worker \2 write-house 1 [0-9]+$'
-wrong adopted "does not take the value where it adopted" 'proved worker ([0-9]+) propose-ward ([0-9]+) [0-9]+, reference worker \2 propose-ward \3 [0-9]+$'
-wrong own-entry "writes its ward's entry to the house register" '(proved decision [0-9]+, reference decision [0-9]+|turn [01 ]+: the house register holds [0-9]+, then [0-9]+)$'
-wrong own-value "writes its value to the table, not the decision" 'proved row 1 [0-9 ]+, reference row 1 [0-9 ]+$'
-wrong first-proposal "carries its first proposal into every round" 'proved seat ([0-9]+) gate 0 0 [0-9]+, reference seat \2 gate 0 0 [0-9]+$'
+# Another number or stance than the proved program's: of a worker, a seat, a register or the counts, or by a later call that only one refuses.
+other='(proved ([a-z]+) [a-z0-9 -]+, reference \3 [a-z0-9 -]+|turn [01 ]+: (the house register holds|value) [0-9]+, then [0-9]+)$'
+wrong own-ward "reads the table at its own ward" "$other"
+wrong committed "does not take the value where it committed" "$other"
+wrong adopted "does not take the value where it adopted" "$other"
+wrong own-entry "writes its ward's entry to the house register" "$other"
+wrong own-value "writes its value to the table, not the decision" "$other"
+wrong first-proposal "carries its first proposal into every round" "$other"
 wrong write-once "leaves a filled house register" 'proved tally ([0-9]+) [0-9]+ [0-9]+, reference tally \2 [0-9]+ [0-9]+$'
-wrong early-value "takes the value at the ward's decision" '(proved worker [0-9]+ [a-z-]+ 1 [0-9]+, reference worker |turn [0-9]+ 1: value [0-9]+, then [0-9]+$)'
-wrong decides "decides by its own house write" 'proved worker ([0-9]+) propose-ward 2 [0-9]+, reference worker \2 decided 1 [0-9]+$'
-wrong poll-first "polls before the ward" 'proved worker ([0-9]+) propose-ward 1 [0-9]+, reference worker \2 propose-poll 1 [0-9]+$'
-wrong adopted-writes "writes the house register where it adopted" 'proved worker ([0-9]+) propose-ward 2 [0-9]+, reference worker \2 write-house 1 [0-9]+$'
-wrong ninth-round "has an outer round 9" 'proved worker ([0-9]+) spent 8 [0-9]+, reference worker \2 propose-ward 9 [0-9]+$'
-wrong seventh-round "is spent one round early" 'proved worker ([0-9]+) propose-ward 8 [0-9]+, reference worker \2 spent 7 [0-9]+$'
-wrong turn-late "is spent one turn late" 'proved worker ([0-9]+) spent 1 [0-9]+, reference worker \2 look 1 [0-9]+$'
-wrong look-first "looks before it works" 'proved worker ([0-9]+) work 1 [0-9]+, reference worker \2 look 1 [0-9]+$'
+wrong early-value "takes the value at the ward's decision" "$other"
+wrong decides "decides by its own house write" "$other"
+wrong poll-first "polls before the ward" "$other"
+wrong adopted-writes "writes the house register where it adopted" "$other"
+wrong ninth-round "has an outer round 9" "$other"
+wrong seventh-round "is spent one round early" "$other"
+wrong turn-late "is spent one turn late" "$other"
+wrong look-first "looks before it works" "$other"
 wrong full-tally "accepts a full tally where nothing is read" 'proved turn ([0-9]+ [01]) 16, reference turn \2 0$'
 wrong house-look "does not count house looks" 'proved tally [0-9]+ ([0-9]+ [0-9]+), reference tally [0-9]+ \2$'
 wrong ward-look "does not count looks in the ward" 'proved tally [0-9]+ ([0-9]+ [0-9]+), reference tally [0-9]+ \2$'
