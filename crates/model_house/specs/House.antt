@@ -106,7 +106,7 @@ withWorker h p q =
 
 -- ---- opening
 
--- "C at most 4, at most 16 workers, at least one in each ward", and each worker's ward 1 to c.
+-- Wards "numbered 1 to c: c at most 4, at most 16 workers, at least one in each ward".
 unfoldable pub allowed : (c : ℕ) → (wards : List ℕ) → Bool
 allowed c wards =
     (leb 1 c && leb c maxWards)

@@ -142,9 +142,11 @@ table =
     (stands 0 Decided 2 3 ∷ stands 1 Decided 2 3 ∷ counts 74 13 0 ∷ sound ∷ [])
     -- a house look leaves the place and takes the number found, not the worker's own
     ∷ case 2 (1 ∷ 2 ∷ []) (both 48 0 ++ (learns 1 ∷ [])) (answers 0 ∷ stands 1 Decided 1 3 ∷ counts 38 8 0 ∷ sound ∷ [])
-    -- an adopted answer: worker 1 is about to write in the poll when worker 0 walks; it takes 3, and the next outer round follows
-    ∷ case 2 (1 ∷ 2 ∷ []) (late 14) (decides 3 ∷ stands 1 (Working ReadTable) 1 8 ∷ sound ∷ [])
-    ∷ case 2 (1 ∷ 2 ∷ []) (late 15) (answers 0 ∷ decides 3 ∷ stands 1 (Working ProposeWard) 2 3 ∷ sound ∷ [])
+    -- an adopted answer: worker 1 is about to write in the poll when worker 0 walks; its flag there is counted, and found its round
+    -- unmarked; it takes 3, and the next outer round follows
+    ∷ case 2 (1 ∷ 2 ∷ []) (late 14) (decides 3 ∷ stands 1 (Working ReadTable) 1 8 ∷ counts 71 14 1 ∷ sound ∷ [])
+    ∷ case 2 (1 ∷ 2 ∷ []) (late 15)
+    (answers 0 ∷ decides 3 ∷ stands 1 (Working ProposeWard) 2 3 ∷ counts 72 14 1 ∷ sound ∷ [])
     -- two workers of one ward: worker 1's seat is decided with 3, it writes that to the table, and its value stays 8
     ∷ case 1 (1 ∷ 1 ∷ []) (both 62 3) (wardSeat 1 1 1 3 ∷ stands 1 (Working WriteTable) 1 8 ∷ sound ∷ [])
     ∷ case 1 (1 ∷ 1 ∷ []) (both 62 4) (entry 1 1 3 ∷ stands 1 (Working ProposePoll) 1 8 ∷ sound ∷ [])
