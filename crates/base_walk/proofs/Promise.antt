@@ -118,8 +118,8 @@ module _ {n : ℕ} (p : Promise n) where
   vals κs a = valss (rows κs p.takes) (spells κs p.takes) a
 
   module _ (κs : Lfts n) (a : Args κs) where
-    abbrev pub own-all : Fml
-    own-all = owns (rows κs p.takes) a (vals κs a)
+    abbrev pub own_all : Fml
+    own_all = owns (rows κs p.takes) a (vals κs a)
 
     abbrev pub had : Fml
     had = has_of κs (slots p.takes) (all yes (slots p.takes)) (stays p.takes) a (p.ends κs a) (vals κs a)
@@ -135,8 +135,8 @@ module _ {n : ℕ} (p : Promise n) where
     abbrev pub token : Lfts n → Shares n → SProp 𝓤
     token = alive 𝓛 ended.signature
 
-    abbrev pub on-entry : (κs : Lfts n) → Shares n → Args κs → SProp 𝓤
-    on-entry κs qs a = on_entry 𝓛 ended.signature κs qs a (vals κs a)
+    abbrev pub on_entry_of : (κs : Lfts n) → Shares n → Args κs → SProp 𝓤
+    on_entry_of κs qs a = on_entry 𝓛 ended.signature κs qs a (vals κs a)
 
     abbrev pub bound : (says : Claim) (κs : Lfts n) → Shares n → Args κs → (triple says).Ghost
     bound says κs qs a = ((κs, qs, tt, a, vals κs a), tt)

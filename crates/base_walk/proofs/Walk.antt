@@ -23,7 +23,7 @@ use types.Kit.{pop, rewrite}
 use denote.Laws.{all_Typed}
 use denote.Triple.Clauses.{lasts}
 use Rattle.base_walk.proofs.Promise.{stays, rows, spells, all_tell, fits, all_go, lawfuls, Promise, ended, Args, Claim, vals}
-use Rattle.base_walk.proofs.Promise.{own-all, had, triple, token, on-entry, bound}
+use Rattle.base_walk.proofs.Promise.{own_all, had, triple, token, on_entry_of, bound}
 
 module _ {M : Type 1} {𝓤 : Ura M} (𝓛 : Logic 𝓤) {n : ℕ} where
   open 𝓛 use {H}
@@ -44,7 +44,7 @@ module _ {M : Type 1} {𝓤 : Ura M} (𝓛 : Logic 𝓤) {n : ℕ} where
       → ((r : (p.gives.row κs).Denot) → r ≡ p.answer κs a →
       ent 𝓤 (⋆ 𝓛 (‵ (had p κs a) ∷ ‵ ((p.gives.row κs).own r (p.gives.val κs r ∷ [])) ∷ raw (token p 𝓛 κs qs) ∷ []))
       (Q (p.gives.val κs r)))
-      → Seq (Go {0}) 𝓛 (raw (on-entry p 𝓛 κs qs a) ∷ [])
+      → Seq (Go {0}) 𝓛 (raw (on_entry_of p 𝓛 κs qs a) ∷ [])
       (allocs f.locals (λ E. params' E (flat (rows κs p.takes) (vals p κs a)) (runs C Λ E f.body (at_ret E Q))))
 
 module _ {M : Type 1} {𝓤 : Ura M} {𝓛 : Logic 𝓤} {K : Type 0} {Γ : List (Item 𝓤)} where
@@ -60,29 +60,29 @@ module _ {M : Type 1} {𝓤 : Ura M} {𝓛 : Logic 𝓤} {K : Type 0} {Γ : List
 
   module _ {G : Goal 𝓤 H} {n : ℕ} where
     pub passes_on : K → (p p' : Promise n) (κs : Lfts n) (qs : Shares n) (a : Args p κs) (a' : Args p' κs) →
-        ent 𝓤 (sem 𝓛 (own-all p κs a)) (sem 𝓛 (own-all p' κs a'))
-        → Step K 𝓛 (raw (on-entry p' 𝓛 κs qs a') ∷ Γ) G (raw (on-entry p 𝓛 κs qs a) ∷ Γ) G
-    passes_on t p p' κs qs a a' gives = use1 𝓛 (raw (on-entry p' 𝓛 κs qs a')) (mono_r 𝓤 (token p 𝓛 κs qs) gives)
+        ent 𝓤 (sem 𝓛 (own_all p κs a)) (sem 𝓛 (own_all p' κs a'))
+        → Step K 𝓛 (raw (on_entry_of p' 𝓛 κs qs a') ∷ Γ) G (raw (on_entry_of p 𝓛 κs qs a) ∷ Γ) G
+    passes_on t p p' κs qs a a' gives = use1 𝓛 (raw (on_entry_of p' 𝓛 κs qs a')) (mono_r 𝓤 (token p 𝓛 κs qs) gives)
 
     pub copied : K → (p : Promise n) (κs : Lfts n) (qs : Shares n) (a : Args p κs) → Copies 𝓛 (rows κs p.takes) →
-        Step K 𝓛 (raw (on-entry p 𝓛 κs qs a) ∷ ‵ (own-all p κs a) ∷ Γ) G (raw (on-entry p 𝓛 κs qs a) ∷ Γ) G
-    copied t p κs qs a copies = step (λ s. use1 𝓛 (raw (token p 𝓛 κs qs) ⊛ (‵ (own-all p κs a) ⊛ ‵ (own-all p κs a)))
+        Step K 𝓛 (raw (on_entry_of p 𝓛 κs qs a) ∷ ‵ (own_all p κs a) ∷ Γ) G (raw (on_entry_of p 𝓛 κs qs a) ∷ Γ) G
+    copied t p κs qs a copies = step (λ s. use1 𝓛 (raw (token p 𝓛 κs qs) ⊛ (‵ (own_all p κs a) ⊛ ‵ (own_all p κs a)))
         (mono_r 𝓤 (token p 𝓛 κs qs) (twices 𝓛 (rows κs p.takes) copies a (vals p κs a))) $
-        split t $ move t (1 ∷ []) $ split t $ move t (2 ∷ 0 ∷ []) $ use2 𝓛 (raw (on-entry p 𝓛 κs qs a)) (id⊢ 𝓤 _) $ s)
+        split t $ move t (1 ∷ []) $ split t $ move t (2 ∷ 0 ∷ []) $ use2 𝓛 (raw (on_entry_of p 𝓛 κs qs a)) (id⊢ 𝓤 _) $ s)
 
   module _ {E : Env 𝓤 H} {C : Calls 𝓤 H} {Λ : Loops 𝓤 H} {f : Name} {xs : List Operand} {q : Post 𝓤 H} {d : Place} {rest : Body} {n : ℕ} {p : Promise n} where
     pub asks : K → Known 𝓛 C f p → (κs : Lfts n) (qs : Shares n) (a : Args p κs) →
-        Opds K 𝓛 (raw (on-entry p 𝓛 κs qs a) ∷ Γ) E xs (flat (rows κs p.takes) (vals p κs a))
+        Opds K 𝓛 (raw (on_entry_of p 𝓛 κs qs a) ∷ Γ) E xs (flat (rows κs p.takes) (vals p κs a))
         → ((ws : Lasts (ended p) κs a) → Is (p.gives.row κs) (p.answer κs a) (p.gives.val κs (p.answer κs a) ∷ []) →
         Typed (p.gives.row κs).mir (p.gives.val κs (p.answer κs a) ∷ [])
         → Seq K 𝓛 (‵ ((p.gives.row κs).own (p.answer κs a) (p.gives.val κs (p.answer κs a) ∷ [])) ∷ raw (token p 𝓛 κs qs)
         ∷ ‵ (lasts (ended p) κs a ws) ∷ Γ) (lands C Λ E d (p.gives.val κs (p.answer κs a)) rest q))
-        → Seq K 𝓛 (raw (on-entry p 𝓛 κs qs a) ∷ Γ) (runs C Λ E (seq (call f xs d) rest) q)
+        → Seq K 𝓛 (raw (on_entry_of p 𝓛 κs qs a) ∷ Γ) (runs C Λ E (seq (call f xs d) rest) q)
     asks t callee κs qs a os k =
         let R = p.gives.row κs in
-        calls_from t callee.framed (raw (on-entry p 𝓛 κs qs a)) (flat (rows κs p.takes) (vals p κs a))
+        calls_from t callee.framed (raw (on_entry_of p 𝓛 κs qs a)) (flat (rows κs p.takes) (vals p κs a))
         ((triple p 𝓛 callee.claim).post (bound p 𝓛 callee.claim κs qs a))
-        (via 𝓤 _ (pop 𝓛 (raw (on-entry p 𝓛 κs qs a)) []) (callee.met (bound p 𝓛 callee.claim κs qs a))) os (λ u.
+        (via 𝓤 _ (pop 𝓛 (raw (on_entry_of p 𝓛 κs qs a)) []) (callee.met (bound p 𝓛 callee.claim κs qs a))) os (λ u.
         use1 𝓛 (later (someone (λ (r : R.Denot). (raw (token p 𝓛 κs qs) ⊛ ‵ (R.own r (u ∷ []))) ⊛ someone
         (λ (ws : Lasts (ended p) κs a). ‵ (lasts (ended p) κs a ws) ⊛ raw (fact 𝓤 (callee.claim κs a r ws)))))) (id⊢ 𝓤 _) $
         await t tt $ pick t (λ r. split t $ move t (1 ∷ []) $ pick t
@@ -113,7 +113,7 @@ proved {𝓤 = 𝓤} 𝓛 𝓜 𝓡 γ k f closed p c so k' r' calls p' claim to
     (walk_Meets 𝓛 (ended p) (stays p.takes) (all_go 𝓛 p.takes) c (WpFn 𝓤 𝓛.H 𝓣.C 𝓣.Λ f) (WpFn-mono 𝓤 𝓛.H 𝓛.laws 𝓣 f)
     (walked 𝓛 (ended p) (stays p.takes) c (WpFn 𝓤 𝓛.H 𝓣.C 𝓣.Λ f) (λ κs. spells κs p.takes) (λ κs. all_tell κs p.takes)
     (λ κs qs bounds a g are. via 𝓤 _ (fst∗ 𝓤 _ ((c κs a).requires g))
-    (qed 𝓛 (raw (on-entry p 𝓛 κs qs a) ∷ []) ∵ enter ! 𝓣.C 𝓣.Λ f (flat (rows κs p.takes) (vals p κs a)) _ $
+    (qed 𝓛 (raw (on_entry_of p 𝓛 κs qs a) ∷ []) ∵ enter ! 𝓣.C 𝓣.Λ f (flat (rows κs p.takes) (vals p κs a)) _ $
     walk 𝓣.C 𝓣.Λ (record {
       framed = fm_of 𝓤 𝓛.H 𝓛.laws 𝓣;
       claim = claim;

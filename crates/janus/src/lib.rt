@@ -3,9 +3,9 @@
 ghost use Rattle.std.specs.Prelude.{◌≡◌};
 ghost use Rattle.model.specs.declared.Caller.TheVariants.{Server};
 ghost use Rattle.model.specs.Runner.{run as run_of};
-ghost use Rattle.model.specs.Export.{exportCode, exportBuffer};
-ghost use Rattle.model_report.specs.ReportExport.{reportCode, reportBuffer};
-ghost use Rattle.model_write.specs.WriteExport.{export_of, writeExport};
+ghost use Rattle.model.specs.Export.{export_code, export_buffer};
+ghost use Rattle.model_report.specs.ReportExport.{report_code, report_buffer};
+ghost use Rattle.model_write.specs.WriteExport.{export_of, write_export};
 
 use model::numbers::{BAD_BUFFER, BUDGET_ENDED};
 use model::{Caller, Ending, Ran};
@@ -22,8 +22,8 @@ fn run(sheet: &[u8], budget: usize) -> Ran
 // buffer is as it was.
 #[unsafe(no_mangle)]
 pub extern "C" fn janus_run(sheet: &[u8], budget: usize, buffer: &mut [u8]) -> u32
-    ensures code { result ≡ exportCode sheet.now budget buffer.old }
-    ensures writes { buffer.new ≡ exportBuffer sheet.now budget buffer.old }
+    ensures code { result ≡ export_code sheet.now budget buffer.old }
+    ensures writes { buffer.new ≡ export_buffer sheet.now budget buffer.old }
 {
     if buffer.len() != 256 {
         return BAD_BUFFER;
@@ -44,8 +44,8 @@ pub extern "C" fn janus_run(sheet: &[u8], budget: usize, buffer: &mut [u8]) -> u
 // nothing changed, where the buffer is shorter than the text.
 #[unsafe(no_mangle)]
 pub extern "C" fn janus_report(sheet: &[u8], buffer: &mut [u8]) -> usize
-    ensures code { result ≡ reportCode sheet.now buffer.old }
-    ensures writes { buffer.new ≡ reportBuffer sheet.now buffer.old }
+    ensures code { result ≡ report_code sheet.now buffer.old }
+    ensures writes { buffer.new ≡ report_buffer sheet.now buffer.old }
 {
     janus_report::put_report(run(sheet, 10921), buffer)
 }
@@ -62,7 +62,7 @@ pub extern "C" fn janus_write(
     size: &mut usize,
 ) -> u32
     ensures { export_of result sheet.new size.new
-        ≡ writeExport Server n limit entries.now lengths.now sheet.old size.old }
+        ≡ write_export Server n limit entries.now lengths.now sheet.old size.old }
 {
     janus_written::write(Caller::Server, n, limit, entries, lengths, sheet, size)
 }

@@ -5,23 +5,23 @@ use Rattle.model.specs.declared.Ending.{Ending}
 use Rattle.model.specs.declared.Ending.TheVariants.{Finished, Refused, BudgetEnded, Rejected}
 use Rattle.model.specs.declared.Caller.TheVariants.{Server}
 use Rattle.model.specs.Runner.{run}
-use Rattle.model_report.specs.Report.{decimal, digits, outcomeLine, report, reportBudget}
+use Rattle.model_report.specs.Report.{decimal, digits, outcome_line, report, report_budget}
 
 -- A number has a digit.
-some-digit : (v : ℕ) → 1 ≤ length (decimal v)
+some_digit : (v : ℕ) → 1 ≤ length (decimal v)
 unfolding digits
-some-digit v =
+some_digit v =
     cond_cases (λ (d : List ℕ). 1 ≤ length d) (ltb v 10) (λ e. omega arith) (λ e. simp length-append (omega arith))
 
 -- The shortest first line is that of a refused sheet.
-pub outcome-long : (e : Ending) (k : ℕ) → 16 ≤ length (outcomeLine e k)
-outcome-long Finished k = simp length-append (omega (arith, some-digit k))
-outcome-long (Refused c i) k = simp length-append (omega (arith, some-digit c, some-digit i))
-outcome-long BudgetEnded k = simp length-append (omega (arith, some-digit k))
-outcome-long (Rejected c) k = simp length-append (omega (arith, some-digit c))
+pub outcome_long : (e : Ending) (k : ℕ) → 16 ≤ length (outcome_line e k)
+outcome_long Finished k = simp length-append (omega (arith, some_digit k))
+outcome_long (Refused c i) k = simp length-append (omega (arith, some_digit c, some_digit i))
+outcome_long BudgetEnded k = simp length-append (omega (arith, some_digit k))
+outcome_long (Rejected c) k = simp length-append (omega (arith, some_digit c))
 
-pub report-long : (s : List ℕ) → 16 ≤ length (report s)
+pub report_long : (s : List ℕ) → 16 ≤ length (report s)
 unfolding report
-report-long s =
-    let r = run Server s reportBudget in
-    simp length-append (omega (arith, outcome-long r.ending r.carried))
+report_long s =
+    let r = run Server s report_budget in
+    simp length-append (omega (arith, outcome_long r.ending r.carried))

@@ -1,7 +1,7 @@
 // The board report (01, "The board report"), written to a lent buffer.
 ghost use Rattle.std.specs.Prelude.{◌≡◌, ◌≤◌, length, take, drop, ◌++◌};
-ghost use Rattle.model_report.specs.Report.{reportOf};
-ghost use Rattle.model_report.specs.ReportExport.{textCode, textBuffer};
+ghost use Rattle.model_report.specs.Report.{report_of};
+ghost use Rattle.model_report.specs.ReportExport.{text_code, text_buffer};
 
 use model::Ran;
 use model::numbers::BAD_BUFFER;
@@ -22,8 +22,8 @@ fn copy(from: &[u8], n: usize, buffer: &mut [u8])
 // The report's text of a run, written to the lent buffer from its first byte on; answers the text's size. 15 and nothing changed where the
 // buffer is shorter than the text.
 pub fn put_report(ran: Ran, buffer: &mut [u8]) -> usize
-    ensures code { result ≡ textCode (reportOf ran) buffer.old }
-    ensures writes { buffer.new ≡ textBuffer (reportOf ran) buffer.old }
+    ensures code { result ≡ text_code (report_of ran) buffer.old }
+    ensures writes { buffer.new ≡ text_buffer (report_of ran) buffer.old }
 {
     let text = use_report_text::report_of(ran);
     let size = text.len;

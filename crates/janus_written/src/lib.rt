@@ -1,6 +1,6 @@
 // The sheet writer for callers in C (02, wish 3): the size goes to a lent number.
 ghost use Rattle.std.specs.Prelude.{◌≡◌};
-ghost use Rattle.model_write.specs.WriteExport.{export_of, writeExport};
+ghost use Rattle.model_write.specs.WriteExport.{export_of, write_export};
 
 use model::Caller;
 
@@ -16,7 +16,7 @@ pub fn write(
     size: &mut usize,
 ) -> u32
     ensures { export_of result sheet.new size.new
-        ≡ writeExport caller n limit entries.now lengths.now sheet.old size.old }
+        ≡ write_export caller n limit entries.now lengths.now sheet.old size.old }
 {
     let answer = sheet_write::write(caller, n, limit, entries, lengths, sheet);
     let code = answer.code;

@@ -9,23 +9,23 @@ use Rattle.model.specs.declared.Caller.TheVariants.{Server, Cart}
 use Rattle.model.specs.declared.Limits.{Limits}
 
 -- "Seats n: 1 to 64, numbered from 0." The most processes that a session holds.
-abbrev pub maxProcesses : ℕ
-maxProcesses = 64
+abbrev pub max_processes : ℕ
+max_processes = 64
 
 -- "Round limit L: W to 256." The most rounds that a session holds.
-abbrev pub maxRounds : ℕ
-maxRounds = 256
+abbrev pub max_rounds : ℕ
+max_rounds = 256
 
 -- 02, wish 9: "A cart runs the same library with at most 16 seats and 64 rounds; the server stays at 64 and 256." There is "one pair for
 -- each of the two callers". The server's is what a session holds.
-abbrev pub limitsOf : Caller → Limits
-limitsOf Server = record { processes = maxProcesses; rounds = maxRounds }
-limitsOf Cart = record { processes = 16; rounds = 64 }
+abbrev pub limits_of : Caller → Limits
+limits_of Server = record { processes = max_processes; rounds = max_rounds }
+limits_of Cart = record { processes = 16; rounds = 64 }
 
 -- Limits "up to the server's", as both callers' are.
 pub record UpToServer (most : Limits) : Type 0 where
-  pub processes : most.processes ≤ (limitsOf Server).processes
-  pub rounds : most.rounds ≤ (limitsOf Server).rounds
+  pub processes : most.processes ≤ (limits_of Server).processes
+  pub rounds : most.rounds ≤ (limits_of Server).rounds
 
 -- ---- what a session holds
 
@@ -34,24 +34,24 @@ abbrev pub value_at : Session → ℕ → ℕ
 value_at s r = get_or s.values (r - 1) 0
 
 -- 01: "a mark C[r]", r from 1.
-abbrev pub markAt : Session → ℕ → Bool
-markAt s r = get_or s.marks (r - 1) false
+abbrev pub mark_at : Session → ℕ → Bool
+mark_at s r = get_or s.marks (r - 1) false
 
 -- A process before it proposes (01: a seat that is out, round 0 and own value 0).
 abbrev pub idle : Process
 idle = record { phase = Idle; round = 0; estimate = 0 }
 
 -- "The number picks a row": the record of process p, from 0.
-abbrev pub processAt : Session → ℕ → Process
-processAt s p = get_or s.processes p idle
+abbrev pub process_at : Session → ℕ → Process
+process_at s p = get_or s.processes p idle
 
 -- The highest filled round, 0 for none: of the registers from round r + 1 on, where the highest so far is `top`.
-abbrev pub highestFrom : (top r : ℕ) → List ℕ → ℕ
-highestFrom top r [] = top
-highestFrom top r (x ∷ xs) = highestFrom (cond (eqb x 0) top (suc r)) (suc r) xs
+abbrev pub highest_from : (top r : ℕ) → List ℕ → ℕ
+highest_from top r [] = top
+highest_from top r (x ∷ xs) = highest_from (cond (eqb x 0) top (suc r)) (suc r) xs
 
-abbrev pub highestFilled : Session → ℕ
-highestFilled s = highestFrom 0 0 s.values
+abbrev pub highest_filled : Session → ℕ
+highest_filled s = highest_from 0 0 s.values
 
 -- ---- sessions
 
@@ -62,10 +62,10 @@ opened n limit =
     record {
       n = n;
       limit = limit;
-      values = replicate maxRounds 0;
-      marks = replicate maxRounds false;
+      values = replicate max_rounds 0;
+      marks = replicate max_rounds false;
       decision = 0;
-      processes = replicate maxProcesses idle;
+      processes = replicate max_processes idle;
       closed = false;
     }
 
@@ -83,22 +83,22 @@ with s values marks decision processes =
     }
 
 -- With one of them alone.
-abbrev pub withValues : Session → List ℕ → Session
-withValues s values = with s values s.marks s.decision s.processes
+abbrev pub with_values : Session → List ℕ → Session
+with_values s values = with s values s.marks s.decision s.processes
 
-abbrev pub withMarks : Session → List Bool → Session
-withMarks s marks = with s s.values marks s.decision s.processes
+abbrev pub with_marks : Session → List Bool → Session
+with_marks s marks = with s s.values marks s.decision s.processes
 
-abbrev pub withDecision : Session → ℕ → Session
-withDecision s decision = with s s.values s.marks decision s.processes
+abbrev pub with_decision : Session → ℕ → Session
+with_decision s decision = with s s.values s.marks decision s.processes
 
 -- With another record for process p.
-abbrev pub withProcess : Session → ℕ → Process → Session
-withProcess s p q = with s s.values s.marks s.decision (set s.processes p q)
+abbrev pub with_process : Session → ℕ → Process → Session
+with_process s p q = with s s.values s.marks s.decision (set s.processes p q)
 
 -- With the closed mark set, all else as it was.
-abbrev pub withClosed : Session → Session
-withClosed s =
+abbrev pub with_closed : Session → Session
+with_closed s =
     record {
       n = s.n;
       limit = s.limit;
@@ -112,5 +112,5 @@ withClosed s =
 -- ---- the counts
 
 -- An empty tally.
-abbrev pub noCounts : Counts
-noCounts = record { reads = 0; writes = 0; contested = 0 }
+abbrev pub no_counts : Counts
+no_counts = record { reads = 0; writes = 0; contested = 0 }

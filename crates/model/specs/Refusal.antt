@@ -13,9 +13,9 @@ use Rattle.model.specs.declared.Operation.TheVariants.{Propose, Step, Learn, Cra
 use Rattle.model.specs.declared.Changed.{Changed}
 use Rattle.model.specs.declared.Stepped.{Stepped}
 use Rattle.model.specs.Window.{window}
-use Rattle.model.specs.Board.{processAt}
-use Rattle.model.specs.Numbers.{badProcessCount, badRoundLimit, noSuchProcess, blankProposal, secondProposal}
-use Rattle.model.specs.Numbers.{processOut, processGone, processSpent, countsFull, closedToProposals}
+use Rattle.model.specs.Board.{process_at}
+use Rattle.model.specs.Numbers.{bad_process_count, bad_round_limit, no_such_process, blank_proposal, second_proposal}
+use Rattle.model.specs.Numbers.{process_out, process_gone, process_spent, counts_full, closed_to_proposals}
 
 -- A test that refuses, and the number that is then returned.
 abbrev pub Test : Type 0
@@ -47,104 +47,104 @@ status Decided = Gone
 status HasCommitted = Gone
 status HasAdopted = Gone
 
-abbrev pub isOutside : Status → Bool
-isOutside Outside = true
-isOutside Active = false
-isOutside Spent = false
-isOutside Gone = false
+abbrev pub is_outside : Status → Bool
+is_outside Outside = true
+is_outside Active = false
+is_outside Spent = false
+is_outside Gone = false
 
-abbrev pub isActive : Status → Bool
-isActive Outside = false
-isActive Active = true
-isActive Spent = false
-isActive Gone = false
+abbrev pub is_active : Status → Bool
+is_active Outside = false
+is_active Active = true
+is_active Spent = false
+is_active Gone = false
 
-abbrev pub isSpent : Status → Bool
-isSpent Outside = false
-isSpent Active = false
-isSpent Spent = true
-isSpent Gone = false
+abbrev pub is_spent : Status → Bool
+is_spent Outside = false
+is_spent Active = false
+is_spent Spent = true
+is_spent Gone = false
 
-abbrev pub isGone : Status → Bool
-isGone Outside = false
-isGone Active = false
-isGone Spent = false
-isGone Gone = true
+abbrev pub is_gone : Status → Bool
+is_gone Outside = false
+is_gone Active = false
+is_gone Spent = false
+is_gone Gone = true
 
 -- 01: "seat .. decided" alone.
-abbrev pub isDecided : Phase → Bool
-isDecided Idle = false
-isDecided Waiting = false
-isDecided Write = false
-isDecided (Scan k) = false
-isDecided (Adopt k) = false
-isDecided (Compare i) = false
-isDecided (Flag i) = false
-isDecided (CheckMark i) = false
-isDecided (CheckValue i) = false
-isDecided Commit = false
-isDecided Exhausted = false
-isDecided Crashed = false
-isDecided Decided = true
-isDecided HasCommitted = false
-isDecided HasAdopted = false
+abbrev pub is_decided : Phase → Bool
+is_decided Idle = false
+is_decided Waiting = false
+is_decided Write = false
+is_decided (Scan k) = false
+is_decided (Adopt k) = false
+is_decided (Compare i) = false
+is_decided (Flag i) = false
+is_decided (CheckMark i) = false
+is_decided (CheckValue i) = false
+is_decided Commit = false
+is_decided Exhausted = false
+is_decided Crashed = false
+is_decided Decided = true
+is_decided HasCommitted = false
+is_decided HasAdopted = false
 
 -- The largest count, 2 ^ 32 - 1.
-abbrev pub maxCount : ℕ
-maxCount = 4294967295
+abbrev pub max_count : ℕ
+max_count = 4294967295
 
 -- 01: "some tally count already 4,294,967,295".
 unfoldable pub full : Counts → Bool
-full c = leb maxCount c.reads || leb maxCount c.writes || leb maxCount c.contested
+full c = leb max_count c.reads || leb max_count c.writes || leb max_count c.contested
 
 -- ---- the tests of each operation, in their order
 
 -- Opening with n processes and round limit L, within a caller's limits, at window W: 1, 2. (02, wish 9: "1 and 2 speak of the caller's
 -- limits".)
-abbrev pub openTestsFor : Limits → (W n L : ℕ) → List Test
-openTestsFor most W n L =
-    (not (leb 1 n && leb n most.processes), badProcessCount)
-    ∷ (not (leb W L && leb L most.rounds), badRoundLimit)
+abbrev pub open_tests_for : Limits → (W n L : ℕ) → List Test
+open_tests_for most W n L =
+    (not (leb 1 n && leb n most.processes), bad_process_count)
+    ∷ (not (leb W L && leb L most.rounds), bad_round_limit)
     ∷ []
 
 -- In service: at the window of n.
-abbrev pub openTests : Limits → (n L : ℕ) → List Test
-openTests most n L = openTestsFor most (window n) n L
+abbrev pub open_tests : Limits → (n L : ℕ) → List Test
+open_tests most n L = open_tests_for most (window n) n L
 
 -- The operations' own tests, by the phase of the process that they name. Proposal: 5, 6. 02, wish 10: "18: proposal to a closed session,
 -- tested last, after 6".
-abbrev pub proposeTests : (closed : Bool) → Phase → (v : ℕ) → List Test
-proposeTests closed φ v =
-    (eqb v 0, blankProposal) ∷ (not (isOutside (status φ)), secondProposal) ∷ (closed, closedToProposals) ∷ []
+abbrev pub propose_tests : (closed : Bool) → Phase → (v : ℕ) → List Test
+propose_tests closed φ v =
+    (eqb v 0, blank_proposal) ∷ (not (is_outside (status φ)), second_proposal) ∷ (closed, closed_to_proposals) ∷ []
 
 -- Work: 7, 8, 9, 16.
-abbrev pub stepTests : Phase → Counts → List Test
-stepTests φ c =
-    (isOutside (status φ), processOut)
-    ∷ (isGone (status φ), processGone)
-    ∷ (isSpent (status φ), processSpent)
-    ∷ (full c, countsFull)
+abbrev pub step_tests : Phase → Counts → List Test
+step_tests φ c =
+    (is_outside (status φ), process_out)
+    ∷ (is_gone (status φ), process_gone)
+    ∷ (is_spent (status φ), process_spent)
+    ∷ (full c, counts_full)
     ∷ []
 
 -- Look: 7, 8, 16.
-abbrev pub learnTests : Phase → Counts → List Test
-learnTests φ c = (isOutside (status φ), processOut) ∷ (isGone (status φ), processGone) ∷ (full c, countsFull) ∷ []
+abbrev pub learn_tests : Phase → Counts → List Test
+learn_tests φ c = (is_outside (status φ), process_out) ∷ (is_gone (status φ), process_gone) ∷ (full c, counts_full) ∷ []
 
 -- Crash: 7, 8.
-abbrev pub crashTests : Phase → List Test
-crashTests φ = (isOutside (status φ), processOut) ∷ (isGone (status φ), processGone) ∷ []
+abbrev pub crash_tests : Phase → List Test
+crash_tests φ = (is_outside (status φ), process_out) ∷ (is_gone (status φ), process_gone) ∷ []
 
 -- In front of them 4, of an operation that names process p.
-abbrev pub processTests : Session → (p : ℕ) → (own : Phase → List Test) → List Test
-processTests s p own = (leb s.n p, noSuchProcess) ∷ own (processAt s p).phase
+abbrev pub process_tests : Session → (p : ℕ) → (own : Phase → List Test) → List Test
+process_tests s p own = (leb s.n p, no_such_process) ∷ own (process_at s p).phase
 
 -- "Order: .. Proposal 3, 4, 5, 6. Work 3, 4, 7, 8, 9, 16. Look 3, 4, 7, 8, 16. Crash 3, 4, 7, 8." (3, session not sound, is in front of
 -- all in `Public`.) 02, wish 10, "proposals are then refused and all else goes on": no other test reads the closed mark.
 abbrev pub tests : Session → Counts → Operation → List Test
-tests s c (Propose p v) = processTests s p (λ φ. proposeTests s.closed φ v)
-tests s c (Step p leader) = processTests s p (λ φ. stepTests φ c)
-tests s c (Learn p) = processTests s p (λ φ. learnTests φ c)
-tests s c (Crash p) = processTests s p crashTests
+tests s c (Propose p v) = process_tests s p (λ φ. propose_tests s.closed φ v)
+tests s c (Step p leader) = process_tests s p (λ φ. step_tests φ c)
+tests s c (Learn p) = process_tests s p (λ φ. learn_tests φ c)
+tests s c (Crash p) = process_tests s p crash_tests
 
 -- ---- the answers
 

@@ -6,8 +6,8 @@ use Rattle.model.specs.declared.Phase.TheVariants.{CheckValue, Commit, Exhausted
 use Rattle.model.specs.declared.Process.{Process}
 use Rattle.model.specs.declared.Session.{Session}
 use Rattle.model.specs.Window.{window}
-use Rattle.model.specs.Board.{maxProcesses, maxRounds}
-use Rattle.model.specs.Refusal.{status, isOutside}
+use Rattle.model.specs.Board.{max_processes, max_rounds}
+use Rattle.model.specs.Refusal.{status, is_outside}
 
 -- Whether a test holds of every element.
 abbrev pub every : {A : Type 0} → (A → Bool) → List A → Bool
@@ -18,66 +18,66 @@ every test (x ∷ xs) = test x && every test xs
 -- L; take k has 1 ≤ r ≤ k ≤ L; compare and flag have r ≥ 1 and i below the smaller of r and W; the checks have r ≥ W and i < W; commit has
 -- r ≥ W; spent has r = L." 02, wish 6: "A sound poll keeps a session's rules and has .. no spent or decided seat, gate only below round W,
 -- and answered seats at round W; no sound session has an answered seat."
-unfoldable pub soundPhaseAs : (poll : Bool) → (W L r : ℕ) → Phase → Bool
-soundPhaseAs poll W L r Idle = eqb r 0
-soundPhaseAs poll W L r Waiting = not poll || ltb r W
-soundPhaseAs poll W L r Write = leb 1 r
-soundPhaseAs poll W L r (Scan k) = leb 1 r && ltb r k && leb k L
-soundPhaseAs poll W L r (Adopt k) = leb 1 r && leb r k && leb k L
-soundPhaseAs poll W L r (Compare i) = leb 1 r && ltb i (min r W)
-soundPhaseAs poll W L r (Flag i) = leb 1 r && ltb i (min r W)
-soundPhaseAs poll W L r (CheckMark i) = leb W r && ltb i W
-soundPhaseAs poll W L r (CheckValue i) = leb W r && ltb i W
-soundPhaseAs poll W L r Commit = leb W r
-soundPhaseAs poll W L r Exhausted = not poll && eqb r L
-soundPhaseAs poll W L r Crashed = true
-soundPhaseAs poll W L r Decided = not poll
-soundPhaseAs poll W L r HasCommitted = poll && eqb r W
-soundPhaseAs poll W L r HasAdopted = poll && eqb r W
+unfoldable pub sound_phase_as : (poll : Bool) → (W L r : ℕ) → Phase → Bool
+sound_phase_as poll W L r Idle = eqb r 0
+sound_phase_as poll W L r Waiting = not poll || ltb r W
+sound_phase_as poll W L r Write = leb 1 r
+sound_phase_as poll W L r (Scan k) = leb 1 r && ltb r k && leb k L
+sound_phase_as poll W L r (Adopt k) = leb 1 r && leb r k && leb k L
+sound_phase_as poll W L r (Compare i) = leb 1 r && ltb i (min r W)
+sound_phase_as poll W L r (Flag i) = leb 1 r && ltb i (min r W)
+sound_phase_as poll W L r (CheckMark i) = leb W r && ltb i W
+sound_phase_as poll W L r (CheckValue i) = leb W r && ltb i W
+sound_phase_as poll W L r Commit = leb W r
+sound_phase_as poll W L r Exhausted = not poll && eqb r L
+sound_phase_as poll W L r Crashed = true
+sound_phase_as poll W L r Decided = not poll
+sound_phase_as poll W L r HasCommitted = poll && eqb r W
+sound_phase_as poll W L r HasAdopted = poll && eqb r W
 
 -- 01: "out has .. value 0, every other stance a value above 0 and a round of at most L", and the phase's own clause.
-unfoldable pub soundProcessAs : (poll : Bool) → (W L : ℕ) → Process → Bool
-soundProcessAs poll W L q =
-    cond (isOutside (status q.phase)) (eqb q.estimate 0) (ltb 0 q.estimate)
+unfoldable pub sound_process_as : (poll : Bool) → (W L : ℕ) → Process → Bool
+sound_process_as poll W L q =
+    cond (is_outside (status q.phase)) (eqb q.estimate 0) (ltb 0 q.estimate)
     && leb q.round L
-    && soundPhaseAs poll W L q.round q.phase
+    && sound_phase_as poll W L q.round q.phase
 
 -- 02, wish 6: a sound poll "has L = W, a blank D"; wish 10: "Polls have no close, and a sound one is open."
-unfoldable pub pollRegisters : (poll : Bool) → (W : ℕ) → Session → Bool
-pollRegisters poll W s = not poll || (eqb s.limit W && eqb s.decision 0 && not s.closed)
+unfoldable pub poll_registers : (poll : Bool) → (W : ℕ) → Session → Bool
+poll_registers poll W s = not poll || (eqb s.limit W && eqb s.decision 0 && not s.closed)
 
 -- "A session is sound if: n is 1 to 64, L is W to 256; registers and marks past L are blank and unmarked; records from n on are out", and
 -- each record is sound; a poll, if its rules hold too. The window is a value, since requests change it. 02, wish 9: "soundness, 3, stays
 -- with the server's" limits, which are what a session holds, so that every operation but opening takes a cart's session as it is. Wish 10
 -- has, of the closed mark of a session: "Soundness allows both."
-unfoldable pub soundForAs : (poll : Bool) → (W : ℕ) → Session → Bool
-soundForAs poll W s =
-    (leb 1 s.n && leb s.n maxProcesses)
-    && (leb W s.limit && leb s.limit maxRounds)
-    && pollRegisters poll W s
+unfoldable pub sound_for_as : (poll : Bool) → (W : ℕ) → Session → Bool
+sound_for_as poll W s =
+    (leb 1 s.n && leb s.n max_processes)
+    && (leb W s.limit && leb s.limit max_rounds)
+    && poll_registers poll W s
     && every (λ x. eqb x 0) (drop s.limit s.values)
     && every not (drop s.limit s.marks)
-    && every (λ q. isOutside (status q.phase)) (drop s.n s.processes)
-    && every (soundProcessAs poll W s.limit) s.processes
+    && every (λ q. is_outside (status q.phase)) (drop s.n s.processes)
+    && every (sound_process_as poll W s.limit) s.processes
 
 -- ---- of a session
 
-abbrev pub soundPhase : (W L r : ℕ) → Phase → Bool
-soundPhase W L r φ = soundPhaseAs false W L r φ
+abbrev pub sound_phase : (W L r : ℕ) → Phase → Bool
+sound_phase W L r φ = sound_phase_as false W L r φ
 
-abbrev pub soundProcess : (W L : ℕ) → Process → Bool
-soundProcess W L q = soundProcessAs false W L q
+abbrev pub sound_process : (W L : ℕ) → Process → Bool
+sound_process W L q = sound_process_as false W L q
 
-abbrev pub soundFor : (W : ℕ) → Session → Bool
-soundFor W s = soundForAs false W s
+abbrev pub sound_for : (W : ℕ) → Session → Bool
+sound_for W s = sound_for_as false W s
 
 -- ---- in service: at the window of its n
 
-unfoldable pub soundAs : (poll : Bool) → Session → Bool
-soundAs poll s = soundForAs poll (window s.n) s
+unfoldable pub sound_as : (poll : Bool) → Session → Bool
+sound_as poll s = sound_for_as poll (window s.n) s
 
 abbrev pub sound : Session → Bool
-sound s = soundAs false s
+sound s = sound_as false s
 
-abbrev pub soundPoll : Session → Bool
-soundPoll s = soundAs true s
+abbrev pub sound_poll : Session → Bool
+sound_poll s = sound_as true s

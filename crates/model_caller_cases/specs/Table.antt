@@ -2,27 +2,27 @@
 use Rattle.std.specs.Prelude.{ℕ, ◌≡◌, refl, Bool, true, ◌&&◌, List, [], ◌∷◌, eqb}
 use Rattle.model.specs.declared.Caller.{Caller}
 use Rattle.model.specs.declared.Caller.TheVariants.{Server, Cart}
-use Rattle.model.specs.Window.{window, rootUp, rootFrom}
-use Rattle.model.specs.Board.{limitsOf, opened}
-use Rattle.model.specs.Machine.{openingFor, opening}
-use Rattle.model.specs.Sheet.{sheetRefusal}
+use Rattle.model.specs.Window.{window, root_up, root_from}
+use Rattle.model.specs.Board.{limits_of, opened}
+use Rattle.model.specs.Machine.{opening_for, opening}
+use Rattle.model.specs.Sheet.{sheet_refusal}
 use Rattle.model.specs.Sound.{every}
-use Rattle.model_poll.specs.Machine.{pollOpeningFor, pollOpening}
-use Rattle.model_write.specs.Write.{sheetOf, writeRefusal}
+use Rattle.model_poll.specs.Machine.{poll_opening_for, poll_opening}
+use Rattle.model_write.specs.Write.{sheet_of, write_refusal}
 
 -- "Opening, of polls too, and sheet reading and writing take the caller's limits": the calls that do.
 pub data Request : Type 0 where
   opens : (n L : ℕ) → Request
-  opensPoll : (n : ℕ) → Request
+  opens_poll : (n : ℕ) → Request
   reads : (sheet : List ℕ) → Request
   writes : (n L : ℕ) (entries lengths : List ℕ) (room : ℕ) → Request
 
 -- The number that the caller gets.
 abbrev number_of : Caller → Request → ℕ
 number_of caller (opens n L) = (opening caller n L).code
-number_of caller (opensPoll n) = (pollOpening caller n).code
-number_of caller (reads s) = sheetRefusal (limitsOf caller) s
-number_of caller (writes n L es ms room) = writeRefusal (limitsOf caller) n L es ms room
+number_of caller (opens_poll n) = (poll_opening caller n).code
+number_of caller (reads s) = sheet_refusal (limits_of caller) s
+number_of caller (writes n L es ms room) = write_refusal (limits_of caller) n L es ms room
 
 -- A row of the table: the call, and both callers' numbers.
 pub record Row : Type 0 where
@@ -52,11 +52,11 @@ table =
     ∷ record { call = opens 65 256; server = 1; cart = 1 }
     ∷ record { call = opens 1 257; server = 2; cart = 2 }
     -- polls: 1 above 16 for the cart, above 64 for the server
-    ∷ record { call = opensPoll 0; server = 1; cart = 1 }
-    ∷ record { call = opensPoll 16; server = 0; cart = 0 }
-    ∷ record { call = opensPoll 17; server = 0; cart = 1 }
-    ∷ record { call = opensPoll 64; server = 0; cart = 1 }
-    ∷ record { call = opensPoll 65; server = 1; cart = 1 }
+    ∷ record { call = opens_poll 0; server = 1; cart = 1 }
+    ∷ record { call = opens_poll 16; server = 0; cart = 0 }
+    ∷ record { call = opens_poll 17; server = 0; cart = 1 }
+    ∷ record { call = opens_poll 64; server = 0; cart = 1 }
+    ∷ record { call = opens_poll 65; server = 1; cart = 1 }
     -- sheets without pairs, of 16 and 17 seats, of 64 and 65 rounds
     ∷ record { call = reads (16 ∷ 0 ∷ 64 ∷ 0 ∷ []); server = 0; cart = 0 }
     ∷ record { call = reads (17 ∷ 0 ∷ 64 ∷ 0 ∷ []); server = 0; cart = 1 }
@@ -88,6 +88,6 @@ table =
     ∷ []
 
 -- Every row holds.
-pub caller-cases : every holds table ≡ true
-unfolding table holds window rootUp rootFrom opened openingFor pollOpeningFor sheetRefusal sheetOf writeRefusal
-caller-cases = refl
+pub caller_cases : every holds table ≡ true
+unfolding table holds window root_up root_from opened opening_for poll_opening_for sheet_refusal sheet_of write_refusal
+caller_cases = refl

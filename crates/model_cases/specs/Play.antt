@@ -6,30 +6,30 @@ use Rattle.model.specs.declared.Phase.TheVariants.{CheckValue, Commit, Exhausted
 use Rattle.model.specs.declared.Caller.TheVariants.{Server}
 use Rattle.model.specs.declared.Stepped.{Stepped}
 use Rattle.model.specs.Window.{window}
-use Rattle.model.specs.Board.{value_at, markAt, processAt, noCounts}
+use Rattle.model.specs.Board.{value_at, mark_at, process_at, no_counts}
 use Rattle.model.specs.Machine.{Command, opening, execute}
 use Rattle.model.specs.Sound.{every}
-use Rattle.model.specs.Public.{withCounts}
+use Rattle.model.specs.Public.{with_counts}
 
 -- The machine of n processes after one command: its answer, the session and the counts.
 played : (n : ℕ) → Stepped → Command → Stepped
 played n t x = execute (window n) t.session t.counts x
 
 -- After operations one after another, by what each of them does. (Those of polls too: `model_poll_cases`.)
-abbrev pub playedAll : {S O : Type 0} → (S → O → S) → S → List O → S
-playedAll does t [] = t
-playedAll does t (o ∷ os) = playedAll does (does t o) os
+abbrev pub played_all : {S O : Type 0} → (S → O → S) → S → List O → S
+played_all does t [] = t
+played_all does t (o ∷ os) = played_all does (does t o) os
 
 -- Opened by the server with n processes and round limit L, and an empty tally.
 play : (n L : ℕ) → List Command → Stepped
 unfolding played
-play n L os = playedAll (played n) (withCounts (opening Server n L) noCounts) os
+play n L os = played_all (played n) (with_counts (opening Server n L) no_counts) os
 
 -- What a case says of the state after it.
 pub data Shows : Type 0 where
   answers : (code : ℕ) → Shows
-  hasWindow : (W : ℕ) → Shows
-  hasLimit : (L : ℕ) → Shows
+  has_window : (W : ℕ) → Shows
+  has_limit : (L : ℕ) → Shows
   register : (r v : ℕ) → Shows
   marked : (r : ℕ) → Shows
   decision : (v : ℕ) → Shows
@@ -38,8 +38,8 @@ pub data Shows : Type 0 where
   closed : Bool → Shows
 
 -- Whether two phases are the same: their kinds, and their k or i.
-phaseEq : Phase → Phase → Bool
-phaseEq φ ψ = eqb (kind φ) (kind ψ) && eqb (place φ) (place ψ)
+phase_eq : Phase → Phase → Bool
+phase_eq φ ψ = eqb (kind φ) (kind ψ) && eqb (place φ) (place ψ)
   where
     kind : Phase → ℕ
     kind Idle = 0
@@ -76,16 +76,16 @@ phaseEq φ ψ = eqb (kind φ) (kind ψ) && eqb (place φ) (place ψ)
     place HasAdopted = 0
 
 unfoldable pub shown : Stepped → Shows → Bool
-unfolding phaseEq
+unfolding phase_eq
 shown t (answers k) = eqb t.code k
-shown t (hasWindow W) = eqb (window t.session.n) W
-shown t (hasLimit L) = eqb t.session.limit L
+shown t (has_window W) = eqb (window t.session.n) W
+shown t (has_limit L) = eqb t.session.limit L
 shown t (register r v) = eqb (value_at t.session r) v
-shown t (marked r) = markAt t.session r
+shown t (marked r) = mark_at t.session r
 shown t (decision v) = eqb t.session.decision v
 shown t (stands p φ r e) =
-    let q = processAt t.session p in
-    phaseEq q.phase φ && eqb q.round r && eqb q.estimate e
+    let q = process_at t.session p in
+    phase_eq q.phase φ && eqb q.round r && eqb q.estimate e
 shown t (counts a b c) = eqb t.counts.reads a && eqb t.counts.writes b && eqb t.counts.contested c
 shown t (closed b) = cond b t.session.closed (not t.session.closed)
 

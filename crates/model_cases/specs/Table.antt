@@ -4,15 +4,15 @@
 use Rattle.std.specs.Prelude.{ℕ, ◌≡◌, refl, true, false, List, [], ◌∷◌, ◌++◌, map}
 use Rattle.model.specs.declared.Phase.TheVariants.{Idle, Waiting, Write, Compare, Commit, Exhausted, Crashed, Decided}
 use Rattle.model.specs.declared.Operation.TheVariants.{Propose, Step, Learn, Crash}
-use Rattle.model.specs.Window.{window, rootUp, rootFrom}
+use Rattle.model.specs.Window.{window, root_up, root_from}
 use Rattle.model.specs.Board.{opened}
-use Rattle.model.specs.Step.{waitingRule, phaseAccess, access, found, goOn, phaseNext, next, learnt, stored, turn, counted}
+use Rattle.model.specs.Step.{waiting_rule, phase_access, access, found, go_on, phase_next, next, learnt, stored, turn, counted}
 use Rattle.model.specs.Refusal.{full}
-use Rattle.model.specs.Machine.{Command, acts, closes, openingFor, accessOf, becomes, after, countsAfter, answered, perform, execute}
-use Rattle.model.specs.Public.{closeFor, close}
-use Rattle.model.specs.Sound.{every, soundForAs}
+use Rattle.model.specs.Machine.{Command, acts, closes, opening_for, access_of, becomes, after, counts_after, answered, perform, execute}
+use Rattle.model.specs.Public.{close_for, close}
+use Rattle.model.specs.Sound.{every, sound_for_as}
 use Rattle.model_cases.specs.Play.{Case, holds, repeat}
-use Rattle.model_cases.specs.Play.Shows.{answers, hasWindow, register, marked, decision, stands, counts, closed}
+use Rattle.model_cases.specs.Play.Shows.{answers, has_window, register, marked, decision, stands, counts, closed}
 
 -- n = 1: proposal 7, hints yes.
 solo : ℕ → List Command
@@ -58,15 +58,15 @@ table =
     record { n = 0; limit = 16; operations = []; shows = answers 1 ∷ [] }
     ∷ record { n = 65; limit = 256; operations = []; shows = answers 1 ∷ [] }
     ∷ record { n = 64; limit = 15; operations = []; shows = answers 2 ∷ [] }
-    ∷ record { n = 64; limit = 16; operations = []; shows = answers 0 ∷ hasWindow 16 ∷ [] }
+    ∷ record { n = 64; limit = 16; operations = []; shows = answers 0 ∷ has_window 16 ∷ [] }
     -- the windows for n = 2, 16 and 17; then those of 02, wish 8, for 1, 4, 5 and 9
-    ∷ record { n = 2; limit = 3; operations = []; shows = answers 0 ∷ hasWindow 3 ∷ [] }
-    ∷ record { n = 16; limit = 8; operations = []; shows = answers 0 ∷ hasWindow 8 ∷ [] }
-    ∷ record { n = 17; limit = 9; operations = []; shows = answers 0 ∷ hasWindow 9 ∷ [] }
-    ∷ record { n = 1; limit = 2; operations = []; shows = answers 0 ∷ hasWindow 2 ∷ [] }
-    ∷ record { n = 4; limit = 4; operations = []; shows = answers 0 ∷ hasWindow 4 ∷ [] }
-    ∷ record { n = 5; limit = 5; operations = []; shows = answers 0 ∷ hasWindow 5 ∷ [] }
-    ∷ record { n = 9; limit = 6; operations = []; shows = answers 0 ∷ hasWindow 6 ∷ [] }
+    ∷ record { n = 2; limit = 3; operations = []; shows = answers 0 ∷ has_window 3 ∷ [] }
+    ∷ record { n = 16; limit = 8; operations = []; shows = answers 0 ∷ has_window 8 ∷ [] }
+    ∷ record { n = 17; limit = 9; operations = []; shows = answers 0 ∷ has_window 9 ∷ [] }
+    ∷ record { n = 1; limit = 2; operations = []; shows = answers 0 ∷ has_window 2 ∷ [] }
+    ∷ record { n = 4; limit = 4; operations = []; shows = answers 0 ∷ has_window 4 ∷ [] }
+    ∷ record { n = 5; limit = 5; operations = []; shows = answers 0 ∷ has_window 5 ∷ [] }
+    ∷ record { n = 9; limit = 6; operations = []; shows = answers 0 ∷ has_window 6 ∷ [] }
     -- one process. 01: "n = 1, L = 3, proposal 7, hints yes: after 3 work turns round 1 is over; after 18 the stance is commit and D is
     -- blank; after 19 D is 7, 15 reads, 4 writes." 02, wish 8: "The paper case of one seat becomes 12 work turns to the commit, 9 reads, 3
     -- writes". So the stance is commit and D is blank after 11. Round 3 follows where L = 3; after 19 turns D and the counts are as in 01.
@@ -121,14 +121,14 @@ table =
     ∷ []
 
 -- Every row holds of the machine.
-pub starred-cases : every holds table ≡ true
+pub starred_cases : every holds table ≡ true
 unfolding
-    table holds window rootUp rootFrom opened waitingRule phaseAccess access found goOn phaseNext next learnt stored turn counted full
-    openingFor
-    accessOf becomes after countsAfter answered perform execute
-starred-cases = refl
+    table holds window root_up root_from opened waiting_rule phase_access access found go_on phase_next next learnt stored turn counted full
+    opening_for
+    access_of becomes after counts_after answered perform execute
+starred_cases = refl
 
 -- 02, wish 10, "Close: 3": a damaged session, here one of no process, is left as it is.
-pub damaged-close : close (opened 0 0) ≡ record { code = 3; session = opened 0 0 }
-unfolding closeFor soundForAs opened
-damaged-close = refl
+pub damaged_close : close (opened 0 0) ≡ record { code = 3; session = opened 0 0 }
+unfolding close_for sound_for_as opened
+damaged_close = refl

@@ -2,32 +2,32 @@
 -- all workers decided by a house look hold one number, and that some worker proposed it to the house."
 use Rattle.std.specs.Prelude.{ℕ, ◌≡◌, List, [], ◌∷◌}
 use Rattle.model.specs.declared.Counts.{Counts}
-use Rattle.model_rule.specs.Event.{Event, proposal, lookEvents, Past, Proposed, DecidedOn}
+use Rattle.model_rule.specs.Event.{Event, proposal, look_events, Past, Proposed, DecidedOn}
 use Rattle.model_rule.specs.Event.Event.{decision}
 use Rattle.model_rule.specs.System.{System, Call, Run, inputs, machine, past, EachAsTheMachine, AfterEach}
 use Rattle.model_rule.specs.Calls.{Input}
 use Rattle.model_house.specs.declared.Stance.TheVariants.{Decided}
 use Rattle.model_house.specs.declared.House.{House}
 use Rattle.model_house.specs.declared.HouseStepped.{HouseStepped}
-use Rattle.model_house.specs.House.{workerAt, houseOpening}
-use Rattle.model_house.specs.Machine.{HouseOperation, proposes, turns, learns, crashes, housePerform}
-use Rattle.model_house.specs.Public.{withHouseCounts, housePropose, houseTurn, houseLearn, houseCrash}
+use Rattle.model_house.specs.House.{worker_at, house_opening}
+use Rattle.model_house.specs.Machine.{HouseOperation, proposes, turns, learns, crashes, house_perform}
+use Rattle.model_house.specs.Public.{with_house_counts, house_propose, house_turn, house_learn, house_crash}
 
 -- What an accepted operation adds to the house's past: a number is proposed to the house; a house look finds one, and decides its worker.
-abbrev pub houseEvents : House → HouseOperation → List Event
-houseEvents h (proposes p v) = proposal v ∷ []
-houseEvents h (turns p hint) = []
-houseEvents h (learns p) = lookEvents p h.decision
-houseEvents h (crashes p) = []
+abbrev pub house_events : House → HouseOperation → List Event
+house_events h (proposes p v) = proposal v ∷ []
+house_events h (turns p hint) = []
+house_events h (learns p) = look_events p h.decision
+house_events h (crashes p) = []
 
 -- Houses as a machine.
 abbrev pub houses : System House (Input HouseOperation) HouseStepped Event
 houses =
     record {
-      perform = λ h f. housePerform h f.counts f.operation;
+      perform = λ h f. house_perform h f.counts f.operation;
       state = λ a. a.house;
       code = λ a. a.code;
-      accepted = λ h f. houseEvents h f.operation;
+      accepted = λ h f. house_events h f.operation;
     }
 
 -- One call. Its answer has the counts as they stand afterwards.
@@ -37,19 +37,19 @@ HouseCall = Call (Input HouseOperation) HouseStepped
 -- What the contract of the called function says, given house h: `system_house_change::propose`, `system_house_lent::turn`,
 -- `system_house_lent::learn`, `system_house_change::crash` (`theory_functions`). (A proposal and a crash are lent no counts: theirs are
 -- any, and stand as they stood.)
-abbrev pub housePromised : House → Counts → HouseOperation → HouseStepped
-housePromised h c (proposes p v) = withHouseCounts (housePropose h p v) c
-housePromised h c (turns p hint) = houseTurn h p hint c
-housePromised h c (learns p) = houseLearn h p c
-housePromised h c (crashes p) = withHouseCounts (houseCrash h p) c
+abbrev pub house_promised : House → Counts → HouseOperation → HouseStepped
+house_promised h c (proposes p v) = with_house_counts (house_propose h p v) c
+house_promised h c (turns p hint) = house_turn h p hint c
+house_promised h c (learns p) = house_learn h p c
+house_promised h c (crashes p) = with_house_counts (house_crash h p) c
 
 -- A list of calls: each is given the house that the one before left.
 abbrev pub HouseRun : House → List HouseCall → House → Type 0
-HouseRun = Run (λ (a : HouseStepped). a.house) (λ (h : House) (f : Input HouseOperation). housePromised h f.counts f.operation)
+HouseRun = Run (λ (a : HouseStepped). a.house) (λ (h : House) (f : Input HouseOperation). house_promised h f.counts f.operation)
 
 -- The worker's record says that it is decided and holds v.
 abbrev pub HouseHolds : House → (p v : ℕ) → Type 0
-HouseHolds h p v = ((workerAt h p).stance ≡ Decided) × ((workerAt h p).value ≡ v)
+HouseHolds h p v = ((worker_at h p).stance ≡ Decided) × ((worker_at h p).value ≡ v)
 
 -- What holds of a house h and the past x of the machine that came to it.
 pub record HouseRule (h : House) (x : List Event) : Type 0 where
@@ -66,7 +66,7 @@ pub record HouseRule (h : House) (x : List Event) : Type 0 where
 abbrev pub HouseClaim : Type 0
 HouseClaim =
     (c : ℕ) (wards : List ℕ)
-    → let start = houseOpening c wards in
+    → let start = house_opening c wards in
     start.code ≡ 0
     → (cs : List HouseCall) (h : House)
     → HouseRun start.house cs h

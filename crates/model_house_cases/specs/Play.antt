@@ -3,9 +3,9 @@ use Rattle.std.specs.Prelude.{ℕ, suc, Bool, true, ◌&&◌, List, [], ◌∷�
 use Rattle.model.specs.declared.Process.{Process}
 use Rattle.model.specs.declared.Session.{Session}
 use Rattle.model.specs.declared.Counts.{Counts}
-use Rattle.model.specs.Board.{processAt}
+use Rattle.model.specs.Board.{process_at}
 use Rattle.model.specs.Sound.{every}
-use Rattle.model_cases.specs.Play.{playedAll}
+use Rattle.model_cases.specs.Play.{played_all}
 use Rattle.model_house.specs.declared.Place.{Place}
 use Rattle.model_house.specs.declared.Place.TheVariants.{ProposeWard, StepWard, LearnWard, WriteTable, ProposePoll, StepPoll}
 use Rattle.model_house.specs.declared.Place.TheVariants.{ReadTable, WriteHouse}
@@ -16,24 +16,24 @@ use Rattle.model_house.specs.declared.Table.{Table}
 use Rattle.model_house.specs.declared.House.{House}
 use Rattle.model_house.specs.declared.HouseStepped.{HouseStepped}
 use Rattle.model_house.specs.declared.HouseChanged.{HouseChanged}
-use Rattle.model_house.specs.House.{workerAt, sessionAt, pollAt, table_at, withEntry, withWorker, houseOpening}
-use Rattle.model_house.specs.Machine.{HouseOperation, housePerform}
-use Rattle.model_house.specs.Public.{houseOperate}
-use Rattle.model_house.specs.Sound.{soundHouse}
+use Rattle.model_house.specs.House.{worker_at, session_at, poll_at, table_at, with_entry, with_worker, house_opening}
+use Rattle.model_house.specs.Machine.{HouseOperation, house_perform}
+use Rattle.model_house.specs.Public.{house_operate}
+use Rattle.model_house.specs.Sound.{sound_house}
 
 -- ---- a house that is changed by hand, as no operation changes it
 
 -- Another n; another c; another ward of worker p; another record of it; another session of index i, or poll; another table entry; another
 -- decision.
 pub data Change : Type 0 where
-  setN : ℕ → Change
-  setC : ℕ → Change
-  setWard : (p w : ℕ) → Change
-  setWorker : (p : ℕ) → Worker → Change
-  setSession : (i : ℕ) → Session → Change
-  setPoll : (i : ℕ) → Session → Change
-  setEntry : (o w v : ℕ) → Change
-  setDecision : ℕ → Change
+  set_n : ℕ → Change
+  set_c : ℕ → Change
+  set_ward : (p w : ℕ) → Change
+  set_worker : (p : ℕ) → Worker → Change
+  set_session : (i : ℕ) → Session → Change
+  set_poll : (i : ℕ) → Session → Change
+  set_entry : (o w v : ℕ) → Change
+  set_decision : ℕ → Change
 
 house : (n c : ℕ) → List ℕ → List Worker → List Session → List Session → Table → ℕ → House
 house n c ws qs ss ps t d =
@@ -41,23 +41,23 @@ house n c ws qs ss ps t d =
 
 changed : House → Change → House
 unfolding house
-changed h (setN k) = house k h.c h.wards h.workers h.sessions h.polls h.table h.decision
-changed h (setC k) = house h.n k h.wards h.workers h.sessions h.polls h.table h.decision
-changed h (setWard p w) = house h.n h.c (set h.wards p w) h.workers h.sessions h.polls h.table h.decision
-changed h (setWorker p q) = withWorker h p q
-changed h (setSession i s) = house h.n h.c h.wards h.workers (set h.sessions i s) h.polls h.table h.decision
-changed h (setPoll i s) = house h.n h.c h.wards h.workers h.sessions (set h.polls i s) h.table h.decision
-changed h (setEntry o w v) = house h.n h.c h.wards h.workers h.sessions h.polls (withEntry h.table o w v) h.decision
-changed h (setDecision v) = house h.n h.c h.wards h.workers h.sessions h.polls h.table v
+changed h (set_n k) = house k h.c h.wards h.workers h.sessions h.polls h.table h.decision
+changed h (set_c k) = house h.n k h.wards h.workers h.sessions h.polls h.table h.decision
+changed h (set_ward p w) = house h.n h.c (set h.wards p w) h.workers h.sessions h.polls h.table h.decision
+changed h (set_worker p q) = with_worker h p q
+changed h (set_session i s) = house h.n h.c h.wards h.workers (set h.sessions i s) h.polls h.table h.decision
+changed h (set_poll i s) = house h.n h.c h.wards h.workers h.sessions (set h.polls i s) h.table h.decision
+changed h (set_entry o w v) = house h.n h.c h.wards h.workers h.sessions h.polls (with_entry h.table o w v) h.decision
+changed h (set_decision v) = house h.n h.c h.wards h.workers h.sessions h.polls h.table v
 
 -- ---- a case
 
 -- The number, the house and the counts after one operation: the machine's, and the public operation's.
 played : HouseStepped → HouseOperation → HouseStepped
-played t o = housePerform t.house t.counts o
+played t o = house_perform t.house t.counts o
 
 called : HouseStepped → HouseOperation → HouseStepped
-called t o = houseOperate t.house t.counts o
+called t o = house_operate t.house t.counts o
 
 altered : HouseStepped → Change → HouseStepped
 unfolding changed
@@ -70,8 +70,8 @@ pub data Shows : Type 0 where
   decides : (v : ℕ) → Shows
   entry : (o w v : ℕ) → Shows
   stands : (p : ℕ) → Stance → (outer value : ℕ) → Shows
-  wardSeat : (o w s v : ℕ) → Shows
-  pollSeat : (o s v : ℕ) → Shows
+  ward_seat : (o w s v : ℕ) → Shows
+  poll_seat : (o s v : ℕ) → Shows
   counts : (reads writes contested : ℕ) → Shows
   sound : Shows
 
@@ -95,12 +95,12 @@ shown t (answers k) = eqb t.code k
 shown t (decides v) = eqb t.house.decision v
 shown t (entry o w v) = eqb (table_at t.house.table o w) v
 shown t (stands p a o v) =
-    let q = workerAt t.house p in
+    let q = worker_at t.house p in
     eqb (number q.stance) (number a) && eqb q.outer o && eqb q.value v
-shown t (wardSeat o w s v) = eqb (processAt (sessionAt t.house o w) s).estimate v
-shown t (pollSeat o s v) = eqb (processAt (pollAt t.house o) s).estimate v
+shown t (ward_seat o w s v) = eqb (process_at (session_at t.house o w) s).estimate v
+shown t (poll_seat o s v) = eqb (process_at (poll_at t.house o) s).estimate v
 shown t (counts a b d) = eqb t.counts.reads a && eqb t.counts.writes b && eqb t.counts.contested d
-shown t sound = soundHouse t.house
+shown t sound = sound_house t.house
 
 -- A row of the table: the opening, the counts lent, operations of the machine; then changes by hand and calls of the public operations; and
 -- what the state after them shows.
@@ -116,9 +116,9 @@ pub record HouseCase : Type 0 where
 play : HouseCase → HouseStepped
 unfolding played called altered
 play x =
-    let a = houseOpening x.c x.wards in
-    let t = playedAll played (record { code = a.code; house = a.house; counts = x.lent }) x.operations in
-    playedAll called (playedAll altered t x.changes) x.calls
+    let a = house_opening x.c x.wards in
+    let t = played_all played (record { code = a.code; house = a.house; counts = x.lent }) x.operations in
+    played_all called (played_all altered t x.changes) x.calls
 
 unfoldable pub holds : HouseCase → Bool
 unfolding play shown

@@ -4,28 +4,28 @@ use Rattle.model.specs.declared.Phase.{Phase}
 use Rattle.model.specs.declared.Phase.TheVariants as phase
 use Rattle.model.specs.declared.Session.{Session}
 use Rattle.model.specs.declared.Counts.{Counts}
-use Rattle.model.specs.Window.{window, rootUp, rootFrom}
-use Rattle.model.specs.Board.{opened, noCounts, withValues, withProcess, withDecision, withClosed}
-use Rattle.model.specs.Step.{waitingRule, phaseAccess, access, found, goOn, phaseNext, next, stored, turn, counted, learnt, process}
+use Rattle.model.specs.Window.{window, root_up, root_from}
+use Rattle.model.specs.Board.{opened, no_counts, with_values, with_process, with_decision, with_closed}
+use Rattle.model.specs.Step.{waiting_rule, phase_access, access, found, go_on, phase_next, next, stored, turn, counted, learnt, process}
 use Rattle.model.specs.Refusal.{full}
-use Rattle.model.specs.Machine.{openingFor, accessOf, becomes, after, countsAfter, answered, perform}
-use Rattle.model.specs.Sound.{every, soundPhaseAs, soundProcessAs, pollRegisters, soundForAs, soundAs}
+use Rattle.model.specs.Machine.{opening_for, access_of, becomes, after, counts_after, answered, perform}
+use Rattle.model.specs.Sound.{every, sound_phase_as, sound_process_as, poll_registers, sound_for_as, sound_as}
 use Rattle.model_cases.specs.Play.{repeat}
-use Rattle.model_poll.specs.Turn.{withoutDecision, pollAccess, ending, pollNext, answer_of}
+use Rattle.model_poll.specs.Turn.{without_decision, poll_access, ending, poll_next, answer_of}
 use Rattle.model_poll.specs.Machine as poll
 use Rattle.model_house.specs.declared.Place.TheVariants.{ProposeWard, StepWard, LearnWard, WriteTable, ProposePoll, StepPoll}
 use Rattle.model_house.specs.declared.Place.TheVariants.{ReadTable, WriteHouse}
 use Rattle.model_house.specs.declared.Stance.{Stance}
 use Rattle.model_house.specs.declared.Stance.TheVariants.{Idle, Working, Exhausted, Crashed, Decided}
-use Rattle.model_house.specs.House.{worker, seatOf, allowed, openedHouse, houseOpening}
-use Rattle.model_house.specs.Turn.{turnAt}
+use Rattle.model_house.specs.House.{worker, seat_of, allowed, opened_house, house_opening}
+use Rattle.model_house.specs.Turn.{turn_at}
 use Rattle.model_house.specs.Machine.{HouseOperation, proposes, turns, learns, crashes}
-use Rattle.model_house.specs.Machine.{view_of, withView, turnBy, turned, houseAfter, houseCounts, houseAnswered, housePerform}
-use Rattle.model_house.specs.Sound.{soundWard, soundNumbers, soundVote, seatsFit, soundWorker, soundWards, soundHouse}
-use Rattle.model_house.specs.Public.{houseOperate}
+use Rattle.model_house.specs.Machine.{view_of, with_view, turn_by, turned, house_after, house_counts, house_answered, house_perform}
+use Rattle.model_house.specs.Sound.{sound_ward, sound_numbers, sound_vote, seats_fit, sound_worker, sound_wards, sound_house}
+use Rattle.model_house.specs.Public.{house_operate}
 use Rattle.model_house_cases.specs.Play.{HouseCase, holds, Shows, Change}
-use Rattle.model_house_cases.specs.Play.Change.{setN, setC, setWard, setWorker, setSession, setPoll, setEntry, setDecision}
-use Rattle.model_house_cases.specs.Play.Shows.{answers, decides, entry, stands, wardSeat, pollSeat, counts, sound}
+use Rattle.model_house_cases.specs.Play.Change.{set_n, set_c, set_ward, set_worker, set_session, set_poll, set_entry, set_decision}
+use Rattle.model_house_cases.specs.Play.Shows.{answers, decides, entry, stands, ward_seat, poll_seat, counts, sound}
 
 -- Worker p takes k turns, with hint yes.
 alone : (p k : ℕ) → List HouseOperation
@@ -49,47 +49,47 @@ late j = proposes 0 3 ∷ proposes 1 8 ∷ alone 1 28 ++ alone 0 48 ++ alone 1 j
 
 opens : (c : ℕ) → List ℕ → (code : ℕ) → HouseCase
 opens c wards code =
-    record { c = c; wards = wards; lent = noCounts; operations = []; changes = []; calls = []; shows = answers code ∷ [] }
+    record { c = c; wards = wards; lent = no_counts; operations = []; changes = []; calls = []; shows = answers code ∷ [] }
 
 -- A call on what a refused opening holds, the house of no worker, is refused as 3.
-refusedCase : (c : ℕ) → List ℕ → HouseCase
-refusedCase c wards =
+refused_case : (c : ℕ) → List ℕ → HouseCase
+refused_case c wards =
     let call = proposes 0 7 in
-    record { c = c; wards = wards; lent = noCounts; operations = []; changes = []; calls = call ∷ []; shows = answers 3 ∷ [] }
+    record { c = c; wards = wards; lent = no_counts; operations = []; changes = []; calls = call ∷ []; shows = answers 3 ∷ [] }
 
 case : (c : ℕ) → List ℕ → List HouseOperation → List Shows → HouseCase
-case c wards os ss = record { c = c; wards = wards; lent = noCounts; operations = os; changes = []; calls = []; shows = ss }
+case c wards os ss = record { c = c; wards = wards; lent = no_counts; operations = os; changes = []; calls = []; shows = ss }
 
 -- On a full tally.
-fullCase : List HouseOperation → List Shows → HouseCase
-fullCase os ss =
+full_case : List HouseOperation → List Shows → HouseCase
+full_case os ss =
     let full : Counts = record { reads = 0; writes = 4294967295; contested = 0 } in
     record { c = 1; wards = 1 ∷ 1 ∷ []; lent = full; operations = os; changes = []; calls = []; shows = ss }
 
 -- In a house with one worker in each of two wards, where worker 0 took k turns, something is changed, and then there is one call.
-changedCase : (k : ℕ) → List Change → HouseOperation → List Shows → HouseCase
+changed_case : (k : ℕ) → List Change → HouseOperation → List Shows → HouseCase
 unfolding both
-changedCase k xs o ss =
-    record { c = 2; wards = 1 ∷ 2 ∷ []; lent = noCounts; operations = both k 0; changes = xs; calls = o ∷ []; shows = ss }
+changed_case k xs o ss =
+    record { c = 2; wards = 1 ∷ 2 ∷ []; lent = no_counts; operations = both k 0; changes = xs; calls = o ∷ []; shows = ss }
 
 -- The call is refused as 3, before 4: there is no worker 9; or it is not, and 4 is returned.
-unsoundCase : (k : ℕ) → Change → HouseCase
-unfolding changedCase
-unsoundCase k x = changedCase k (x ∷ []) (learns 9) (answers 3 ∷ [])
+unsound_case : (k : ℕ) → Change → HouseCase
+unfolding changed_case
+unsound_case k x = changed_case k (x ∷ []) (learns 9) (answers 3 ∷ [])
 
-soundCase : (k : ℕ) → Change → HouseCase
-unfolding changedCase
-soundCase k x = changedCase k (x ∷ []) (learns 9) (answers 4 ∷ sound ∷ [])
+sound_case : (k : ℕ) → Change → HouseCase
+unfolding changed_case
+sound_case k x = changed_case k (x ∷ []) (learns 9) (answers 4 ∷ sound ∷ [])
 
 -- Boards that no opening has: one seat of a ward's session, or of a poll, with another record.
 ward : (s : ℕ) → Phase → (round value : ℕ) → Session
-ward s φ r v = withProcess (opened 1 64) s (process φ r v)
+ward s φ r v = with_process (opened 1 64) s (process φ r v)
 
 vote : (s : ℕ) → Phase → (round value : ℕ) → Session
-vote s φ r v = withProcess (opened 2 3) s (process φ r v)
+vote s φ r v = with_process (opened 2 3) s (process φ r v)
 
 pub table : List HouseCase
-unfolding alone solo both late opens refusedCase case fullCase changedCase unsoundCase soundCase ward vote
+unfolding alone solo both late opens refused_case case full_case changed_case unsound_case sound_case ward vote
 table =
     -- opening: 1, then 19
     opens 1 [] 1
@@ -103,7 +103,7 @@ table =
     ∷ opens 2 (1 ∷ 1 ∷ []) 19
     ∷ opens 2 (0 ∷ 2 ∷ []) 19
     ∷ opens 4 (4 ∷ 3 ∷ 2 ∷ 1 ∷ []) 0
-    ∷ refusedCase 2 (1 ∷ 1 ∷ [])
+    ∷ refused_case 2 (1 ∷ 1 ∷ [])
     -- one worker alone, to its house write and its house look
     ∷ case 1 (1 ∷ []) (solo 41)
     (answers 0 ∷ decides 7 ∷ entry 1 1 7 ∷ stands 0 (Working ProposeWard) 2 7 ∷ counts 31 7 0 ∷ sound ∷ [])
@@ -137,8 +137,8 @@ table =
     -- two wards decide differently, and the house holds one number: worker 1 takes it at its table read, and no earlier
     ∷ case 2 (1 ∷ 2 ∷ []) (both 48 0) (decides 3 ∷ entry 1 1 3 ∷ entry 1 2 0 ∷ counts 37 8 0 ∷ sound ∷ [])
     ∷ case 2 (1 ∷ 2 ∷ []) (both 48 26)
-    (wardSeat 1 1 0 3 ∷ wardSeat 1 2 0 8 ∷ entry 1 2 8 ∷ stands 1 (Working ProposePoll) 1 8 ∷ sound ∷ [])
-    ∷ case 2 (1 ∷ 2 ∷ []) (both 48 41) (stands 1 (Working ReadTable) 1 8 ∷ pollSeat 1 1 1 ∷ sound ∷ [])
+    (ward_seat 1 1 0 3 ∷ ward_seat 1 2 0 8 ∷ entry 1 2 8 ∷ stands 1 (Working ProposePoll) 1 8 ∷ sound ∷ [])
+    ∷ case 2 (1 ∷ 2 ∷ []) (both 48 41) (stands 1 (Working ReadTable) 1 8 ∷ poll_seat 1 1 1 ∷ sound ∷ [])
     ∷ case 2 (1 ∷ 2 ∷ []) (both 48 42) (stands 1 (Working WriteHouse) 1 3 ∷ sound ∷ [])
     ∷ case 2 (1 ∷ 2 ∷ []) (both 48 43) (decides 3 ∷ stands 1 (Working ProposeWard) 2 3 ∷ counts 72 13 0 ∷ sound ∷ [])
     ∷ case 2 (1 ∷ 2 ∷ []) (both 48 43 ++ (learns 0 ∷ learns 1 ∷ []))
@@ -151,12 +151,12 @@ table =
     ∷ case 2 (1 ∷ 2 ∷ []) (late 15)
     (answers 0 ∷ decides 3 ∷ stands 1 (Working ProposeWard) 2 3 ∷ counts 72 14 1 ∷ sound ∷ [])
     -- two workers of one ward: worker 1's seat is decided with 3, it writes that to the table, and its value stays 8
-    ∷ case 1 (1 ∷ 1 ∷ []) (both 62 3) (wardSeat 1 1 1 3 ∷ stands 1 (Working WriteTable) 1 8 ∷ sound ∷ [])
+    ∷ case 1 (1 ∷ 1 ∷ []) (both 62 3) (ward_seat 1 1 1 3 ∷ stands 1 (Working WriteTable) 1 8 ∷ sound ∷ [])
     ∷ case 1 (1 ∷ 1 ∷ []) (both 62 4) (entry 1 1 3 ∷ stands 1 (Working ProposePoll) 1 8 ∷ sound ∷ [])
     -- worker 2 is the second of ward 2: its seat is 1 in the ward's session, and 2 in the poll
     ∷ case 2 (2 ∷ 1 ∷ 2 ∷ []) (proposes 2 7 ∷ alone 2 1)
-    (wardSeat 1 2 1 7 ∷ wardSeat 1 2 0 0 ∷ wardSeat 1 1 1 0 ∷ sound ∷ [])
-    ∷ case 2 (2 ∷ 1 ∷ 2 ∷ []) (proposes 2 7 ∷ alone 2 41) (stands 2 (Working StepPoll) 1 7 ∷ pollSeat 1 2 2 ∷ pollSeat 1 1 0 ∷ [])
+    (ward_seat 1 2 1 7 ∷ ward_seat 1 2 0 0 ∷ ward_seat 1 1 1 0 ∷ sound ∷ [])
+    ∷ case 2 (2 ∷ 1 ∷ 2 ∷ []) (proposes 2 7 ∷ alone 2 41) (stands 2 (Working StepPoll) 1 7 ∷ poll_seat 1 2 2 ∷ poll_seat 1 1 0 ∷ [])
     -- refusals: 4, 5, 6, 7, 8
     ∷ case 1 (1 ∷ []) (proposes 1 0 ∷ []) (answers 4 ∷ [])
     ∷ case 1 (1 ∷ []) (proposes 0 0 ∷ []) (answers 5 ∷ stands 0 Idle 1 0 ∷ sound ∷ [])
@@ -167,72 +167,72 @@ table =
     ∷ case 1 (1 ∷ []) (crashes 0 ∷ []) (answers 7 ∷ [])
     ∷ case 1 (1 ∷ []) (proposes 0 7 ∷ crashes 0 ∷ turns 0 true ∷ []) (answers 8 ∷ stands 0 Crashed 1 7 ∷ sound ∷ [])
     -- a full tally: 16 last, also for a turn that makes no register operation; a crash is accepted
-    ∷ fullCase (turns 2 true ∷ []) (answers 4 ∷ [])
-    ∷ fullCase (turns 0 true ∷ []) (answers 7 ∷ [])
-    ∷ fullCase (proposes 0 7 ∷ turns 0 true ∷ []) (answers 16 ∷ stands 0 (Working ProposeWard) 1 7 ∷ [])
-    ∷ fullCase (proposes 0 7 ∷ learns 0 ∷ []) (answers 16 ∷ [])
-    ∷ fullCase (proposes 0 7 ∷ crashes 0 ∷ []) (answers 0 ∷ stands 0 Crashed 1 7 ∷ counts 0 4294967295 0 ∷ [])
+    ∷ full_case (turns 2 true ∷ []) (answers 4 ∷ [])
+    ∷ full_case (turns 0 true ∷ []) (answers 7 ∷ [])
+    ∷ full_case (proposes 0 7 ∷ turns 0 true ∷ []) (answers 16 ∷ stands 0 (Working ProposeWard) 1 7 ∷ [])
+    ∷ full_case (proposes 0 7 ∷ learns 0 ∷ []) (answers 16 ∷ [])
+    ∷ full_case (proposes 0 7 ∷ crashes 0 ∷ []) (answers 0 ∷ stands 0 Crashed 1 7 ∷ counts 0 4294967295 0 ∷ [])
     -- in the turn that makes its ward seat spent the worker is spent, even if the ward's D is filled
-    ∷ changedCase 1 (setSession 0 (withDecision (ward 0 phase.Waiting 64 3) 5) ∷ []) (turns 0 true)
+    ∷ changed_case 1 (set_session 0 (with_decision (ward 0 phase.Waiting 64 3) 5) ∷ []) (turns 0 true)
     (answers 0 ∷ stands 0 Exhausted 1 3 ∷ counts 0 0 0 ∷ sound ∷ [])
     -- a table read at the answer's ward: a filled entry is taken, a blank one leaves the value
-    ∷ changedCase 46 (setEntry 1 1 5 ∷ []) (turns 0 true) (answers 0 ∷ stands 0 (Working WriteHouse) 1 5 ∷ counts 37 7 0 ∷ [])
-    ∷ changedCase 46 (setEntry 1 1 0 ∷ []) (turns 0 true) (answers 0 ∷ stands 0 (Working WriteHouse) 1 3 ∷ counts 37 7 0 ∷ [])
-    ∷ changedCase 46 (setEntry 1 2 5 ∷ []) (turns 0 true) (answers 0 ∷ stands 0 (Working WriteHouse) 1 3 ∷ [])
+    ∷ changed_case 46 (set_entry 1 1 5 ∷ []) (turns 0 true) (answers 0 ∷ stands 0 (Working WriteHouse) 1 5 ∷ counts 37 7 0 ∷ [])
+    ∷ changed_case 46 (set_entry 1 1 0 ∷ []) (turns 0 true) (answers 0 ∷ stands 0 (Working WriteHouse) 1 3 ∷ counts 37 7 0 ∷ [])
+    ∷ changed_case 46 (set_entry 1 2 5 ∷ []) (turns 0 true) (answers 0 ∷ stands 0 (Working WriteHouse) 1 3 ∷ [])
     -- a house write where the register is filled
-    ∷ changedCase 47 (setDecision 5 ∷ []) (turns 0 true) (answers 0 ∷ decides 3 ∷ counts 37 8 0 ∷ [])
+    ∷ changed_case 47 (set_decision 5 ∷ []) (turns 0 true) (answers 0 ∷ decides 3 ∷ counts 37 8 0 ∷ [])
     -- 3, and first: "wards not as opening allows",
-    ∷ unsoundCase 1 (setN 0)
-    ∷ unsoundCase 1 (setN 17)
-    ∷ unsoundCase 1 (setC 0)
-    ∷ unsoundCase 1 (setC 5)
-    ∷ unsoundCase 1 (setWard 0 0)
-    ∷ unsoundCase 1 (setWard 0 3)
-    ∷ unsoundCase 1 (setWard 0 2)
+    ∷ unsound_case 1 (set_n 0)
+    ∷ unsound_case 1 (set_n 17)
+    ∷ unsound_case 1 (set_c 0)
+    ∷ unsound_case 1 (set_c 5)
+    ∷ unsound_case 1 (set_ward 0 0)
+    ∷ unsound_case 1 (set_ward 0 3)
+    ∷ unsound_case 1 (set_ward 0 2)
     -- "a session or poll unsound, closed or of another size",
-    ∷ unsoundCase 1 (setSession 15 (withProcess (opened 1 64) 1 (process phase.Waiting 0 3)))
-    ∷ unsoundCase 1 (setSession 15 (withClosed (opened 1 64)))
-    ∷ unsoundCase 1 (setSession 15 (opened 2 64))
-    ∷ unsoundCase 1 (setSession 15 (opened 1 63))
-    ∷ unsoundCase 1 (setPoll 7 (withDecision (opened 2 3) 1))
-    ∷ unsoundCase 1 (setPoll 7 (withClosed (opened 2 3)))
-    ∷ unsoundCase 1 (setPoll 7 (opened 1 2))
+    ∷ unsound_case 1 (set_session 15 (with_process (opened 1 64) 1 (process phase.Waiting 0 3)))
+    ∷ unsound_case 1 (set_session 15 (with_closed (opened 1 64)))
+    ∷ unsound_case 1 (set_session 15 (opened 2 64))
+    ∷ unsound_case 1 (set_session 15 (opened 1 63))
+    ∷ unsound_case 1 (set_poll 7 (with_decision (opened 2 3) 1))
+    ∷ unsound_case 1 (set_poll 7 (with_closed (opened 2 3)))
+    ∷ unsound_case 1 (set_poll 7 (opened 1 2))
     -- "a poll number above c",
-    ∷ unsoundCase 1 (setPoll 7 (withValues (opened 2 3) (set (repeat 256 0) 2 3)))
-    ∷ unsoundCase 1 (setPoll 7 (vote 1 phase.Crashed 1 3))
+    ∷ unsound_case 1 (set_poll 7 (with_values (opened 2 3) (set (repeat 256 0) 2 3)))
+    ∷ unsound_case 1 (set_poll 7 (vote 1 phase.Crashed 1 3))
     -- "an outer round not 1 to 8, a proposed worker without a value",
-    ∷ unsoundCase 1 (setWorker 1 (worker Idle 0 0))
-    ∷ unsoundCase 1 (setWorker 1 (worker Idle 9 0))
-    ∷ unsoundCase 1 (setWorker 1 (worker Crashed 1 0))
+    ∷ unsound_case 1 (set_worker 1 (worker Idle 0 0))
+    ∷ unsound_case 1 (set_worker 1 (worker Idle 9 0))
+    ∷ unsound_case 1 (set_worker 1 (worker Crashed 1 0))
     -- "or a seat not out, working, decided or answered (committed, before a house write) as a working worker's next turn needs"
-    ∷ unsoundCase 1 (setWorker 0 (worker (Working ProposeWard) 1 3))
-    ∷ unsoundCase 0 (setWorker 0 (worker (Working StepWard) 1 3))
-    ∷ unsoundCase 0 (setWorker 0 (worker (Working LearnWard) 1 3))
-    ∷ unsoundCase 2 (setSession 0 (ward 0 phase.Exhausted 64 3))
-    ∷ unsoundCase 1 (setWorker 0 (worker (Working WriteTable) 1 3))
-    ∷ unsoundCase 27 (setWorker 0 (worker (Working ProposePoll) 1 3))
-    ∷ unsoundCase 26 (setWorker 0 (worker (Working StepPoll) 1 3))
-    ∷ unsoundCase 27 (setWorker 0 (worker (Working ReadTable) 1 3))
-    ∷ unsoundCase 27 (setWorker 0 (worker (Working WriteHouse) 1 3))
-    ∷ unsoundCase 47 (setPoll 0 (vote 0 phase.HasAdopted 3 1))
+    ∷ unsound_case 1 (set_worker 0 (worker (Working ProposeWard) 1 3))
+    ∷ unsound_case 0 (set_worker 0 (worker (Working StepWard) 1 3))
+    ∷ unsound_case 0 (set_worker 0 (worker (Working LearnWard) 1 3))
+    ∷ unsound_case 2 (set_session 0 (ward 0 phase.Exhausted 64 3))
+    ∷ unsound_case 1 (set_worker 0 (worker (Working WriteTable) 1 3))
+    ∷ unsound_case 27 (set_worker 0 (worker (Working ProposePoll) 1 3))
+    ∷ unsound_case 26 (set_worker 0 (worker (Working StepPoll) 1 3))
+    ∷ unsound_case 27 (set_worker 0 (worker (Working ReadTable) 1 3))
+    ∷ unsound_case 27 (set_worker 0 (worker (Working WriteHouse) 1 3))
+    ∷ unsound_case 47 (set_poll 0 (vote 0 phase.HasAdopted 3 1))
     -- and nothing else: the table, the decision register, sessions of wards above c, workers from n on, seats that no working worker needs
     -- next, an outer round and seats of a worker that does not work
-    ∷ soundCase 1 (setEntry 1 4 9)
-    ∷ soundCase 1 (setDecision 9)
-    ∷ soundCase 1 (setSession 16 (withClosed (opened 9 9)))
-    ∷ soundCase 1 (setWorker 2 (worker (Working WriteHouse) 9 0))
-    ∷ soundCase 1 (setSession 1 (ward 0 phase.Crashed 9 9))
-    ∷ soundCase 1 (setPoll 0 (vote 0 phase.HasAdopted 3 2))
-    ∷ soundCase 1 (setWorker 1 (worker Idle 8 9))
-    ∷ soundCase 1 (setWorker 0 (worker Exhausted 4 9))
+    ∷ sound_case 1 (set_entry 1 4 9)
+    ∷ sound_case 1 (set_decision 9)
+    ∷ sound_case 1 (set_session 16 (with_closed (opened 9 9)))
+    ∷ sound_case 1 (set_worker 2 (worker (Working WriteHouse) 9 0))
+    ∷ sound_case 1 (set_session 1 (ward 0 phase.Crashed 9 9))
+    ∷ sound_case 1 (set_poll 0 (vote 0 phase.HasAdopted 3 2))
+    ∷ sound_case 1 (set_worker 1 (worker Idle 8 9))
+    ∷ sound_case 1 (set_worker 0 (worker Exhausted 4 9))
     ∷ []
 
 -- Every row holds.
-pub house-cases : every holds table ≡ true
+pub house_cases : every holds table ≡ true
 unfolding
-    table holds window rootUp rootFrom opened waitingRule phaseAccess access found goOn phaseNext next stored turn counted learnt full
-    openingFor accessOf becomes after countsAfter answered perform withoutDecision pollAccess ending pollNext answer_of poll.turnAfter
-    poll.turnCounts poll.turned poll.pollPerform soundPhaseAs soundProcessAs pollRegisters soundForAs soundAs
-    seatOf allowed openedHouse houseOpening turnAt view_of withView turnBy turned houseAfter houseCounts houseAnswered housePerform
-    soundWard soundNumbers soundVote seatsFit soundWorker soundWards soundHouse houseOperate
-house-cases = refl
+    table holds window root_up root_from opened waiting_rule phase_access access found go_on phase_next next stored turn counted learnt full
+    opening_for access_of becomes after counts_after answered perform without_decision poll_access ending poll_next answer_of poll.turn_after
+    poll.turn_counts poll.turned poll.poll_perform sound_phase_as sound_process_as poll_registers sound_for_as sound_as
+    seat_of allowed opened_house house_opening turn_at view_of with_view turn_by turned house_after house_counts house_answered house_perform
+    sound_ward sound_numbers sound_vote seats_fit sound_worker sound_wards sound_house house_operate
+house_cases = refl

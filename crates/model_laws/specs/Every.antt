@@ -18,9 +18,9 @@ module _ {A : Type 0} (P : A → Bool) where
       and_both (and_left (P x) (every P xs) all) (every_set xs i y one (and_right (P x) (every P xs) all))
 
   -- A list of one value of which it holds.
-  pub every-replicate : (k : ℕ) (a : A) → P a ≡ true → every P (replicate k a) ≡ true
-  every-replicate zero a one = refl
-  every-replicate (suc k) a one = and_both one (every-replicate k a one)
+  pub every_replicate : (k : ℕ) (a : A) → P a ≡ true → every P (replicate k a) ≡ true
+  every_replicate zero a one = refl
+  every_replicate (suc k) a one = and_both one (every_replicate k a one)
 
   -- A part of a list of which it holds.
   pub every_drop : (i : ℕ) (xs : List A) → every P xs ≡ true → every P (drop i xs) ≡ true

@@ -1,11 +1,11 @@
--- What 01 says of the standing values, and 02 of their order, is so of the list that the model gives (`valuesTo`). Assumes nothing.
+-- What 01 says of the standing values, and 02 of their order, is so of the list that the model gives (`values_to`). Assumes nothing.
 use Rattle.base.specs.Prelude.{ℕ, zero, suc, ◌+◌, ◌≤◌, ◌<◌, ◌≡◌, refl, sym, ap, Bool, true, false, cond, not, ◌&&◌, ◌||◌, and-false}
 use Rattle.base.specs.Prelude.{or-false, or-true, or_assoc, List, [], ◌∷◌, ◌++◌, ◌⊎◌, ⊎_elim, eq-or-lt_of_le, not-suc-le-zero, add-zero}
 use Rattle.base.specs.Prelude.{arith, length, get_or, take, drop, length-append, List·getD-append, take-suc, take-append_seam}
 use Rattle.base.specs.Prelude.{get_or-append_seam, ltb, eqb, ltb-true, ltb-false, eqb-true, eq-eqb, lt-ltb, le-ltb}
 use Rattle.base.specs.Bools.{cond_cases}
 use Rattle.model.specs.declared.Session.{Session}
-use Rattle.model.specs.ReadOut.{holds, valuesTo, standingValues, standingRefusal, standingAnswer, standingBuffer}
+use Rattle.model.specs.ReadOut.{holds, values_to, standing_values, standing_refusal, standing_answer, standing_buffer}
 
 -- ---- round by round
 
@@ -18,15 +18,15 @@ old v earlier = eqb v 0 || holds v earlier
 module _ (P : (registers listed : List ℕ) → Type 0) (none : P [] [])
     (same : (ts l : List ℕ) (v : ℕ) → old v ts ≡ true → P ts l → P (ts ++ v ∷ []) l)
     (more : (ts l : List ℕ) (v : ℕ) → old v ts ≡ false → P ts l → P (ts ++ v ∷ []) (l ++ v ∷ [])) where
-  by-rounds : (T : List ℕ) (r : ℕ) → r ≤ length T → P (take r T) (valuesTo T r)
-  unfolding valuesTo
-  by-rounds T zero h = none
-  by-rounds T (suc r) h =
-      let p = by-rounds T r (omega arith) in
+  by_rounds : (T : List ℕ) (r : ℕ) → r ≤ length T → P (take r T) (values_to T r)
+  unfolding values_to
+  by_rounds T zero h = none
+  by_rounds T (suc r) h =
+      let p = by_rounds T r (omega arith) in
       rw (take-suc T r 0)
       (cond_cases (λ l. P (take r T ++ get_or T r 0 ∷ []) l) (old (get_or T r 0) (take r T))
-      (λ o. same (take r T) (valuesTo T r) (get_or T r 0) o p)
-      (λ o. more (take r T) (valuesTo T r) (get_or T r 0) o p))
+      (λ o. same (take r T) (values_to T r) (get_or T r 0) o p)
+      (λ o. more (take r T) (values_to T r) (get_or T r 0) o p))
 
 -- ---- 01: "each value that a filled register holds is there exactly once, and nothing else"
 
@@ -36,20 +36,20 @@ times x [] = 0
 times x (y ∷ ys) = cond (eqb x y) (suc (times x ys)) (times x ys)
 
 -- Two choices by one test, related in either case.
-both-conds : {A B : Type 0} (R : A → B → Type 0) (t : Bool) {a b : A} {c d : B} → R a c → R b d → R (cond t a b) (cond t c d)
-both-conds R true p q = p
-both-conds R false p q = q
+both_conds : {A B : Type 0} (R : A → B → Type 0) (t : Bool) {a b : A} {c d : B} → R a c → R b d → R (cond t a b) (cond t c d)
+both_conds R true p q = p
+both_conds R false p q = q
 
 -- One number more at the end.
-pub holds-last : (x v : ℕ) (l : List ℕ) → holds x (l ++ v ∷ []) ≡ (holds x l || eqb x v)
-holds-last x v [] = or-false (eqb x v)
-holds-last x v (y ∷ l) = rw (holds-last x v l) (sym (or_assoc (eqb x y) (holds x l) (eqb x v)))
+pub holds_last : (x v : ℕ) (l : List ℕ) → holds x (l ++ v ∷ []) ≡ (holds x l || eqb x v)
+holds_last x v [] = or-false (eqb x v)
+holds_last x v (y ∷ l) = rw (holds_last x v l) (sym (or_assoc (eqb x y) (holds x l) (eqb x v)))
 
-times-last : (x v : ℕ) (l : List ℕ) → times x (l ++ v ∷ []) ≡ times x l + cond (eqb x v) 1 0
-times-last x v [] = omega arith
-times-last x v (y ∷ l) =
-    let later = times-last x v l in
-    both-conds (λ m n. m ≡ n + cond (eqb x v) 1 0) (eqb x y) (omega arith) later
+times_last : (x v : ℕ) (l : List ℕ) → times x (l ++ v ∷ []) ≡ times x l + cond (eqb x v) 1 0
+times_last x v [] = omega arith
+times_last x v (y ∷ l) =
+    let later = times_last x v l in
+    both_conds (λ m n. m ≡ n + cond (eqb x v) 1 0) (eqb x y) (omega arith) later
 
 -- Whether x is blank, held before, and the value of the next register: an old value changes nothing, and a new one is counted.
 same_test : (z h e : Bool) → (e ≡ true → (z || h) ≡ true) → (not z && (h || e)) ≡ (not z && h)
@@ -67,31 +67,31 @@ more_test false true true new = let z : true ≡ false = new refl in cc
 abbrev pub Once : ℕ → (registers listed : List ℕ) → Type 0
 Once x ts l = times x l ≡ cond (not (eqb x 0) && holds x ts) 1 0
 
-pub each-once : (x : ℕ) (T : List ℕ) (r : ℕ) → r ≤ length T → Once x (take r T) (valuesTo T r)
-each-once x = by-rounds (Once x) (rw (and-false (not (eqb x 0)))) same more
+pub each_once : (x : ℕ) (T : List ℕ) (r : ℕ) → r ≤ length T → Once x (take r T) (values_to T r)
+each_once x = by_rounds (Once x) (rw (and-false (not (eqb x 0)))) same more
   where
     same : (ts l : List ℕ) (v : ℕ) → old v ts ≡ true → Once x ts l → Once x (ts ++ v ∷ []) l
     same ts l v o p =
-        rw (holds-last x v ts, same_test (eqb x 0) (holds x ts) (eqb x v) (λ e. rw (eqb-true x v e) o)) p
+        rw (holds_last x v ts, same_test (eqb x 0) (holds x ts) (eqb x v) (λ e. rw (eqb-true x v e) o)) p
 
     more : (ts l : List ℕ) (v : ℕ) → old v ts ≡ false → Once x ts l → Once x (ts ++ v ∷ []) (l ++ v ∷ [])
     more ts l v o p =
-        rw (holds-last x v ts, times-last x v l, p) (more_test (eqb x 0) (holds x ts) (eqb x v) (λ e. rw (eqb-true x v e) o))
+        rw (holds_last x v ts, times_last x v l, p) (more_test (eqb x 0) (holds x ts) (eqb x v) (λ e. rw (eqb-true x v e) o))
 
 -- ---- 01: "It returns how many"
 
 -- Accepted, the count is the list's length, and the buffer begins with the list.
-pub counted : (s : Session) (buffer : List ℕ) → standingRefusal s buffer ≡ 0
-    → ((standingAnswer s buffer).count ≡ length (standingValues s))
-    × (take (length (standingValues s)) (standingBuffer s buffer) ≡ standingValues s)
-counted s buffer e = (rw e, rw (e, take-append_seam (standingValues s) (drop (length (standingValues s)) buffer)))
+pub counted : (s : Session) (buffer : List ℕ) → standing_refusal s buffer ≡ 0
+    → ((standing_answer s buffer).count ≡ length (standing_values s))
+    × (take (length (standing_values s)) (standing_buffer s buffer) ≡ standing_values s)
+counted s buffer e = (rw e, rw (e, take-append_seam (standing_values s) (drop (length (standing_values s)) buffer)))
 
 -- ---- 02: "by the first round in which it stands, lowest first"
 
 -- The first round, from 1, whose register holds x; past the last where none does.
-abbrev pub firstRound : ℕ → (T : List ℕ) → ℕ
-firstRound x [] = 1
-firstRound x (v ∷ T) = cond (eqb x v) 1 (suc (firstRound x T))
+abbrev pub first_round : ℕ → (T : List ℕ) → ℕ
+first_round x [] = 1
+first_round x (v ∷ T) = cond (eqb x v) 1 (suc (first_round x T))
 
 -- The second of two tests that fail.
 fails : (a b : Bool) → (a || b) ≡ false → b ≡ false
@@ -99,27 +99,27 @@ fails true b h = let z : true ≡ false = h in cc
 fails false b h = h
 
 -- It stays as it is with a register more, and is that register's for a value that is new there.
-first-kept : (x v : ℕ) (ts : List ℕ) → firstRound x ts ≤ length ts → firstRound x (ts ++ v ∷ []) ≡ firstRound x ts
-first-kept x v [] = λ h. absurd (not-suc-le-zero h)
-first-kept x v (y ∷ ts) =
-    both-conds (λ m n. n ≤ suc (length ts) → m ≡ n) (eqb x y) (λ h. refl) (λ h. ap suc (first-kept x v ts (omega arith)))
+first_kept : (x v : ℕ) (ts : List ℕ) → first_round x ts ≤ length ts → first_round x (ts ++ v ∷ []) ≡ first_round x ts
+first_kept x v [] = λ h. absurd (not-suc-le-zero h)
+first_kept x v (y ∷ ts) =
+    both_conds (λ m n. n ≤ suc (length ts) → m ≡ n) (eqb x y) (λ h. refl) (λ h. ap suc (first_kept x v ts (omega arith)))
 
-first-new : (v : ℕ) (ts : List ℕ) → holds v ts ≡ false → firstRound v (ts ++ v ∷ []) ≡ suc (length ts)
-first-new v [] h = rw (eq-eqb v v refl)
-first-new v (y ∷ ts) h =
+first_new : (v : ℕ) (ts : List ℕ) → holds v ts ≡ false → first_round v (ts ++ v ∷ []) ≡ suc (length ts)
+first_new v [] h = rw (eq-eqb v v refl)
+first_new v (y ∷ ts) h =
     cond_cases (λ m. m ≡ suc (suc (length ts))) (eqb v y)
     (λ t. let z : true ≡ false = rw t at h in cc)
-    (λ t. ap suc (first-new v ts (fails (eqb v y) (holds v ts) h)))
+    (λ t. ap suc (first_new v ts (fails (eqb v y) (holds v ts) h)))
 
 -- The first rounds of listed values are rounds of the board, and ascend.
 record Ascends (ts l : List ℕ) : Type 0 where
-  low : (i : ℕ) → i < length l → firstRound (get_or l i 0) ts ≤ length ts
-  ascend : (i j : ℕ) → i < j → j < length l → firstRound (get_or l i 0) ts < firstRound (get_or l j 0) ts
+  low : (i : ℕ) → i < length l → first_round (get_or l i 0) ts ≤ length ts
+  ascend : (i j : ℕ) → i < j → j < length l → first_round (get_or l i 0) ts < first_round (get_or l j 0) ts
 
 module _ (ts l : List ℕ) (v : ℕ) (a : Ascends ts l) where
   -- A listed value keeps its first round.
-  kept : (i : ℕ) → i < length l → firstRound (get_or l i 0) (ts ++ v ∷ []) ≡ firstRound (get_or l i 0) ts
-  kept i h = first-kept (get_or l i 0) v ts (a.low i h)
+  kept : (i : ℕ) → i < length l → first_round (get_or l i 0) (ts ++ v ∷ []) ≡ first_round (get_or l i 0) ts
+  kept i h = first_kept (get_or l i 0) v ts (a.low i h)
 
   ascends_same : old v ts ≡ true → Ascends (ts ++ v ∷ []) l
   ascends_same o =
@@ -129,18 +129,18 @@ module _ (ts l : List ℕ) (v : ℕ) (a : Ascends ts l) where
       }
 
   -- Of the longer list: a place before the last, and the last.
-  before : (i : ℕ) → i < length l → firstRound (get_or (l ++ v ∷ []) i 0) (ts ++ v ∷ []) ≡ firstRound (get_or l i 0) ts
+  before : (i : ℕ) → i < length l → first_round (get_or (l ++ v ∷ []) i 0) (ts ++ v ∷ []) ≡ first_round (get_or l i 0) ts
   before i h = rw (List·getD-append l (v ∷ []) 0 i h) (kept i h)
 
-  last : old v ts ≡ false → (i : ℕ) → i ≡ length l → firstRound (get_or (l ++ v ∷ []) i 0) (ts ++ v ∷ []) ≡ suc (length ts)
-  last o i e = rw (e, get_or-append_seam l v [] 0) (first-new v ts (fails (eqb v 0) (holds v ts) o))
+  last : old v ts ≡ false → (i : ℕ) → i ≡ length l → first_round (get_or (l ++ v ∷ []) i 0) (ts ++ v ∷ []) ≡ suc (length ts)
+  last o i e = rw (e, get_or-append_seam l v [] 0) (first_new v ts (fails (eqb v 0) (holds v ts) o))
 
   -- Which of the two a place is.
   place : (i : ℕ) → i < length (l ++ v ∷ []) → (i ≡ length l) ⊎ (i < length l)
   place i h = eq-or-lt_of_le (omega (arith, simp length-append at h))
 
-  ascends-more : old v ts ≡ false → Ascends (ts ++ v ∷ []) (l ++ v ∷ [])
-  ascends-more o =
+  ascends_more : old v ts ≡ false → Ascends (ts ++ v ∷ []) (l ++ v ∷ [])
+  ascends_more o =
       record {
         low =
             λ i h.
@@ -154,24 +154,24 @@ module _ (ts l : List ℕ) (v : ℕ) (a : Ascends ts l) where
             (place j k);
       }
 
-ascends : (T : List ℕ) (r : ℕ) → r ≤ length T → Ascends (take r T) (valuesTo T r)
+ascends : (T : List ℕ) (r : ℕ) → r ≤ length T → Ascends (take r T) (values_to T r)
 ascends =
-    by-rounds Ascends (record { low = λ i h. absurd (not-suc-le-zero h); ascend = λ i j h k. absurd (not-suc-le-zero k) })
+    by_rounds Ascends (record { low = λ i h. absurd (not-suc-le-zero h); ascend = λ i j h k. absurd (not-suc-le-zero k) })
     (λ ts l v o a. ascends_same ts l v a o)
-    (λ ts l v o a. ascends-more ts l v a o)
+    (λ ts l v o a. ascends_more ts l v a o)
 
 -- The first round of the value at place i of the list.
-abbrev pub roundAt : (T : List ℕ) (r i : ℕ) → ℕ
-roundAt T r i = firstRound (get_or (valuesTo T r) i 0) (take r T)
+abbrev pub round_at : (T : List ℕ) (r i : ℕ) → ℕ
+round_at T r i = first_round (get_or (values_to T r) i 0) (take r T)
 
 -- Of two places in the list one comes before the other exactly if the first round of its value is lower.
-pub by-first-round : (T : List ℕ) (r i j : ℕ) → r ≤ length T → i < length (valuesTo T r) → j < length (valuesTo T r)
-    → ltb i j ≡ ltb (roundAt T r i) (roundAt T r j)
-by-first-round T r i j h p q = cases (ltb i j) refl
+pub by_first_round : (T : List ℕ) (r i j : ℕ) → r ≤ length T → i < length (values_to T r) → j < length (values_to T r)
+    → ltb i j ≡ ltb (round_at T r i) (round_at T r j)
+by_first_round T r i j h p q = cases (ltb i j) refl
   where
-    cases : (t : Bool) → ltb i j ≡ t → t ≡ ltb (roundAt T r i) (roundAt T r j)
+    cases : (t : Bool) → ltb i j ≡ t → t ≡ ltb (round_at T r i) (round_at T r j)
     cases true e = sym (lt-ltb _ _ ((ascends T r h).ascend i j (ltb-true i j e) q))
     cases false e =
-        let low : roundAt T r j ≤ roundAt T r i
+        let low : round_at T r j ≤ round_at T r i
         = ⊎_elim (λ s. rw s (omega arith)) (λ s. omega (arith, (ascends T r h).ascend j i s p)) (eq-or-lt_of_le (ltb-false i j e)) in
-        sym (le-ltb (roundAt T r i) (roundAt T r j) low)
+        sym (le-ltb (round_at T r i) (round_at T r j) low)

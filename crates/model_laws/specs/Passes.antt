@@ -68,19 +68,19 @@ module _ {A B : Type 0} (P : A → Bool) (Q : B → Bool) (xs : List A) (ys : Li
   both i = every P (drop i xs) && every Q (drop i ys)
 
   module _ {m : ℕ} (size : length xs ≡ m) (size' : length ys ≡ m) where
-    both-goes : (i : ℕ) (d : A) (e : B) → i < m → both i ≡ ((P (get_or xs i d) && Q (get_or ys i e)) && both (i + 1))
-    both-goes i d e below =
+    both_goes : (i : ℕ) (d : A) (e : B) → i < m → both i ≡ ((P (get_or xs i d) && Q (get_or ys i e)) && both (i + 1))
+    both_goes i d e below =
         let h : i < length xs = rw size below in
         let h' : i < length ys = rw size' below in
         rw (add-one, drop-cons xs i d h, drop-cons ys i e h')
         (shuffle (P (get_or xs i d)) (every P (drop (suc i) xs)) (Q (get_or ys i e)) (every Q (drop (suc i) ys)))
 
     module _ (i : ℕ) {t : Bool} (left : t ≡ both i) (d : A) (e : B) (h : i < m) where
-      pub both-more : not (P (get_or xs i d) && Q (get_or ys i e)) ≡ false → t ≡ both (i + 1)
-      both-more = went (P (get_or xs i d) && Q (get_or ys i e)) left (both-goes i d e h) refl
+      pub both_more : not (P (get_or xs i d) && Q (get_or ys i e)) ≡ false → t ≡ both (i + 1)
+      both_more = went (P (get_or xs i d) && Q (get_or ys i e)) left (both_goes i d e h) refl
 
-      pub both-stop : not (P (get_or xs i d) && Q (get_or ys i e)) ≡ true → false ≡ t
-      both-stop = failed (P (get_or xs i d) && Q (get_or ys i e)) (both (i + 1)) left (both-goes i d e h) refl
+      pub both_stop : not (P (get_or xs i d) && Q (get_or ys i e)) ≡ true → false ≡ t
+      both_stop = failed (P (get_or xs i d) && Q (get_or ys i e)) (both (i + 1)) left (both_goes i d e h) refl
 
     pub both_ends : (i : ℕ) {t : Bool} → t ≡ both i → m ≤ i → true ≡ t
     both_ends i left past =

@@ -10,38 +10,38 @@ use Rattle.model.specs.declared.Limits.{Limits}
 use Rattle.model.specs.declared.Changed.{Changed}
 use Rattle.model.specs.declared.Stepped.{Stepped}
 use Rattle.model.specs.Window.{window}
-use Rattle.model.specs.Board.{limitsOf, processAt}
+use Rattle.model.specs.Board.{limits_of, process_at}
 use Rattle.model.specs.Step.{found, turn, counted}
-use Rattle.model.specs.Refusal.{Test, refusal, learnTests, processTests, stepped}
-use Rattle.model.specs.Machine.{openingFor, perform}
+use Rattle.model.specs.Refusal.{Test, refusal, learn_tests, process_tests, stepped}
+use Rattle.model.specs.Machine.{opening_for, perform}
 use Rattle.model_poll.specs.declared.Answer.{Answer}
 use Rattle.model_poll.specs.declared.Answer.TheVariants.{Pending}
 use Rattle.model_poll.specs.declared.PollStepped.{PollStepped}
-use Rattle.model_poll.specs.Turn.{pollAccess, pollNext, answer_of}
+use Rattle.model_poll.specs.Turn.{poll_access, poll_next, answer_of}
 
 -- "A poll has L = W": the session's opening with that limit, within a caller's limits, at window W (02, wish 7: "the window a parameter of
 -- the machine .. Polls are covered too").
-unfoldable pub pollOpeningFor : Limits → (W n : ℕ) → Changed
-pollOpeningFor most W n = openingFor most W n W
+unfoldable pub poll_opening_for : Limits → (W n : ℕ) → Changed
+poll_opening_for most W n = opening_for most W n W
 
 -- In service: within the caller's limits (02, wish 9: "Opening, of polls too .. take the caller's limits"), at the window of n. (So 1 alone
--- can refuse it: `model_poll_laws`, `poll-opening-code`.)
-abbrev pub pollOpening : Caller → (n : ℕ) → Changed
-pollOpening caller n = pollOpeningFor (limitsOf caller) (window n) n
+-- can refuse it: `model_poll_laws`, `poll_opening_code`.)
+abbrev pub poll_opening : Caller → (n : ℕ) → Changed
+poll_opening caller n = poll_opening_for (limits_of caller) (window n) n
 
 -- ---- a turn
 
 -- "Numbers 1, 3 to 8 and 16 in the sessions' order; a turn or crash of an answered seat gives 8": after 3, those of a turn are 4, 7, 8, 16,
 -- which are a look's. No poll has a spent process, and no turn gives 9.
-abbrev pub turnTests : Session → Counts → (p : ℕ) → List Test
-turnTests s c p = processTests s p (λ φ. learnTests φ c)
+abbrev pub turn_tests : Session → Counts → (p : ℕ) → List Test
+turn_tests s c p = process_tests s p (λ φ. learn_tests φ c)
 
 -- The poll and the counts after an accepted turn of process p.
-unfoldable pub turnAfter : (W : ℕ) → Session → (p : ℕ) → Session
-turnAfter W s p = let q = processAt s p in turn s p (pollAccess s.limit q) (pollNext W s.limit q)
+unfoldable pub turn_after : (W : ℕ) → Session → (p : ℕ) → Session
+turn_after W s p = let q = process_at s p in turn s p (poll_access s.limit q) (poll_next W s.limit q)
 
-unfoldable pub turnCounts : Session → Counts → (p : ℕ) → Counts
-turnCounts s c p = let a = pollAccess s.limit (processAt s p) in counted a (found s a) c
+unfoldable pub turn_counts : Session → Counts → (p : ℕ) → Counts
+turn_counts s c p = let a = poll_access s.limit (process_at s p) in counted a (found s a) c
 
 -- The answer that the turn gives: the one that the record then holds; refused, it gives none.
 abbrev pub given : (code : ℕ) → Process → Answer
@@ -54,12 +54,12 @@ polled a p =
       code = a.code;
       session = a.session;
       counts = a.counts;
-      answer = given a.code (processAt a.session p);
+      answer = given a.code (process_at a.session p);
     }
 
 -- A turn of process p that brings the counts c, after the given tests.
 unfoldable pub turned : List Test → (W : ℕ) → Session → Counts → (p : ℕ) → PollStepped
-turned ts W s c p = polled (stepped (refusal ts) s (turnAfter W s p) c (turnCounts s c p)) p
+turned ts W s c p = polled (stepped (refusal ts) s (turn_after W s p) c (turn_counts s c p)) p
 
 -- ---- the machine
 
@@ -74,7 +74,7 @@ abbrev pub unanswered : Stepped → PollStepped
 unanswered a = record { code = a.code; session = a.session; counts = a.counts; answer = Pending }
 
 -- What the machine at window W answers.
-unfoldable pub pollPerform : (W : ℕ) → Session → Counts → PollOperation → PollStepped
-pollPerform W s c (proposes p v) = unanswered (perform W s c (Propose p v))
-pollPerform W s c (turns p) = turned (turnTests s c p) W s c p
-pollPerform W s c (crashes p) = unanswered (perform W s c (Crash p))
+unfoldable pub poll_perform : (W : ℕ) → Session → Counts → PollOperation → PollStepped
+poll_perform W s c (proposes p v) = unanswered (perform W s c (Propose p v))
+poll_perform W s c (turns p) = turned (turn_tests s c p) W s c p
+poll_perform W s c (crashes p) = unanswered (perform W s c (Crash p))

@@ -1,17 +1,17 @@
 -- Document 02, wish 6: the paper cases of polls, and that all of them hold of the machine of polls.
 use Rattle.std.specs.Prelude.{ℕ, ◌≡◌, refl, true, List, [], ◌∷◌, ◌++◌}
 use Rattle.model.specs.declared.Phase.TheVariants.{Write, CheckMark, CheckValue, Commit, Crashed, HasCommitted, HasAdopted}
-use Rattle.model.specs.Window.{window, rootUp, rootFrom}
+use Rattle.model.specs.Window.{window, root_up, root_from}
 use Rattle.model.specs.Board.{opened}
-use Rattle.model.specs.Step.{waitingRule, phaseAccess, access, found, goOn, phaseNext, next, stored, turn, counted}
+use Rattle.model.specs.Step.{waiting_rule, phase_access, access, found, go_on, phase_next, next, stored, turn, counted}
 use Rattle.model.specs.Refusal.{full}
-use Rattle.model.specs.Machine.{openingFor, accessOf, becomes, after, countsAfter, answered, perform}
+use Rattle.model.specs.Machine.{opening_for, access_of, becomes, after, counts_after, answered, perform}
 use Rattle.model.specs.Sound.{every}
 use Rattle.model_cases.specs.Play.{repeat}
-use Rattle.model_cases.specs.Play.Shows.{answers, hasWindow, hasLimit, register, marked, decision, stands, counts}
+use Rattle.model_cases.specs.Play.Shows.{answers, has_window, has_limit, register, marked, decision, stands, counts}
 use Rattle.model_poll.specs.declared.Answer.TheVariants.{Pending, Commits, Adopts}
-use Rattle.model_poll.specs.Turn.{withoutDecision, pollAccess, ending, pollNext, answer_of}
-use Rattle.model_poll.specs.Machine.{PollOperation, proposes, turns, crashes, pollOpeningFor, turnAfter, turnCounts, turned, pollPerform}
+use Rattle.model_poll.specs.Turn.{without_decision, poll_access, ending, poll_next, answer_of}
+use Rattle.model_poll.specs.Machine.{PollOperation, proposes, turns, crashes, poll_opening_for, turn_after, turn_counts, turned, poll_perform}
 use Rattle.model_poll_cases.specs.Play.{PollCase, holds}
 
 -- n = 1, proposal 7.
@@ -50,7 +50,7 @@ table =
     -- opening
     record { n = 0; operations = []; gives = Pending; keeps = []; shows = answers 1 ∷ [] }
     ∷ record { n = 65; operations = []; gives = Pending; keeps = []; shows = answers 1 ∷ [] }
-    ∷ record { n = 64; operations = []; gives = Pending; keeps = []; shows = answers 0 ∷ hasWindow 16 ∷ hasLimit 16 ∷ [] }
+    ∷ record { n = 64; operations = []; gives = Pending; keeps = []; shows = answers 0 ∷ has_window 16 ∷ has_limit 16 ∷ [] }
     -- one process: at commit after 11 turns; the 12th answers committed, touches no register and leaves D blank
     ∷ record {
       n = 1;
@@ -156,10 +156,10 @@ table =
     ∷ []
 
 -- Every row holds of the machine.
-pub poll-cases : every holds table ≡ true
+pub poll_cases : every holds table ≡ true
 unfolding
-    table holds window rootUp rootFrom opened waitingRule phaseAccess access found goOn phaseNext next stored turn counted full openingFor
-    accessOf becomes after countsAfter answered perform withoutDecision pollAccess ending pollNext answer_of pollOpeningFor turnAfter
-    turnCounts
-    turned pollPerform
-poll-cases = refl
+    table holds window root_up root_from opened waiting_rule phase_access access found go_on phase_next next stored turn counted full opening_for
+    access_of becomes after counts_after answered perform without_decision poll_access ending poll_next answer_of poll_opening_for turn_after
+    turn_counts
+    turned poll_perform
+poll_cases = refl

@@ -13,12 +13,12 @@ use Rattle.model.specs.declared.Caller.TheVariants.{Server}
 use Rattle.model.specs.declared.Ending.{Ending}
 use Rattle.model.specs.declared.Ending.TheVariants.{Finished, Refused, BudgetEnded, Rejected}
 use Rattle.model.specs.declared.Ran.{Ran}
-use Rattle.model.specs.Board.{highestFilled}
+use Rattle.model.specs.Board.{highest_filled}
 use Rattle.model.specs.Runner.{run}
 
 -- 01: "a budget of 10,921".
-abbrev pub reportBudget : ℕ
-reportBudget = 10921
+abbrev pub report_budget : ℕ
+report_budget = 10921
 
 -- ---- words and numbers
 
@@ -47,63 +47,63 @@ newline = 10 ∷ []
 -- ---- the lines
 
 -- 01: "sheet refused CODE"; "outcome refused CODE INDEX"; otherwise "outcome finished" and the number of entries carried out.
-abbrev pub outcomeLine : Ending → (carried : ℕ) → List ℕ
-outcomeLine Finished k = bytes "outcome finished" ++ field k ++ newline
-outcomeLine (Refused c i) k = bytes "outcome refused" ++ field c ++ field i ++ newline
-outcomeLine BudgetEnded k = bytes "outcome finished" ++ field k ++ newline
-outcomeLine (Rejected c) k = bytes "sheet refused" ++ field c ++ newline
+abbrev pub outcome_line : Ending → (carried : ℕ) → List ℕ
+outcome_line Finished k = bytes "outcome finished" ++ field k ++ newline
+outcome_line (Refused c i) k = bytes "outcome refused" ++ field c ++ field i ++ newline
+outcome_line BudgetEnded k = bytes "outcome finished" ++ field k ++ newline
+outcome_line (Rejected c) k = bytes "sheet refused" ++ field c ++ newline
 
 -- "The tally line is reads, writes, contested".
-abbrev pub tallyLine : Counts → List ℕ
-tallyLine c = bytes "tally" ++ field c.reads ++ field c.writes ++ field c.contested ++ newline
+abbrev pub tally_line : Counts → List ℕ
+tally_line c = bytes "tally" ++ field c.reads ++ field c.writes ++ field c.contested ++ newline
 
 -- The closed mark as a field of a line: a space and its word.
-abbrev pub closedWord : (closed : Bool) → List ℕ
-closedWord true = bytes " closed"
-closedWord false = bytes " open"
+abbrev pub closed_word : (closed : Bool) → List ℕ
+closed_word true = bytes " closed"
+closed_word false = bytes " open"
 
 -- 01: "the board line is the highest filled round (0 for none) and D." 02, wish 10: "The board line gains a third field, "open" or
 -- "closed"."
-abbrev pub boardLine : Session → List ℕ
-boardLine s = bytes "board" ++ field (highestFilled s) ++ field s.decision ++ closedWord s.closed ++ newline
+abbrev pub board_line : Session → List ℕ
+board_line s = bytes "board" ++ field (highest_filled s) ++ field s.decision ++ closed_word s.closed ++ newline
 
 -- "out", "working ROUND VALUE", "spent VALUE", "crashed" or "decided VALUE".
-abbrev pub statusWords : Phase → (round estimate : ℕ) → List ℕ
-statusWords Idle r e = bytes " out"
-statusWords Waiting r e = bytes " working" ++ field r ++ field e
-statusWords Write r e = bytes " working" ++ field r ++ field e
-statusWords (Scan k) r e = bytes " working" ++ field r ++ field e
-statusWords (Adopt k) r e = bytes " working" ++ field r ++ field e
-statusWords (Compare i) r e = bytes " working" ++ field r ++ field e
-statusWords (Flag i) r e = bytes " working" ++ field r ++ field e
-statusWords (CheckMark i) r e = bytes " working" ++ field r ++ field e
-statusWords (CheckValue i) r e = bytes " working" ++ field r ++ field e
-statusWords Commit r e = bytes " working" ++ field r ++ field e
-statusWords Exhausted r e = bytes " spent" ++ field e
-statusWords Crashed r e = bytes " crashed"
-statusWords Decided r e = bytes " decided" ++ field e
+abbrev pub status_words : Phase → (round estimate : ℕ) → List ℕ
+status_words Idle r e = bytes " out"
+status_words Waiting r e = bytes " working" ++ field r ++ field e
+status_words Write r e = bytes " working" ++ field r ++ field e
+status_words (Scan k) r e = bytes " working" ++ field r ++ field e
+status_words (Adopt k) r e = bytes " working" ++ field r ++ field e
+status_words (Compare i) r e = bytes " working" ++ field r ++ field e
+status_words (Flag i) r e = bytes " working" ++ field r ++ field e
+status_words (CheckMark i) r e = bytes " working" ++ field r ++ field e
+status_words (CheckValue i) r e = bytes " working" ++ field r ++ field e
+status_words Commit r e = bytes " working" ++ field r ++ field e
+status_words Exhausted r e = bytes " spent" ++ field e
+status_words Crashed r e = bytes " crashed"
+status_words Decided r e = bytes " decided" ++ field e
 -- answered: no session has such a seat (`Sound`), and a poll has no sheet, so no report has this line
-statusWords HasCommitted r e = bytes " working" ++ field r ++ field e
-statusWords HasAdopted r e = bytes " working" ++ field r ++ field e
+status_words HasCommitted r e = bytes " working" ++ field r ++ field e
+status_words HasAdopted r e = bytes " working" ++ field r ++ field e
 
 -- "Seats 0 to n - 1 follow, each as "seat", its number and one of" the words above.
-abbrev pub seatLine : (p : ℕ) → Process → List ℕ
-seatLine p q = bytes "seat" ++ field p ++ statusWords q.phase q.round q.estimate ++ newline
+abbrev pub seat_line : (p : ℕ) → Process → List ℕ
+seat_line p q = bytes "seat" ++ field p ++ status_words q.phase q.round q.estimate ++ newline
 
-abbrev pub seatLines : (p : ℕ) → List Process → List ℕ
-seatLines p [] = []
-seatLines p (q ∷ qs) = seatLine p q ++ seatLines (suc p) qs
+abbrev pub seat_lines : (p : ℕ) → List Process → List ℕ
+seat_lines p [] = []
+seat_lines p (q ∷ qs) = seat_line p q ++ seat_lines (suc p) qs
 
 -- "A refused sheet gives only" its line; any other the four kinds of lines.
-abbrev pub moreLines : Ending → Session → Counts → List ℕ
-moreLines Finished s c = tallyLine c ++ boardLine s ++ seatLines 0 (take s.n s.processes)
-moreLines (Refused k i) s c = tallyLine c ++ boardLine s ++ seatLines 0 (take s.n s.processes)
-moreLines BudgetEnded s c = tallyLine c ++ boardLine s ++ seatLines 0 (take s.n s.processes)
-moreLines (Rejected k) s c = []
+abbrev pub more_lines : Ending → Session → Counts → List ℕ
+more_lines Finished s c = tally_line c ++ board_line s ++ seat_lines 0 (take s.n s.processes)
+more_lines (Refused k i) s c = tally_line c ++ board_line s ++ seat_lines 0 (take s.n s.processes)
+more_lines BudgetEnded s c = tally_line c ++ board_line s ++ seat_lines 0 (take s.n s.processes)
+more_lines (Rejected k) s c = []
 
-abbrev pub reportOf : Ran → List ℕ
-reportOf r = outcomeLine r.ending r.carried ++ moreLines r.ending r.session r.counts
+abbrev pub report_of : Ran → List ℕ
+report_of r = outcome_line r.ending r.carried ++ more_lines r.ending r.session r.counts
 
 -- Of a sheet that is run. 02, wish 9: "the C entry and the report use the server's" limits.
 unfoldable pub report : (sheet : List ℕ) → List ℕ
-report s = reportOf (run Server s reportBudget)
+report s = report_of (run Server s report_budget)

@@ -6,8 +6,8 @@ use Rattle.model.specs.declared.Operation.TheVariants.{Propose, Step, Learn, Cra
 use Rattle.model.specs.declared.Stepped.{Stepped}
 use Rattle.model.specs.Window.{window}
 use Rattle.model.specs.Machine.{Command, acts, closes, execute}
-use Rattle.model.specs.Public.{withCounts, proposeFor, stepFor, learnFor, crashFor, closeFor}
-use Rattle.model_rule.specs.Event.{Event, commandEvents}
+use Rattle.model.specs.Public.{with_counts, propose_for, step_for, learn_for, crash_for, close_for}
+use Rattle.model_rule.specs.Event.{Event, command_events}
 use Rattle.model_rule.specs.System.{System, Call, Run}
 
 -- "For each call the machine is fed the operation with its seat, number, hint and tally, as far as it has them, and never the session."
@@ -22,7 +22,7 @@ sessions W =
       perform = λ s f. execute W s f.counts f.operation;
       state = λ a. a.session;
       code = λ a. a.code;
-      accepted = λ s f. commandEvents s f.operation;
+      accepted = λ s f. command_events s f.operation;
     }
 
 -- One call. Its answer has the counts as they stand afterwards.
@@ -31,18 +31,18 @@ SessionCall = Call (Input Command) Stepped
 
 -- What the called operation answers at window W, given session s. (A proposal, a crash and a close are lent no counts: theirs are any, and
 -- stand as they stood.)
-abbrev pub promisedFor : (W : ℕ) → Session → Counts → Command → Stepped
-promisedFor W s c (acts (Propose p v)) = withCounts (proposeFor W s p v) c
-promisedFor W s c (acts (Step p leader)) = stepFor W s p leader c
-promisedFor W s c (acts (Learn p)) = learnFor W s p c
-promisedFor W s c (acts (Crash p)) = withCounts (crashFor W s p) c
-promisedFor W s c closes = withCounts (closeFor W s) c
+abbrev pub promised_for : (W : ℕ) → Session → Counts → Command → Stepped
+promised_for W s c (acts (Propose p v)) = with_counts (propose_for W s p v) c
+promised_for W s c (acts (Step p leader)) = step_for W s p leader c
+promised_for W s c (acts (Learn p)) = learn_for W s p c
+promised_for W s c (acts (Crash p)) = with_counts (crash_for W s p) c
+promised_for W s c closes = with_counts (close_for W s) c
 
 -- In service, at the window of the session's n: what the contract of the called function says, `session_propose::propose`,
 -- `session_step_lent::step`, `session_step_lent::learn`, `session_crash::crash`, `session_close::close` (`theory_functions`).
 abbrev pub promised : Session → Counts → Command → Stepped
-promised s c o = promisedFor (window s.n) s c o
+promised s c o = promised_for (window s.n) s c o
 
 -- A list of calls, where w n is the window of n processes: "Each call is given the session that the last one returned or, refused, left."
 abbrev pub RunWith : (w : ℕ → ℕ) → Session → List SessionCall → Session → Type 0
-RunWith w = Run (λ (a : Stepped). a.session) (λ (s : Session) (f : Input Command). promisedFor (w s.n) s f.counts f.operation)
+RunWith w = Run (λ (a : Stepped). a.session) (λ (s : Session) (f : Input Command). promised_for (w s.n) s f.counts f.operation)

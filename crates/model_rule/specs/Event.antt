@@ -8,8 +8,8 @@ use Rattle.model.specs.declared.Process.{Process}
 use Rattle.model.specs.declared.Operation.{Operation}
 use Rattle.model.specs.declared.Operation.TheVariants.{Propose, Step, Learn, Crash}
 use Rattle.model.specs.declared.Session.{Session}
-use Rattle.model.specs.Board.{processAt}
-use Rattle.model.specs.Machine.{Command, acts, closes, processOf}
+use Rattle.model.specs.Board.{process_at}
+use Rattle.model.specs.Machine.{Command, acts, closes, process_of}
 
 pub data Event : Type 0 where
   proposal : (value : ℕ) → Event
@@ -22,39 +22,39 @@ pub data Event : Type 0 where
 
 -- "Written to the register of round r: the own value, at an accepted work turn taken at put in round r." "Committed in round R: the own
 -- value, at an accepted work turn taken at commit in round R." And the flag writes.
-abbrev pub stepEvents : (p r v : ℕ) → Phase → List Event
-stepEvents p r v Idle = []
-stepEvents p r v Waiting = []
-stepEvents p r v Write = write p r v ∷ []
-stepEvents p r v (Scan k) = []
-stepEvents p r v (Adopt k) = []
-stepEvents p r v (Compare i) = []
-stepEvents p r v (Flag i) = flag (r - i) ∷ []
-stepEvents p r v (CheckMark i) = []
-stepEvents p r v (CheckValue i) = []
-stepEvents p r v Commit = commit r v ∷ []
-stepEvents p r v Exhausted = []
-stepEvents p r v Crashed = []
-stepEvents p r v Decided = []
-stepEvents p r v HasCommitted = []
-stepEvents p r v HasAdopted = []
+abbrev pub step_events : (p r v : ℕ) → Phase → List Event
+step_events p r v Idle = []
+step_events p r v Waiting = []
+step_events p r v Write = write p r v ∷ []
+step_events p r v (Scan k) = []
+step_events p r v (Adopt k) = []
+step_events p r v (Compare i) = []
+step_events p r v (Flag i) = flag (r - i) ∷ []
+step_events p r v (CheckMark i) = []
+step_events p r v (CheckValue i) = []
+step_events p r v Commit = commit r v ∷ []
+step_events p r v Exhausted = []
+step_events p r v Crashed = []
+step_events p r v Decided = []
+step_events p r v HasCommitted = []
+step_events p r v HasAdopted = []
 
 -- "Decided: a seat whose accepted look found D filled; it holds the number read."
-abbrev pub lookEvents : (p : ℕ) → (found : ℕ) → List Event
-lookEvents p zero = []
-lookEvents p (suc v) = decision p (suc v) ∷ []
+abbrev pub look_events : (p : ℕ) → (found : ℕ) → List Event
+look_events p zero = []
+look_events p (suc v) = decision p (suc v) ∷ []
 
 -- By the record q of the process and the number found in D. "Proposed: the number of an accepted proposal."
-abbrev pub eventsOf : Process → (D : ℕ) → Operation → List Event
-eventsOf q D (Propose p v) = proposal v ∷ []
-eventsOf q D (Step p leader) = stepEvents p q.round q.estimate q.phase
-eventsOf q D (Learn p) = lookEvents p D
-eventsOf q D (Crash p) = []
+abbrev pub events_of : Process → (D : ℕ) → Operation → List Event
+events_of q D (Propose p v) = proposal v ∷ []
+events_of q D (Step p leader) = step_events p q.round q.estimate q.phase
+events_of q D (Learn p) = look_events p D
+events_of q D (Crash p) = []
 
 -- Of a command: a close (02, wish 10) adds nothing.
-abbrev pub commandEvents : Session → Command → List Event
-commandEvents s (acts o) = eventsOf (processAt s (processOf o)) s.decision o
-commandEvents s closes = []
+abbrev pub command_events : Session → Command → List Event
+command_events s (acts o) = events_of (process_at s (process_of o)) s.decision o
+command_events s closes = []
 
 -- ---- what stands in a past
 

@@ -6,15 +6,15 @@ use Rattle.model.specs.declared.Session.{Session}
 use Rattle.model.specs.declared.Caller.{Caller}
 use Rattle.model.specs.declared.Limits.{Limits}
 use Rattle.model.specs.Window.{window}
-use Rattle.model.specs.Board.{limitsOf, UpToServer, processAt}
+use Rattle.model.specs.Board.{limits_of, UpToServer, process_at}
 use Rattle.model.specs.Refusal.{status}
 use Rattle.model_rule.specs.Event.{Past, Proposed}
 use Rattle.model_rule.specs.System.{machine, past, inputs, EachAsTheMachine, AfterEach}
 use Rattle.model_poll.specs.declared.Answer.{Answer}
 use Rattle.model_poll.specs.declared.Answer.TheVariants.{Commits}
-use Rattle.model_poll.specs.Turn.{answer_of, Carries, passTurns}
-use Rattle.model_poll.specs.Machine.{turns, pollOpeningFor}
-use Rattle.model_rule.specs.PollCalls.{polls, PollCall, PollRunWith, turnsOf}
+use Rattle.model_poll.specs.Turn.{answer_of, Carries, pass_turns}
+use Rattle.model_poll.specs.Machine.{turns, poll_opening_for}
+use Rattle.model_rule.specs.PollCalls.{polls, PollCall, PollRunWith, turns_of}
 
 -- The call c of the list is a turn of process p that gave the answer a.
 pub record Gave (p : ℕ) (a : Answer) (cs : List PollCall) : Type 0 where
@@ -36,18 +36,18 @@ pub record PollRule (W : ℕ) (start : Session) (cs : List PollCall) (s : Sessio
   pub unanimity : {c : PollCall} {older : List PollCall} (u v : ℕ) → ((w : ℕ) → Proposed w (past (polls W) start (inputs cs)) → w ≡ v) →
       Past (c ∷ older) cs → Carries c.answer.answer u → c.answer.answer ≡ Commits v
   -- the record of an answered process shows the answer that its turn gave, and no record shows another
-  pub kept : {p : ℕ} {a : Answer} (v : ℕ) → Gave p a cs → Carries a v → answer_of (processAt s p) ≡ a
-  pub shown : (p v : ℕ) → Carries (answer_of (processAt s p)) v → Gave p (answer_of (processAt s p)) cs
+  pub kept : {p : ℕ} {a : Answer} (v : ℕ) → Gave p a cs → Carries a v → answer_of (process_at s p) ≡ a
+  pub shown : (p v : ℕ) → Carries (answer_of (process_at s p)) v → Gave p (answer_of (process_at s p)) cs
   -- no process takes more turns than that; one that still works, and so has no answer, has taken fewer, and its next turn is refused by 16
   -- alone
-  pub onePass : (p : ℕ) → turnsOf p cs ≤ passTurns W
-  pub working : (p : ℕ) → status (processAt s p).phase ≡ Active → turnsOf p cs < passTurns W
+  pub one_pass : (p : ℕ) → turns_of p cs ≤ pass_turns W
+  pub working : (p : ℕ) → status (process_at s p).phase ≡ Active → turns_of p cs < pass_turns W
 
 -- The claim, within a caller's limits, of n processes, where w n is the window of n processes: "any order .. from an opening", and after
 -- each call of it.
 abbrev pub PollClaimWithin : Limits → (w : ℕ → ℕ) → (n : ℕ) → Type 0
 PollClaimWithin most w n =
-    let start = pollOpeningFor most (w n) n in
+    let start = poll_opening_for most (w n) n in
     let M = polls (w n) in
     start.code ≡ 0
     → (cs : List PollCall) (s : Session)
@@ -68,6 +68,6 @@ EveryPollWindow = (w : ℕ → ℕ) (n : ℕ) → 4 * n ≤ w n * w n → PollCl
 abbrev pub PollClaim : Type 0
 PollClaim = (n : ℕ) → PollClaimWith window n
 
--- and of each of the two callers: `PollClaimWithin` is of its `pollOpening` then.
+-- and of each of the two callers: `PollClaimWithin` is of its `poll_opening` then.
 abbrev pub CallerPollClaim : Type 0
-CallerPollClaim = (caller : Caller) (n : ℕ) → PollClaimWithin (limitsOf caller) window n
+CallerPollClaim = (caller : Caller) (n : ℕ) → PollClaimWithin (limits_of caller) window n

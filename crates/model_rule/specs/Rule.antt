@@ -5,8 +5,8 @@ use Rattle.model.specs.declared.Session.{Session}
 use Rattle.model.specs.declared.Caller.{Caller}
 use Rattle.model.specs.declared.Limits.{Limits}
 use Rattle.model.specs.Window.{window}
-use Rattle.model.specs.Board.{limitsOf, UpToServer, processAt}
-use Rattle.model.specs.Machine.{closes, openingFor}
+use Rattle.model.specs.Board.{limits_of, UpToServer, process_at}
+use Rattle.model.specs.Machine.{closes, opening_for}
 use Rattle.model_rule.specs.Event.{Event, Past, Proposed, proposals, Written, Committed, DecidedOn}
 use Rattle.model_rule.specs.Event.Event.{commit}
 use Rattle.model_rule.specs.System.{machine, past, inputs, EachAsTheMachine, AfterEach}
@@ -22,7 +22,7 @@ pub record ProposedFirst (v : ℕ) (h : List Event) : Type 0 where
 
 -- The seat's record says that it is decided and holds v.
 abbrev pub Holds : Session → (p v : ℕ) → Type 0
-Holds s p v = ((processAt s p).phase ≡ Decided) × ((processAt s p).estimate ≡ v)
+Holds s p v = ((process_at s p).phase ≡ Decided) × ((process_at s p).estimate ≡ v)
 
 -- What holds of a session s and the past h of the machine that came to it.
 pub record Rule (s : Session) (h : List Event) : Type 0 where
@@ -54,7 +54,7 @@ ProposalsStand W start cs =
 -- session holds the closed mark, and whole sessions are compared.
 abbrev pub AgreementWithin : Limits → (w : ℕ → ℕ) → (n L : ℕ) → Type 0
 AgreementWithin most w n L =
-    let start = openingFor most (w n) n L in
+    let start = opening_for most (w n) n L in
     let M = sessions (w n) in
     start.code ≡ 0
     → (cs : List SessionCall) (s : Session)
@@ -79,4 +79,4 @@ AgreementRule = (n L : ℕ) → AgreementWith window n L
 
 -- and of each of the two callers: `AgreementWithin` is of its `opening` then.
 abbrev pub CallerAgreement : Type 0
-CallerAgreement = (caller : Caller) (n L : ℕ) → AgreementWithin (limitsOf caller) window n L
+CallerAgreement = (caller : Caller) (n L : ℕ) → AgreementWithin (limits_of caller) window n L

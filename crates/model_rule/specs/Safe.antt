@@ -3,8 +3,8 @@ use Rattle.std.specs.Prelude.{ℕ, ◌+◌, ◌*◌, ◌-◌, ◌/◌, max, ◌�
 use Rattle.model.specs.declared.Limits.{Limits}
 use Rattle.model.specs.declared.Session.{Session}
 use Rattle.model.specs.Board.{UpToServer}
-use Rattle.model.specs.Machine.{openingFor}
-use Rattle.model_poll.specs.Machine.{pollOpeningFor}
+use Rattle.model.specs.Machine.{opening_for}
+use Rattle.model_poll.specs.Machine.{poll_opening_for}
 use Rattle.model_rule.specs.Event.{DecidedOn}
 use Rattle.model_rule.specs.System.{inputs, past}
 use Rattle.model_rule.specs.Calls.{sessions, SessionCall, RunWith}
@@ -31,26 +31,26 @@ BelowThreshold = (w : ℕ → ℕ) (n L : ℕ) → n < threshold (w n) → Agree
 -- holds if and only if there are fewer processes than the threshold.
 abbrev pub ExactWindows : Type 0
 ExactWindows =
-    (most : Limits) → UpToServer most → (W n L : ℕ) → 2 ≤ W → (openingFor most W n L).code ≡ 0
+    (most : Limits) → UpToServer most → (W n L : ℕ) → 2 ≤ W → (opening_for most W n L).code ≡ 0
     → (n < threshold W ↔ AgreementWithin most (λ m. W) n L)
 
 -- A list of calls from an opening at window W after which two processes have decided different numbers.
 pub record TwoDecisions (most : Limits) (W n L : ℕ) : Type 0 where
   pub calls : List SessionCall
   pub left : Session
-  pub run : RunWith (λ m. W) (openingFor most W n L).session calls left
+  pub run : RunWith (λ m. W) (opening_for most W n L).session calls left
   pub p : ℕ
   pub q : ℕ
   pub u : ℕ
   pub v : ℕ
-  pub one : DecidedOn p u (past (sessions W) (openingFor most W n L).session (inputs calls))
-  pub other : DecidedOn q v (past (sessions W) (openingFor most W n L).session (inputs calls))
+  pub one : DecidedOn p u (past (sessions W) (opening_for most W n L).session (inputs calls))
+  pub other : DecidedOn q v (past (sessions W) (opening_for most W n L).session (inputs calls))
   pub unlike : u ≡ v → ⊥
 
 -- Where it does not hold, and there are 2W - 1 rounds or more, two processes can decide different numbers.
 abbrev pub DifferentDecisions : Type 0
 DifferentDecisions =
-    (most : Limits) → UpToServer most → (W n L : ℕ) → 2 ≤ W → (openingFor most W n L).code ≡ 0
+    (most : Limits) → UpToServer most → (W n L : ℕ) → 2 ≤ W → (opening_for most W n L).code ≡ 0
     → threshold W ≤ n → 2 * W - 1 ≤ L → TwoDecisions most W n L
 
 -- ---- "Polls are covered too."
@@ -61,5 +61,5 @@ PollBelowThreshold = (w : ℕ → ℕ) (n : ℕ) → n < threshold (w n) → Pol
 
 abbrev pub ExactPollWindows : Type 0
 ExactPollWindows =
-    (most : Limits) → UpToServer most → (W n : ℕ) → 2 ≤ W → (pollOpeningFor most W n).code ≡ 0
+    (most : Limits) → UpToServer most → (W n : ℕ) → 2 ≤ W → (poll_opening_for most W n).code ≡ 0
     → (n < threshold W ↔ PollClaimWithin most (λ m. W) n)

@@ -13,9 +13,9 @@ pub record System (State Input Answer Event : Type 0) : Type 0 where
   pub accepted : State → Input → List Event
 
 -- What an input adds to the past: an accepted one its events, a refused one none.
-abbrev pub ifAccepted : {Event : Type 0} → (code : ℕ) → List Event → List Event
-ifAccepted zero es = es
-ifAccepted (suc k) es = []
+abbrev pub if_accepted : {Event : Type 0} → (code : ℕ) → List Event → List Event
+if_accepted zero es = es
+if_accepted (suc k) es = []
 
 -- ---- the calls
 
@@ -44,7 +44,7 @@ module _ {State Input Answer Event : Type 0} (M : System State Input Answer Even
 
   -- The past of the machine.
   abbrev pub events : State → Input → List Event
-  events s f = ifAccepted (M.code (M.perform s f)) (M.accepted s f)
+  events s f = if_accepted (M.code (M.perform s f)) (M.accepted s f)
 
   abbrev pub past : State → List Input → List Event
   past start [] = []

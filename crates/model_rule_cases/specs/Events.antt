@@ -30,8 +30,8 @@ back (decision p v) = refl
 abbrev is : (x e : Event) → Bool
 is x e = let a = numbers x in let b = numbers e in eqb b.0 a.0 && eqb b.1 a.1 && eqb b.2 a.2 && eqb b.3 a.3
 
-is-only : (x e : Event) → is x e ≡ true → e ≡ x
-is-only x e t =
+is_only : (x e : Event) → is x e ≡ true → e ≡ x
+is_only x e t =
     let a = numbers x in
     let b = numbers e in
     let kind = eqb b.0 a.0 in
@@ -47,8 +47,8 @@ is-only x e t =
       eqb-true b.3 a.3 (and_right three (eqb b.3 a.3) t),
     ) (back x)
 
-is-itself : (x : Event) → is x x ≡ true
-is-itself x = let a = numbers x in rw (
+is_itself : (x : Event) → is x x ≡ true
+is_itself x = let a = numbers x in rw (
   eq-eqb a.0 a.0 refl,
   eq-eqb a.1 a.1 refl,
   eq-eqb a.2 a.2 refl,
@@ -60,13 +60,13 @@ abbrev pub occurs : (x : Event) → List Event → Bool
 occurs x [] = false
 occurs x (e ∷ h) = cond (is x e) true (occurs x h)
 
-pub occurs-happened : (x : Event) (h : List Event) → occurs x h ≡ true → Happened x h
-occurs-happened x [] = λ t. absurd (true≢false (sym t))
-occurs-happened x (e ∷ h) =
+pub occurs_happened : (x : Event) (h : List Event) → occurs x h ≡ true → Happened x h
+occurs_happened x [] = λ t. absurd (true≢false (sym t))
+occurs_happened x (e ∷ h) =
     cond_cases (λ (b : Bool). b ≡ true → Happened x (e ∷ h)) (is x e)
-    (λ t u. subst (λ (y : Event). Happened y (e ∷ h)) (is-only x e t) (record { before = h; past = here }))
-    (λ t u. let a = occurs-happened x h u in record { before = a.before; past = there a.past })
+    (λ t u. subst (λ (y : Event). Happened y (e ∷ h)) (is_only x e t) (record { before = h; past = here }))
+    (λ t u. let a = occurs_happened x h u in record { before = a.before; past = there a.past })
 
-pub past-occurs : (x : Event) {h' h : List Event} → Past (x ∷ h') h → occurs x h ≡ true
-past-occurs x here = rw (is-itself x) refl
-past-occurs x (there {e = e} {h = h} k) = cond_cases (λ (b : Bool). b ≡ true) (is x e) (λ t. refl) (λ t. past-occurs x k)
+pub past_occurs : (x : Event) {h' h : List Event} → Past (x ∷ h') h → occurs x h ≡ true
+past_occurs x here = rw (is_itself x) refl
+past_occurs x (there {e = e} {h = h} k) = cond_cases (λ (b : Bool). b ≡ true) (is x e) (λ t. refl) (λ t. past_occurs x k)

@@ -3,9 +3,9 @@ use Rattle.std.specs.Prelude.{ℕ, ◌≡◌, refl, true, List, [], ◌∷◌, �
 use Rattle.model.specs.declared.Operation.{Operation}
 use Rattle.model.specs.declared.Operation.TheVariants.{Propose, Learn}
 use Rattle.model.specs.Board.{opened}
-use Rattle.model.specs.Step.{waitingRule, phaseAccess, access, found, goOn, phaseNext, next, learnt, stored, turn, counted}
+use Rattle.model.specs.Step.{waiting_rule, phase_access, access, found, go_on, phase_next, next, learnt, stored, turn, counted}
 use Rattle.model.specs.Refusal.{full}
-use Rattle.model.specs.Machine.{openingFor, accessOf, becomes, after, countsAfter, answered, perform, execute}
+use Rattle.model.specs.Machine.{opening_for, access_of, becomes, after, counts_after, answered, perform, execute}
 use Rattle.model.specs.Sound.{every}
 use Rattle.model_rule_cases.specs.Play.{works, played}
 use Rattle.model_rule_cases.specs.Breaks.{Row, happens, differ, breaks}
@@ -82,9 +82,9 @@ table =
     ∷ []
 
 -- Every row breaks the machine at its window.
-pub short-lists : every breaks table ≡ true
+pub short_lists : every breaks table ≡ true
 unfolding
-    two three five table played happens differ breaks opened waitingRule phaseAccess access found goOn phaseNext next learnt stored turn
-    counted full openingFor
-    accessOf becomes after countsAfter answered perform execute
-short-lists = refl
+    two three five table played happens differ breaks opened waiting_rule phase_access access found go_on phase_next next learnt stored turn
+    counted full opening_for
+    access_of becomes after counts_after answered perform execute
+short_lists = refl

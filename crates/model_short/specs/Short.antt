@@ -5,7 +5,7 @@ use Rattle.model.specs.declared.Entry.{Entry}
 use Rattle.model.specs.declared.Ending.{Ending}
 use Rattle.model.specs.declared.Ending.TheVariants.{Finished, Refused, BudgetEnded, Rejected}
 use Rattle.model.specs.Window.{window}
-use Rattle.model.specs.Board.{opened, noCounts}
+use Rattle.model.specs.Board.{opened, no_counts}
 use Rattle.model.specs.Sound.{every}
 use Rattle.model.specs.Sheet.{entry_of}
 use Rattle.model.specs.Runner.{run_from}
@@ -43,30 +43,30 @@ among (f ∷ fs) e = same e f || among fs e
 
 -- ---- legal lists
 
-abbrev pub isFinished : Ending → Bool
-isFinished Finished = true
-isFinished (Refused code k) = false
-isFinished BudgetEnded = false
-isFinished (Rejected code) = false
+abbrev pub is_finished : Ending → Bool
+is_finished Finished = true
+is_finished (Refused code k) = false
+is_finished BudgetEnded = false
+is_finished (Rejected code) = false
 
 -- "Legal: no entry is refused from a fresh session", of n seats "with L at its least", which is the window: the run of these entries, the
 -- runner's own, ends finished. And each of them is one that a list may have.
 unfoldable pub legal : (n : ℕ) → List RawEntry → Bool
 legal n l =
     every (among (choices n)) l
-    && isFinished (run_from (window n) (length l) 0 (opened n (window n)) noCounts (map said l)).ending
+    && is_finished (run_from (window n) (length l) 0 (opened n (window n)) no_counts (map said l)).ending
 
 -- ---- all of them, in order
 
 -- Each entry in front of each list, entry by entry.
-abbrev pub inFront : List RawEntry → List (List RawEntry) → List (List RawEntry)
-inFront [] ls = []
-inFront (e ∷ es) ls = map (λ (l : List RawEntry). e ∷ l) ls ++ inFront es ls
+abbrev pub in_front : List RawEntry → List (List RawEntry) → List (List RawEntry)
+in_front [] ls = []
+in_front (e ∷ es) ls = map (λ (l : List RawEntry). e ∷ l) ls ++ in_front es ls
 
 -- Every list of m of the given entries, "ordered by their first differing entry".
 unfoldable pub lists_of : List RawEntry → (m : ℕ) → List (List RawEntry)
 lists_of es zero = [] ∷ []
-lists_of es (suc k) = inFront es (lists_of es k)
+lists_of es (suc k) = in_front es (lists_of es k)
 
 -- Those of which the test holds, in their order.
 abbrev pub kept : (test : List RawEntry → Bool) → List (List RawEntry) → List (List RawEntry)
@@ -74,8 +74,8 @@ kept test [] = []
 kept test (l ∷ ls) = cond (test l) (l ∷ kept test ls) (kept test ls)
 
 -- The legal lists of m entries.
-unfoldable pub legalLists : (n m : ℕ) → List (List RawEntry)
-legalLists n m = kept (legal n) (lists_of (choices n) m)
+unfoldable pub legal_lists : (n m : ℕ) → List (List RawEntry)
+legal_lists n m = kept (legal n) (lists_of (choices n) m)
 
 -- ---- one after another
 
@@ -85,9 +85,9 @@ same_list [] (f ∷ fs) = false
 same_list (e ∷ es) [] = false
 same_list (e ∷ es) (f ∷ fs) = same e f && same_list es fs
 
-abbrev pub isListed : List RawEntry → List (List RawEntry) → Bool
-isListed l [] = false
-isListed l (x ∷ xs) = same_list l x || isListed l xs
+abbrev pub is_listed : List RawEntry → List (List RawEntry) → Bool
+is_listed l [] = false
+is_listed l (x ∷ xs) = same_list l x || is_listed l xs
 
 -- The lists that come after l; none where l is the last, or is not there.
 unfoldable pub following : (l : List RawEntry) → List (List RawEntry) → List (List RawEntry)

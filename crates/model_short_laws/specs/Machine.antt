@@ -6,79 +6,79 @@ use Rattle.model.specs.declared.Stepped.{Stepped}
 use Rattle.model.specs.declared.Operation.{Operation}
 use Rattle.model.specs.declared.Entry.{Entry}
 use Rattle.model.specs.declared.Entry.TheVariants.{Acts, Closes, Malformed}
-use Rattle.model.specs.Window.{window, rootUp, rootFrom}
-use Rattle.model.specs.Board.{opened, withClosed, maxProcesses, maxRounds}
+use Rattle.model.specs.Window.{window, root_up, root_from}
+use Rattle.model.specs.Board.{opened, with_closed, max_processes, max_rounds}
 use Rattle.model.specs.Refusal.{refusal, tests, stepped}
-use Rattle.model.specs.Machine.{perform, answered, after, countsAfter, execute}
-use Rattle.model.specs.Sound.{soundFor}
-use Rattle.model.specs.Public.{withCounts, operateForAs, closeFor, commanded}
-use Rattle.model.specs.Runner.{entryAnswer}
-use Rattle.model_laws.specs.Answers.{operate-sound}
-use Rattle.model_laws.specs.Operations.{after_same, perform-sound, opened-sound}
-use Rattle.model_laws.specs.Sounds.{closed-sound}
+use Rattle.model.specs.Machine.{perform, answered, after, counts_after, execute}
+use Rattle.model.specs.Sound.{sound_for}
+use Rattle.model.specs.Public.{with_counts, operate_for_as, close_for, commanded}
+use Rattle.model.specs.Runner.{entry_answer}
+use Rattle.model_laws.specs.Answers.{operate_sound}
+use Rattle.model_laws.specs.Operations.{after_same, perform_sound, opened_sound}
+use Rattle.model_laws.specs.Sounds.{closed_sound}
 use Rattle.model_short.specs.declared.RawEntry.{RawEntry}
 use Rattle.model_short.specs.Short.{said}
-use Rattle.model_short_laws.specs.Choosing.{rawAnswer}
+use Rattle.model_short_laws.specs.Choosing.{raw_answer}
 use Rattle.model_short_laws.specs.Order.{OneOrTwo}
 
 pub record Met (n : ℕ) (s : Session) : Type 0 where
-  pub sound : soundFor (window n) s ≡ true
+  pub sound : sound_for (window n) s ≡ true
   pub processes : s.n ≡ n
 
-known-window : (n : ℕ) → OneOrTwo n → (1 ≤ window n) × (window n ≤ maxRounds)
-unfolding window rootUp rootFrom
-known-window n (inl e) = rw e (omega arith, omega arith)
-known-window n (inr e) = rw e (omega arith, omega arith)
+known_window : (n : ℕ) → OneOrTwo n → (1 ≤ window n) × (window n ≤ max_rounds)
+unfolding window root_up root_from
+known_window n (inl e) = rw e (omega arith, omega arith)
+known_window n (inr e) = rw e (omega arith, omega arith)
 
-pub met-fresh : (n : ℕ) → OneOrTwo n → Met n (opened n (window n))
+pub met_fresh : (n : ℕ) → OneOrTwo n → Met n (opened n (window n))
 unfolding opened
-met-fresh n h =
+met_fresh n h =
     record {
-      sound = opened-sound (window n) n (window n) (few h).0 (few h).1 (omega arith) (known-window n h).1;
+      sound = opened_sound (window n) n (window n) (few h).0 (few h).1 (omega arith) (known_window n h).1;
       processes = refl;
     }
   where
-    few : OneOrTwo n → (1 ≤ n) × (n ≤ maxProcesses)
+    few : OneOrTwo n → (1 ≤ n) × (n ≤ max_processes)
     few (inl e) = (omega arith, omega arith)
     few (inr e) = (omega arith, omega arith)
 
 -- No operation changes n.
-perform-n : (W : ℕ) (s : Session) (c : Counts) (o : Operation) → (perform W s c o).session.n ≡ s.n
+perform_n : (W : ℕ) (s : Session) (c : Counts) (o : Operation) → (perform W s c o).session.n ≡ s.n
 unfolding perform answered
-perform-n W s c o = go (refusal (tests s c o))
+perform_n W s c o = go (refusal (tests s c o))
   where
-    go : (k : ℕ) → (stepped k s (after W s o) c (countsAfter s c o)).session.n ≡ s.n
+    go : (k : ℕ) → (stepped k s (after W s o) c (counts_after s c o)).session.n ≡ s.n
     go zero = (after_same W s o).0
     go (suc k) = refl
 
 module _ (n : ℕ) (s : Session) (m : Met n s) (c : Counts) where
-  pub apply-machine : (e : RawEntry) → entryAnswer commanded s c (said e) ≡ rawAnswer n s c e
-  unfolding rawAnswer execute closeFor
-  apply-machine e = go (said e)
+  pub apply_machine : (e : RawEntry) → entry_answer commanded s c (said e) ≡ raw_answer n s c e
+  unfolding raw_answer execute close_for
+  apply_machine e = go (said e)
     where
-      closed : withCounts (closeFor (window n) s) c ≡ record { code = 0; session = withClosed s; counts = c }
+      closed : with_counts (close_for (window n) s) c ≡ record { code = 0; session = with_closed s; counts = c }
       closed = rw m.sound refl
 
-      go : (x : Entry) → entryAnswer commanded s c x ≡ entryAnswer (execute (window n)) s c x
-      go (Acts o) = ap (λ (k : ℕ). operateForAs false (window k) s c o) m.processes ∙ operate-sound false (window n) s c o m.sound
-      go Closes = ap (λ (k : ℕ). withCounts (closeFor (window k) s) c) m.processes ∙ closed
+      go : (x : Entry) → entry_answer commanded s c x ≡ entry_answer (execute (window n)) s c x
+      go (Acts o) = ap (λ (k : ℕ). operate_for_as false (window k) s c o) m.processes ∙ operate_sound false (window n) s c o m.sound
+      go Closes = ap (λ (k : ℕ). with_counts (close_for (window k) s) c) m.processes ∙ closed
       go Malformed = refl
 
-  pub applied : (e : RawEntry) {a : Stepped} → a ≡ entryAnswer commanded s c (said e) → a ≡ rawAnswer n s c e
-  applied e h = h ∙ apply-machine e
+  pub applied : (e : RawEntry) {a : Stepped} → a ≡ entry_answer commanded s c (said e) → a ≡ raw_answer n s c e
+  applied e h = h ∙ apply_machine e
 
   -- What an entry leaves is such a session too.
-  pub met-after : OneOrTwo n → (e : RawEntry) → Met n (rawAnswer n s c e).session
-  unfolding rawAnswer execute
-  met-after h e = go (said e)
+  pub met_after : OneOrTwo n → (e : RawEntry) → Met n (raw_answer n s c e).session
+  unfolding raw_answer execute
+  met_after h e = go (said e)
     where
-      go : (x : Entry) → Met n (entryAnswer (execute (window n)) s c x).session
+      go : (x : Entry) → Met n (entry_answer (execute (window n)) s c x).session
       go (Acts o) =
           record {
-            sound = perform-sound (window n) (known-window n h).0 s c o m.sound;
-            processes = perform-n (window n) s c o ∙ m.processes;
+            sound = perform_sound (window n) (known_window n h).0 s c o m.sound;
+            processes = perform_n (window n) s c o ∙ m.processes;
           }
-      go Closes = record { sound = closed-sound (window n) s ∙ m.sound; processes = m.processes }
+      go Closes = record { sound = closed_sound (window n) s ∙ m.sound; processes = m.processes }
       go Malformed = m
 
 -- What a search for a list is given: one or two processes, room for the entries that are left, and such a session.

@@ -3,8 +3,8 @@
 use Rattle.std.specs.Prelude.{ℕ, cond, List, eqb}
 use Rattle.model.specs.declared.Caller.{Caller}
 use Rattle.model.specs.declared.CountAnswer.{CountAnswer}
-use Rattle.model.specs.Board.{limitsOf}
-use Rattle.model_write.specs.Write.{writeResult}
+use Rattle.model.specs.Board.{limits_of}
+use Rattle.model_write.specs.Write.{write_result}
 
 -- What C gets: the code, what the output buffer holds, and the lent number.
 pub record WriteExport : Type 0 where
@@ -17,11 +17,11 @@ abbrev pub export_of : (code : ℕ) (buffer : List ℕ) (size : ℕ) → WriteEx
 export_of code buffer size = record { code = code; buffer = buffer; size = size }
 
 -- The size where the call was accepted, else the number as it was.
-abbrev pub sizeLeft : CountAnswer → (size : ℕ) → ℕ
-sizeLeft a before = cond (eqb a.code 0) a.count before
+abbrev pub size_left : CountAnswer → (size : ℕ) → ℕ
+size_left a before = cond (eqb a.code 0) a.count before
 
 -- Within the caller's limits. (02, wish 9: "the C entry .. use the server's".)
-unfoldable pub writeExport : Caller → (n L : ℕ) (entries lengths output : List ℕ) (size : ℕ) → WriteExport
-writeExport caller n L es ms out size =
-    let w = writeResult (limitsOf caller) n L es ms out in
-    export_of w.answer.code w.buffer (sizeLeft w.answer size)
+unfoldable pub write_export : Caller → (n L : ℕ) (entries lengths output : List ℕ) (size : ℕ) → WriteExport
+write_export caller n L es ms out size =
+    let w = write_result (limits_of caller) n L es ms out in
+    export_of w.answer.code w.buffer (size_left w.answer size)

@@ -1,6 +1,6 @@
 // The one register operation of a step, as a function of one process' record.
 ghost use Rattle.std.specs.Prelude.{◌≡◌, ◌-◌};
-ghost use Rattle.model.specs.Step.{access as accessOf, phaseAccess};
+ghost use Rattle.model.specs.Step.{access as access_of, phase_access};
 
 use model::{Access, Phase, Process};
 
@@ -14,7 +14,7 @@ fn minus(a: usize, b: usize) -> usize
 // 01, "One turn at a time", gate: a process that is told to lead reads the register of the next round, if there is one. The limit is read
 // first, as in 02, wish 5; where no round is left, no register is read, whatever the hint.
 fn waiting_access(limit: usize, round: usize, leader: bool) -> Access
-    ensures { result ≡ phaseAccess limit round Phase.Waiting leader }
+    ensures { result ≡ phase_access limit round Phase.Waiting leader }
 {
     if round < limit {
         if leader {
@@ -26,7 +26,7 @@ fn waiting_access(limit: usize, round: usize, leader: bool) -> Access
 
 // 01, "One turn at a time": the one register operation of a work turn.
 pub fn access(limit: usize, q: Process, leader: bool) -> Access
-    ensures { result ≡ accessOf limit q leader }
+    ensures { result ≡ access_of limit q leader }
 {
     let phase = q.phase;
     let r = q.round;

@@ -3,11 +3,11 @@ use Rattle.base.specs.Prelude.{ℕ, ◌+◌, ◌≤◌, arith, ◌≡◌, List, 
 use Rattle.model.specs.Bytes.{byte_at, word16, word32}
 
 module _ (s : List ℕ) where
-  pub byte-beyond : (i : ℕ) → length s ≤ i → byte_at s i ≡ 0
-  byte-beyond i h = List·getD-eq-default s 0 h
+  pub byte_beyond : (i : ℕ) → length s ≤ i → byte_at s i ≡ 0
+  byte_beyond i h = List·getD-eq-default s 0 h
 
-  pub word16-beyond : (i : ℕ) → length s ≤ i → word16 s i ≡ 0
-  word16-beyond i h = rw (byte-beyond i h, byte-beyond (i + 1) (omega arith))
+  pub word16_beyond : (i : ℕ) → length s ≤ i → word16 s i ≡ 0
+  word16_beyond i h = rw (byte_beyond i h, byte_beyond (i + 1) (omega arith))
 
-  pub word32-beyond : (i : ℕ) → length s ≤ i → word32 s i ≡ 0
-  word32-beyond i h = rw (word16-beyond i h, word16-beyond (i + 2) (omega arith))
+  pub word32_beyond : (i : ℕ) → length s ≤ i → word32 s i ≡ 0
+  word32_beyond i h = rw (word16_beyond i h, word16_beyond (i + 2) (omega arith))

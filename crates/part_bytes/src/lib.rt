@@ -1,6 +1,6 @@
 // Numbers read from bytes. 01, "Turn sheets": "Numbers are little-endian." Past the end every byte reads as 0.
 ghost use Rattle.std.specs.Prelude.{◌≡◌, [], ◌∷◌};
-ghost use Rattle.model.specs.Bytes.{byte_at, word16 as word16At, word32 as word32At};
+ghost use Rattle.model.specs.Bytes.{byte_at, word16 as word16_at, word32 as word32_at};
 
 // The byte numbered i.
 pub fn byte(s: &[u8], i: usize) -> u8
@@ -11,14 +11,14 @@ pub fn byte(s: &[u8], i: usize) -> u8
 
 // The 16-bit number of two bytes.
 fn number16(a: u8, b: u8) -> u16
-    ensures { result ≡ word16At (a ∷ b ∷ []) 0 }
+    ensures { result ≡ word16_at (a ∷ b ∷ []) 0 }
 {
     a as u16 + 256 * (b as u16)
 }
 
 // The 16-bit number at byte i.
 pub fn word16(s: &[u8], i: usize) -> u16
-    ensures { result ≡ word16At s.now i }
+    ensures { result ≡ word16_at s.now i }
 {
     if s.len() <= i {
         return 0;
@@ -30,7 +30,7 @@ pub fn word16(s: &[u8], i: usize) -> u16
 
 // The 32-bit number at byte i.
 pub fn word32(s: &[u8], i: usize) -> u32
-    ensures { result ≡ word32At s.now i }
+    ensures { result ≡ word32_at s.now i }
 {
     if s.len() <= i {
         return 0;

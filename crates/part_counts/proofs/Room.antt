@@ -3,7 +3,7 @@ use Rattle.base.specs.Prelude.{ℕ, ◌<◌, ◌≡◌, refl, Bool, true, false,
 use Rattle.model.specs.declared.Access.{Access}
 use Rattle.model.specs.declared.Counts.{Counts}
 use Rattle.model.specs.Step.{counted}
-use Rattle.model.specs.Refusal.{full, maxCount}
+use Rattle.model.specs.Refusal.{full, max_count}
 
 neither : (a b : Bool) → (a || b) ≡ false → (a ≡ false) × (b ≡ false)
 neither true b h = absurd (true≢false h)
@@ -13,7 +13,7 @@ neither false b h = (refl, h)
 pub room :
     (c : Counts) →
     full c ≡ false →
-    (c.reads < maxCount) × (c.writes < maxCount) × (c.contested < maxCount)
+    (c.reads < max_count) × (c.writes < max_count) × (c.contested < max_count)
 unfolding full
 room c h =
     let two = neither _ _ h in
@@ -21,10 +21,10 @@ room c h =
     (leb-false _ _ one.0, leb-false _ _ one.1, leb-false _ _ two.1)
 
 -- What counts that are not full become, by the case of the access.
-pub counts-one :
+pub counts_one :
     (a : Access) (x : ℕ) (c : Counts) {α : Access} {d : Counts} →
     full c ≡ false →
     a ≡ α →
     d ≡ counted α x c →
     d ≡ cond (full c) c (counted a x c)
-counts-one a x c unfull told e = rw (unfull, told) e
+counts_one a x c unfull told e = rw (unfull, told) e

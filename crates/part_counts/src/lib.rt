@@ -1,6 +1,6 @@
 // The counts of register operations (01: the tally): when they are full, and what an operation makes of them.
 ghost use Rattle.std.specs.Prelude.{◌≡◌, cond};
-ghost use Rattle.model.specs.Step.{newlyMarked, counted as countedOf};
+ghost use Rattle.model.specs.Step.{newly_marked as newly_marked_of, counted as counted_of};
 ghost use Rattle.model.specs.Refusal.{full as full_of};
 
 use model::{Access, Counts};
@@ -25,14 +25,14 @@ fn counts(reads: u32, writes: u32, contested: u32) -> Counts
 
 // 02, wish 2: a flag write that found its round unmarked counts as contested, and no other does.
 fn newly_marked(x: u32) -> u32
-    ensures { result ≡ newlyMarked x }
+    ensures { result ≡ newly_marked_of x }
 {
     if x == 0 { 1 } else { 0 }
 }
 
 // 01, "One turn at a time": the tally after a register operation that found x. A full tally stays as it is.
 pub fn counted(a: Access, x: u32, c: Counts) -> Counts
-    ensures { result ≡ cond (full_of c) c (countedOf a x c) }
+    ensures { result ≡ cond (full_of c) c (counted_of a x c) }
 {
     if full(c) {
         return c;

@@ -1,12 +1,12 @@
 // The decision register in the register operation of a turn.
 ghost use Rattle.std.specs.Prelude.{◌≡◌};
-ghost use Rattle.model_laws.specs.Registers.{decisionAfter};
+ghost use Rattle.model_laws.specs.Registers.{decision_after};
 
 use model::Access;
 
 // The decision register D after the operation.
 pub fn decision(d: u32, a: Access, e: u32) -> u32
-    ensures { result ≡ decisionAfter d a e }
+    ensures { result ≡ decision_after d a e }
 {
     match a {
         Access::Nothing => d,

@@ -4,7 +4,7 @@ use Rattle.base.specs.Prelude.{ℕ, zero, suc, ◌<◌, ◌≤◌, arith, ◌≡
 use Rattle.base.specs.Prelude.{lt-leb, eqb, ne_eqb}
 use Rattle.model.specs.declared.Operation.TheVariants.{Step}
 use Rattle.model.specs.declared.Entry.TheVariants.{Acts, Closes, Malformed}
-use Rattle.model.specs.Sheet.{entry_of, isMalformed}
+use Rattle.model.specs.Sheet.{entry_of, is_malformed}
 
 abbrev pub largest : List ℕ
 largest = 4294967295 ∷ 1 ∷ 0 ∷ 0 ∷ []
@@ -19,21 +19,21 @@ pub unhinted : (kind p v : ℕ) → kind ≡ 1 → 1 < v → entry_of kind p v �
 unhinted kind p v e high = rw (e, ne_eqb v 0 (λ z. omega arith), ne_eqb v 1 (λ z. omega arith))
 
 -- An entry of an operation's kind is well-formed exactly if its value is at most the kind's largest, whatever its process.
-pub formed-largest : (kind p v : ℕ) → kind < 4 → v < 4294967296 → leb v (get_or largest kind 0) ≡ not (isMalformed (entry_of kind p v))
-formed-largest zero p v known low = le-leb v 4294967295 (omega arith)
-formed-largest (suc zero) p zero known low = refl
-formed-largest (suc zero) p (suc zero) known low = refl
-formed-largest (suc zero) p (suc (suc v)) known low =
+pub formed_largest : (kind p v : ℕ) → kind < 4 → v < 4294967296 → leb v (get_or largest kind 0) ≡ not (is_malformed (entry_of kind p v))
+formed_largest zero p v known low = le-leb v 4294967295 (omega arith)
+formed_largest (suc zero) p zero known low = refl
+formed_largest (suc zero) p (suc zero) known low = refl
+formed_largest (suc zero) p (suc (suc v)) known low =
     rw (lt-leb (suc (suc v)) 1 (omega arith), ne_eqb (suc (suc v)) 0 (λ e. omega arith), ne_eqb (suc (suc v)) 1 (λ e. omega arith))
-formed-largest (suc (suc zero)) p zero known low = refl
-formed-largest (suc (suc zero)) p (suc v) known low = rw (lt-leb (suc v) 0 (omega arith), ne_eqb (suc v) 0 (λ e. omega arith))
-formed-largest (suc (suc (suc zero))) p zero known low = refl
-formed-largest (suc (suc (suc zero))) p (suc v) known low = rw (lt-leb (suc v) 0 (omega arith), ne_eqb (suc v) 0 (λ e. omega arith))
-formed-largest (suc (suc (suc (suc k)))) p v known low = absurd (omega arith)
+formed_largest (suc (suc zero)) p zero known low = refl
+formed_largest (suc (suc zero)) p (suc v) known low = rw (lt-leb (suc v) 0 (omega arith), ne_eqb (suc v) 0 (λ e. omega arith))
+formed_largest (suc (suc (suc zero))) p zero known low = refl
+formed_largest (suc (suc (suc zero))) p (suc v) known low = rw (lt-leb (suc v) 0 (omega arith), ne_eqb (suc v) 0 (λ e. omega arith))
+formed_largest (suc (suc (suc (suc k)))) p v known low = absurd (omega arith)
 
 -- One of another kind exactly if it is a close: kind 4, process 0, value 0.
-pub formed-close : (kind p v : ℕ) → (kind < 4 → ⊥) → (eqb kind 4 && (eqb p 0 && eqb v 0)) ≡ not (isMalformed (entry_of kind p v))
-formed-close kind p v other =
+pub formed_close : (kind p v : ℕ) → (kind < 4 → ⊥) → (eqb kind 4 && (eqb p 0 && eqb v 0)) ≡ not (is_malformed (entry_of kind p v))
+formed_close kind p v other =
     rw (
       ne_eqb kind 0 (λ e. omega arith),
       ne_eqb kind 1 (λ e. omega arith),
@@ -42,7 +42,7 @@ formed-close kind p v other =
     )
     (chosen (eqb kind 4) (eqb p 0 && eqb v 0))
   where
-    chosen : (a b : Bool) → (a && b) ≡ not (isMalformed (cond a (cond b Closes Malformed) Malformed))
+    chosen : (a b : Bool) → (a && b) ≡ not (is_malformed (cond a (cond b Closes Malformed) Malformed))
     chosen true true = refl
     chosen true false = refl
     chosen false b = refl

@@ -1,7 +1,7 @@
 // What the bytes of one entry say. 01, "Turn sheets": "An entry has 6 bytes: kind, seat, 32-bit value."
 ghost use Rattle.std.specs.Prelude.{◌≡◌, [], ◌∷◌, not};
 ghost use Rattle.model.specs.Bytes.{word32};
-ghost use Rattle.model.specs.Sheet.{entry_of, isMalformed};
+ghost use Rattle.model.specs.Sheet.{entry_of, is_malformed};
 
 use model::{Entry, Operation};
 
@@ -39,7 +39,7 @@ pub fn entry_of(kind: u8, p: u8, value: u32) -> Entry
 
 // Whether it is one of these: by the largest value of each kind; a close, which is rare, by a test of its own.
 pub fn formed(kind: u8, p: u8, value: u32) -> bool
-    ensures { result ≡ not (isMalformed (entry_of kind p value)) }
+    ensures { result ≡ not (is_malformed (entry_of kind p value)) }
 {
     let largest: [u32; 4] = [4294967295, 1, 0, 0];
     if kind < 4 {

@@ -1,12 +1,12 @@
 // What a process becomes by a step, as a function of its record and the one value read.
 ghost use Rattle.std.specs.Prelude.{◌≡◌, true, cond, ℕ, ◌+◌, ◌-◌, min, ltb, eqb};
-ghost use Rattle.model.specs.Step.{process as processOf, phaseNext, next as next_of, goOn};
+ghost use Rattle.model.specs.Step.{process as process_of, phase_next, next as next_of, go_on as go_on_of};
 
 use model::{Phase, Process};
 
 // A process' record.
 fn process(phase: Phase, round: usize, estimate: u32) -> Process
-    ensures { result ≡ processOf phase round estimate }
+    ensures { result ≡ process_of phase round estimate }
 {
     Process {
         phase: phase,
@@ -29,7 +29,7 @@ fn upward(limit: usize, k: usize) -> Phase
 // 01, "One turn at a time", gate, in the order of 02, wish 5: "The round limit is read first from now on." The tests stand as in
 // `part_access::waiting_access`: the compiler then makes one branch of the tests of both functions. The window plays no part.
 fn waiting(limit: usize, round: usize, estimate: u32, leader: bool, x: u32) -> Process
-    ensures { (W : ℕ) → result ≡ phaseNext W limit round estimate Phase.Waiting leader x }
+    ensures { (W : ℕ) → result ≡ phase_next W limit round estimate Phase.Waiting leader x }
 {
     let left = round < limit;
     if left {
@@ -77,7 +77,7 @@ fn more(i: usize, n: usize) -> bool
 
 // 01, "One turn at a time", "Go on".
 fn go_on(window: usize, round: usize, i: usize) -> Phase
-    ensures { result ≡ goOn window round i }
+    ensures { result ≡ go_on_of window round i }
 {
     if more(i, least(round, window)) {
         Phase::Compare(i + 1)
@@ -90,7 +90,7 @@ fn go_on(window: usize, round: usize, i: usize) -> Phase
 
 // 01, "One turn at a time", compare i: `equal` says whether the register holds the estimate.
 fn compare(window: usize, round: usize, i: usize, equal: bool) -> Phase
-    ensures { result ≡ cond equal (goOn window round i) (Phase.Flag i) }
+    ensures { result ≡ cond equal (go_on_of window round i) (Phase.Flag i) }
 {
     if equal {
         go_on(window, round, i)

@@ -8,47 +8,47 @@ use Rattle.model.specs.declared.Phase.{Phase}
 use Rattle.model.specs.declared.Phase.TheVariants.{Idle, Waiting, Write, Scan, Adopt, Compare, Flag, CheckMark}
 use Rattle.model.specs.declared.Phase.TheVariants.{CheckValue, Commit, Exhausted, Crashed, Decided, HasCommitted, HasAdopted}
 use Rattle.model_poll.specs.declared.Answer.TheVariants.{Pending}
-use Rattle.model_poll.specs.Turn.{isWaiting, ending, phaseAnswer}
+use Rattle.model_poll.specs.Turn.{is_waiting, ending, phase_answer}
 
 -- Every phase but gate.
-abbrev not-waiting-tags : List ℕ
-not-waiting-tags = 0 ∷ 2 ∷ 3 ∷ 4 ∷ 5 ∷ 6 ∷ 7 ∷ 8 ∷ 9 ∷ 10 ∷ 11 ∷ 12 ∷ 13 ∷ 14 ∷ []
+abbrev not_waiting_tags : List ℕ
+not_waiting_tags = 0 ∷ 2 ∷ 3 ∷ 4 ∷ 5 ∷ 6 ∷ 7 ∷ 8 ∷ 9 ∷ 10 ∷ 11 ∷ 12 ∷ 13 ∷ 14 ∷ []
 
 -- Every phase but the checks and commit.
-abbrev goes-on-tags : List ℕ
-goes-on-tags = 0 ∷ 1 ∷ 2 ∷ 3 ∷ 4 ∷ 5 ∷ 6 ∷ 10 ∷ 11 ∷ 12 ∷ 13 ∷ 14 ∷ []
+abbrev goes_on_tags : List ℕ
+goes_on_tags = 0 ∷ 1 ∷ 2 ∷ 3 ∷ 4 ∷ 5 ∷ 6 ∷ 10 ∷ 11 ∷ 12 ∷ 13 ∷ 14 ∷ []
 
 -- Every phase without an answer.
-abbrev no-answer-tags : List ℕ
-no-answer-tags = 0 ∷ 1 ∷ 2 ∷ 3 ∷ 4 ∷ 5 ∷ 6 ∷ 7 ∷ 8 ∷ 9 ∷ 10 ∷ 11 ∷ 12 ∷ []
+abbrev no_answer_tags : List ℕ
+no_answer_tags = 0 ∷ 1 ∷ 2 ∷ 3 ∷ 4 ∷ 5 ∷ 6 ∷ 7 ∷ 8 ∷ 9 ∷ 10 ∷ 11 ∷ 12 ∷ []
 
 -- What the last arm of each of the three functions answers, phase by phase.
-last-arms : (f : Phase) →
-    (OneOf not-waiting-tags (tag_of the_type f) → f ≡ cond (isWaiting f) HasAdopted f)
-    × ((left : Phase) → OneOf goes-on-tags (tag_of the_type f) → left ≡ ending f left)
-    × ((e : ℕ) → OneOf no-answer-tags (tag_of the_type f) → Pending ≡ phaseAnswer f e)
+last_arms : (f : Phase) →
+    (OneOf not_waiting_tags (tag_of the_type f) → f ≡ cond (is_waiting f) HasAdopted f)
+    × ((left : Phase) → OneOf goes_on_tags (tag_of the_type f) → left ≡ ending f left)
+    × ((e : ℕ) → OneOf no_answer_tags (tag_of the_type f) → Pending ≡ phase_answer f e)
 unfolding ending
-last-arms Idle = (λ h. refl, λ left h. refl, λ e h. refl)
-last-arms Waiting = (λ h. absurd (miss not-waiting-tags 1 tt h), λ left h. refl, λ e h. refl)
-last-arms Write = (λ h. refl, λ left h. refl, λ e h. refl)
-last-arms (Scan k) = (λ h. refl, λ left h. refl, λ e h. refl)
-last-arms (Adopt k) = (λ h. refl, λ left h. refl, λ e h. refl)
-last-arms (Compare i) = (λ h. refl, λ left h. refl, λ e h. refl)
-last-arms (Flag i) = (λ h. refl, λ left h. refl, λ e h. refl)
-last-arms (CheckMark i) = (λ h. refl, λ left h. absurd (miss goes-on-tags 7 tt h), λ e h. refl)
-last-arms (CheckValue i) = (λ h. refl, λ left h. absurd (miss goes-on-tags 8 tt h), λ e h. refl)
-last-arms Commit = (λ h. refl, λ left h. absurd (miss goes-on-tags 9 tt h), λ e h. refl)
-last-arms Exhausted = (λ h. refl, λ left h. refl, λ e h. refl)
-last-arms Crashed = (λ h. refl, λ left h. refl, λ e h. refl)
-last-arms Decided = (λ h. refl, λ left h. refl, λ e h. refl)
-last-arms HasCommitted = (λ h. refl, λ left h. refl, λ e h. absurd (miss no-answer-tags 13 tt h))
-last-arms HasAdopted = (λ h. refl, λ left h. refl, λ e h. absurd (miss no-answer-tags 14 tt h))
+last_arms Idle = (λ h. refl, λ left h. refl, λ e h. refl)
+last_arms Waiting = (λ h. absurd (miss not_waiting_tags 1 tt h), λ left h. refl, λ e h. refl)
+last_arms Write = (λ h. refl, λ left h. refl, λ e h. refl)
+last_arms (Scan k) = (λ h. refl, λ left h. refl, λ e h. refl)
+last_arms (Adopt k) = (λ h. refl, λ left h. refl, λ e h. refl)
+last_arms (Compare i) = (λ h. refl, λ left h. refl, λ e h. refl)
+last_arms (Flag i) = (λ h. refl, λ left h. refl, λ e h. refl)
+last_arms (CheckMark i) = (λ h. refl, λ left h. absurd (miss goes_on_tags 7 tt h), λ e h. refl)
+last_arms (CheckValue i) = (λ h. refl, λ left h. absurd (miss goes_on_tags 8 tt h), λ e h. refl)
+last_arms Commit = (λ h. refl, λ left h. absurd (miss goes_on_tags 9 tt h), λ e h. refl)
+last_arms Exhausted = (λ h. refl, λ left h. refl, λ e h. refl)
+last_arms Crashed = (λ h. refl, λ left h. refl, λ e h. refl)
+last_arms Decided = (λ h. refl, λ left h. refl, λ e h. refl)
+last_arms HasCommitted = (λ h. refl, λ left h. refl, λ e h. absurd (miss no_answer_tags 13 tt h))
+last_arms HasAdopted = (λ h. refl, λ left h. refl, λ e h. absurd (miss no_answer_tags 14 tt h))
 
-pub not-waiting : (f : Phase) → OneOf not-waiting-tags (tag_of the_type f) → f ≡ cond (isWaiting f) HasAdopted f
-not-waiting f = (last-arms f).0
+pub not_waiting : (f : Phase) → OneOf not_waiting_tags (tag_of the_type f) → f ≡ cond (is_waiting f) HasAdopted f
+not_waiting f = (last_arms f).0
 
-pub goes_on : (f left : Phase) → OneOf goes-on-tags (tag_of the_type f) → left ≡ ending f left
-goes_on f = (last-arms f).1
+pub goes_on : (f left : Phase) → OneOf goes_on_tags (tag_of the_type f) → left ≡ ending f left
+goes_on f = (last_arms f).1
 
-pub no_answer : (f : Phase) (e : ℕ) → OneOf no-answer-tags (tag_of the_type f) → Pending ≡ phaseAnswer f e
-no_answer f = (last-arms f).2
+pub no_answer : (f : Phase) (e : ℕ) → OneOf no_answer_tags (tag_of the_type f) → Pending ≡ phase_answer f e
+no_answer f = (last_arms f).2

@@ -1,13 +1,13 @@
 // What is different in a turn of a poll (02, wish 6), as functions of one process' record.
 ghost use Rattle.std.specs.Prelude.{◌≡◌, cond};
-ghost use Rattle.model_poll.specs.Turn.{withoutDecision, pollAccess, isWaiting, ending as endingOf, pollNext, answer_of};
+ghost use Rattle.model_poll.specs.Turn.{without_decision as without_decision_of, poll_access, is_waiting, ending as ending_of, poll_next, answer_of};
 
 use model::{Access, Phase, Process};
 use model_poll::Answer;
 
 // 02, wish 6: its turn at commit "writes no D".
 fn without_decision(a: Access) -> Access
-    ensures { result ≡ withoutDecision a }
+    ensures { result ≡ without_decision_of a }
 {
     match a {
         Access::Nothing => Access::Nothing,
@@ -22,14 +22,14 @@ fn without_decision(a: Access) -> Access
 
 // The one register operation of a turn: that of a session's with hint yes.
 pub fn access(limit: usize, q: Process) -> Access
-    ensures { result ≡ pollAccess limit q }
+    ensures { result ≡ poll_access limit q }
 {
     without_decision(part_access::access(limit, q, true))
 }
 
 // 02, wish 6: "where a check of that round fails it answers adopted with its value". In a session it would go back to gate.
 fn failed(left: Phase) -> Phase
-    ensures { result ≡ cond (isWaiting left) Phase.HasAdopted left }
+    ensures { result ≡ cond (is_waiting left) Phase.HasAdopted left }
 {
     match left {
         Phase::Waiting => Phase::HasAdopted,
@@ -40,7 +40,7 @@ fn failed(left: Phase) -> Phase
 // The phase after a turn, by the phase before it and the one that a session's turn leaves. 02, wish 6: "its turn at commit answers
 // committed".
 fn ending(before: Phase, left: Phase) -> Phase
-    ensures { result ≡ endingOf before left }
+    ensures { result ≡ ending_of before left }
 {
     match before {
         Phase::CheckMark(_) => failed(left),
@@ -52,7 +52,7 @@ fn ending(before: Phase, left: Phase) -> Phase
 
 // What a process becomes by a turn that read x.
 pub fn next(window: usize, limit: usize, q: Process, x: u32) -> Process
-    ensures { result ≡ pollNext window limit q x }
+    ensures { result ≡ poll_next window limit q x }
 {
     let left = part_next::next(window, limit, q, true, x);
     let before = q.phase;

@@ -1,16 +1,16 @@
 // Entries of short lists (02, wish 12) as three numbers: read from bytes, stored as bytes, and numbered among those that a list may have.
 ghost use Rattle.std.specs.Prelude.{◌≤◌, ◌*◌, ◌≡◌};
 ghost use Rattle.std.proofs.lemmas.List.Edits.{sets};
-ghost use Rattle.model_short.specs.Short.{choices, same as sameAs};
-ghost use Rattle.model_short.specs.Calls.{rawBytes, rawAt};
-ghost use Rattle.model_short_laws.specs.Entries.{indexIn};
+ghost use Rattle.model_short.specs.Short.{choices, same as same_as};
+ghost use Rattle.model_short.specs.Calls.{raw_bytes, raw_at as raw_at_of};
+ghost use Rattle.model_short_laws.specs.Entries.{index_in};
 ghost use Rattle.model_short_laws.specs.Numbered.{choice as choice_of};
 
 use model_short::RawEntry;
 
 // The entry at an offset of the buffer. Past its end every byte reads as 0.
 pub fn raw_at(buffer: &[u8], at: usize) -> RawEntry
-    ensures { result ≡ rawAt buffer.now at }
+    ensures { result ≡ raw_at_of buffer.now at }
 {
     if buffer.len() <= at {
         return RawEntry {
@@ -28,7 +28,7 @@ pub fn raw_at(buffer: &[u8], at: usize) -> RawEntry
 
 // An entry stored there. Past the end nothing is.
 pub fn put_raw(buffer: &mut [u8], at: usize, x: RawEntry)
-    ensures { buffer.new ≡ sets buffer.old at (rawBytes x) }
+    ensures { buffer.new ≡ sets buffer.old at (raw_bytes x) }
 {
     if buffer.len() <= at {
         return;
@@ -80,7 +80,7 @@ pub fn choice(n: u8, e: usize) -> RawEntry
 }
 
 fn same(x: RawEntry, y: RawEntry) -> bool
-    ensures { result ≡ sameAs x y }
+    ensures { result ≡ same_as x y }
 {
     if x.kind != y.kind {
         return false;
@@ -93,7 +93,7 @@ fn same(x: RawEntry, y: RawEntry) -> bool
 
 // The number of an entry; 5n if no list may have it.
 pub fn number_of(n: u8, x: RawEntry) -> usize
-    ensures { (result ≡ indexIn x (choices n)) × (result ≤ 5 * n) }
+    ensures { (result ≡ index_in x (choices n)) × (result ≤ 5 * n) }
 {
     let end = 5 * (n as usize);
     let mut e: usize = 0;

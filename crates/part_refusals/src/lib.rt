@@ -1,7 +1,7 @@
 // The refusals of a proposal and of a crash by the process' phase: functions of one record. They change nothing; 0 for no refusal.
 // (`session_refusal` has the tests before them.)
 ghost use Rattle.std.specs.Prelude.{◌≡◌};
-ghost use Rattle.model.specs.Refusal.{status, isOutside, refusal, proposeTests, crashTests};
+ghost use Rattle.model.specs.Refusal.{status, is_outside, refusal, propose_tests, crash_tests};
 
 use model::numbers::{
     BLANK_PROPOSAL, CLOSED_TO_PROPOSALS, PROCESS_GONE, PROCESS_OUT, SECOND_PROPOSAL,
@@ -10,7 +10,7 @@ use model::{Phase, Status};
 
 // Whether a process has not proposed yet.
 fn is_out(phase: Phase) -> bool
-    ensures { result ≡ isOutside (status phase) }
+    ensures { result ≡ is_outside (status phase) }
 {
     match part_status::status(phase) {
         Status::Outside => true,
@@ -22,7 +22,7 @@ fn is_out(phase: Phase) -> bool
 
 // 01, "Numbers returned", proposal, after the process' number: 5, 6; 02, wish 10: 18, "tested last, after 6".
 pub fn propose_refusal(closed: bool, v: u32, phase: Phase) -> u32
-    ensures { result ≡ refusal (proposeTests closed phase v) }
+    ensures { result ≡ refusal (propose_tests closed phase v) }
 {
     let out = is_out(phase);
     if v == 0 {
@@ -39,7 +39,7 @@ pub fn propose_refusal(closed: bool, v: u32, phase: Phase) -> u32
 
 // 01, "Numbers returned", crash, after the process' number: 7, 8.
 pub fn crash_refusal(phase: Phase) -> u32
-    ensures { result ≡ refusal (crashTests phase) }
+    ensures { result ≡ refusal (crash_tests phase) }
 {
     match part_status::status(phase) {
         Status::Outside => PROCESS_OUT, // a crash before the proposal

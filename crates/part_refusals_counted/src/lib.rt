@@ -1,7 +1,7 @@
 // The refusals of a look and of a step by the process' phase and the counts: functions of one record. They change nothing.
 // (`session_refusal` has the tests before them.)
 ghost use Rattle.std.specs.Prelude.{◌≡◌, [], ◌∷◌};
-ghost use Rattle.model.specs.Refusal.{full as full_of, refusal, learnTests, stepTests};
+ghost use Rattle.model.specs.Refusal.{full as full_of, refusal, learn_tests, step_tests};
 
 use model::numbers::{COUNTS_FULL, PROCESS_GONE, PROCESS_OUT, PROCESS_SPENT};
 use model::{Counts, Phase, Status};
@@ -15,7 +15,7 @@ fn full_refusal(c: Counts) -> u32
 
 // 01, "Numbers returned", look, after the process' number: 7, 8, 16.
 pub fn learn_refusal(phase: Phase, c: Counts) -> u32
-    ensures { result ≡ refusal (learnTests phase c) }
+    ensures { result ≡ refusal (learn_tests phase c) }
 {
     match part_status::status(phase) {
         Status::Outside => PROCESS_OUT, // a look before the proposal
@@ -27,7 +27,7 @@ pub fn learn_refusal(phase: Phase, c: Counts) -> u32
 
 // 01, "Numbers returned", work, after the process' number: 7, 8, 9, 16.
 pub fn step_refusal(phase: Phase, c: Counts) -> u32
-    ensures { result ≡ refusal (stepTests phase c) }
+    ensures { result ≡ refusal (step_tests phase c) }
 {
     match part_status::status(phase) {
         Status::Outside => PROCESS_OUT, // a step before the proposal

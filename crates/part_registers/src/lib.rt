@@ -1,7 +1,7 @@
 // The register operation of a turn on the registers of a round, T[r] and C[r]: what it reads, and what it leaves in each.
 ghost use Rattle.std.specs.Prelude.{◌≡◌};
 ghost use Rattle.model.specs.Step.{bit as bit_of};
-ghost use Rattle.model_laws.specs.Registers.{slot as slot_of, valueIn, markIn, valuesAfter, marksAfter};
+ghost use Rattle.model_laws.specs.Registers.{slot as slot_of, value_in, mark_in, values_after, marks_after};
 
 use model::Access;
 
@@ -15,8 +15,8 @@ fn slot(r: usize) -> usize
 
 // 01, "One turn at a time": the value register T[r], read or written with e. 0 where the operation reads no value.
 pub fn value(values: &mut [u32; 256], a: Access, e: u32) -> u32
-    ensures reads { result ≡ valueIn values.old a }
-    ensures writes { values.new ≡ valuesAfter values.old a e }
+    ensures reads { result ≡ value_in values.old a }
+    ensures writes { values.new ≡ values_after values.old a e }
 {
     match a {
         Access::Nothing => 0,
@@ -41,8 +41,8 @@ fn bit(marked: bool) -> u32
 
 // The same of the mark C[r], read or set: the mark that stood there before; v where the operation goes to no mark.
 pub fn mark(v: u32, marks: &mut [bool; 256], a: Access) -> u32
-    ensures reads { result ≡ markIn v marks.old a }
-    ensures writes { marks.new ≡ marksAfter marks.old a }
+    ensures reads { result ≡ mark_in v marks.old a }
+    ensures writes { marks.new ≡ marks_after marks.old a }
 {
     match a {
         Access::Nothing => v,

@@ -1,12 +1,12 @@
 // Where a process stands, for the refusals by its phase: a function of one record.
 ghost use Rattle.std.specs.Prelude.{◌≡◌};
-ghost use Rattle.model.specs.Refusal.{status as statusOf};
+ghost use Rattle.model.specs.Refusal.{status as status_of};
 
 use model::{Phase, Status};
 
 // 01, "Numbers returned": whether the process is out, works, is spent, or crashed or decided; 02, wish 6: or answered.
 pub fn status(phase: Phase) -> Status
-    ensures { result ≡ statusOf phase }
+    ensures { result ≡ status_of phase }
 {
     match phase {
         Phase::Idle => Status::Outside,

@@ -1,27 +1,27 @@
 // The operations on a poll that are those of a session, with a poll's soundness for 3 (02, wish 6: "Numbers 1, 3 to 8 and 16 in the
 // sessions' order").
 ghost use Rattle.std.specs.Prelude.{◌≡◌};
-ghost use Rattle.model_poll.specs.Public.{pollPropose, pollCrash, pollRecord};
+ghost use Rattle.model_poll.specs.Public.{poll_propose, poll_crash, poll_record};
 
 use model::{Changed, ProcessAnswer, Session};
 
 // A proposal to a poll.
 pub fn propose(s: Session, p: usize, v: u32) -> Changed
-    ensures { result ≡ pollPropose s p v }
+    ensures { result ≡ poll_propose s p v }
 {
     session_propose::propose_as(true, s, p, v)
 }
 
 // A crash in a poll.
 pub fn crash(s: Session, p: usize) -> Changed
-    ensures { result ≡ pollCrash s p }
+    ensures { result ≡ poll_crash s p }
 {
     session_crash::crash_as(true, s, p)
 }
 
 // 02, wish 6: "Seats are read out as in sessions". An answered process' record shows its answer: its phase and its estimate.
 pub fn process_record(s: Session, p: usize) -> ProcessAnswer
-    ensures { result ≡ pollRecord s p }
+    ensures { result ≡ poll_record s p }
 {
     session_read_process::process_record_as(true, s, p)
 }

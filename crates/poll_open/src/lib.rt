@@ -1,13 +1,13 @@
 // Opening a poll (02, wish 6).
 ghost use Rattle.std.specs.Prelude.{◌≡◌};
-ghost use Rattle.model_poll.specs.Machine.{pollOpening};
+ghost use Rattle.model_poll.specs.Machine.{poll_opening};
 
 use model::{Caller, Changed};
 
 // 02, wish 6: "A poll has L = W." A session with that limit; 1 alone refuses it. More processes than the caller's limit (02, wish 9) are
 // refused whatever the round limit.
 pub fn open(caller: Caller, n: usize) -> Changed
-    ensures { result ≡ pollOpening caller n }
+    ensures { result ≡ poll_opening caller n }
 {
     let most = session_opened::limits_of(caller);
     let processes = most.processes as usize;

@@ -1,7 +1,7 @@
 // A turn of a poll (02, wish 6), with the counts by value. It makes its tests in their order, and changes the poll if none of them refuses.
 // (`poll_turn_lent` has it with the counts lent.)
 ghost use Rattle.std.specs.Prelude.{◌≡◌};
-ghost use Rattle.model_poll.specs.Public.{pollTurn};
+ghost use Rattle.model_poll.specs.Public.{poll_turn};
 
 use model::{Counts, Session};
 use model_poll::{Answer, PollStepped};
@@ -10,7 +10,7 @@ use part_registers::{mark, value};
 // 02, wish 6: "Each worker walks the same steps, ending with round W": one register operation, what the process becomes by the value read,
 // and the answer that it then has. i is p wherever the call is accepted: where it is not, the tests refuse.
 pub fn turn(s: Session, p: usize, c: Counts) -> PollStepped
-    ensures { result ≡ pollTurn s p c }
+    ensures { result ≡ poll_turn s p c }
 {
     let n = s.n;
     let limit = s.limit;

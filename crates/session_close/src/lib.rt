@@ -1,13 +1,13 @@
 // Closing (02, wish 10). It sets the closed mark of a sound session, and changes nothing else.
 ghost use Rattle.std.specs.Prelude.{◌≡◌};
-ghost use Rattle.model.specs.Public.{close as closeOf};
+ghost use Rattle.model.specs.Public.{close as close_of};
 
 use model::numbers::UNSOUND;
 use model::{Changed, Session};
 
 // 02, wish 10: "A close sets it, also where it is set already"; "Close: 3."
 pub fn close(s: Session) -> Changed
-    ensures { result ≡ closeOf s }
+    ensures { result ≡ close_of s }
 {
     let mut after = s;
     if !session_sound::sound(after) {

@@ -1,13 +1,13 @@
 // Crashing. It makes its tests in their order, and changes the session where it stands if none of them refuses.
 ghost use Rattle.std.specs.Prelude.{◌≡◌};
-ghost use Rattle.model.specs.Public.{crashAs, crash as crashOf};
+ghost use Rattle.model.specs.Public.{crash_as as crash_as_of, crash as crash_of};
 
 use model::{Changed, Session};
 
 // 01, "One turn at a time", crash, in a session or (02, wish 6) in a poll, where 3 is by a poll's soundness. i is p wherever the call is
 // accepted: where it is not, the tests refuse.
 pub fn crash_as(poll: bool, s: Session, p: usize) -> Changed
-    ensures { result ≡ crashAs poll s p }
+    ensures { result ≡ crash_as_of poll s p }
 {
     let i = p % 64;
     let q = s.processes[i];
@@ -30,7 +30,7 @@ pub fn crash_as(poll: bool, s: Session, p: usize) -> Changed
 
 // In a session.
 pub fn crash(s: Session, p: usize) -> Changed
-    ensures { result ≡ crashOf s p }
+    ensures { result ≡ crash_of s p }
 {
     crash_as(false, s, p)
 }

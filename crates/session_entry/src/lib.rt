@@ -1,7 +1,7 @@
 // Any entry of a sheet, by its kind, process and value, on a session, given any session at all, with the counts by value.
 ghost use Rattle.std.specs.Prelude.{◌≡◌};
 ghost use Rattle.model.specs.Public.{commanded};
-ghost use Rattle.model.specs.Runner.{entryAnswer};
+ghost use Rattle.model.specs.Runner.{entry_answer};
 ghost use Rattle.model.specs.Sheet.{entry_of};
 
 use model::numbers::BAD_ENTRY;
@@ -21,7 +21,7 @@ fn uncounted(a: Changed, c: Counts) -> Stepped
 
 // 01, "Numbers returned": "each entry 13 first, then its operation's own order".
 pub fn apply(s: Session, c: Counts, kind: u8, p: u8, value: u32) -> Stepped
-    ensures { result ≡ entryAnswer commanded s c (entry_of kind p value) }
+    ensures { result ≡ entry_answer commanded s c (entry_of kind p value) }
 {
     let e = part_entry::entry_of(kind, p, value);
     match e {

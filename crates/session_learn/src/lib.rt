@@ -1,13 +1,13 @@
 // A look, with the counts by value. (`session_step_lent` has it with the counts lent.)
 ghost use Rattle.std.specs.Prelude.{◌≡◌};
-ghost use Rattle.model.specs.Public.{learn as learnOf};
+ghost use Rattle.model.specs.Public.{learn as learn_of};
 
 use model::{Access, Counts, Session, Stepped};
 
 // 01, "One turn at a time": a look reads D; where it is filled, the process is decided and takes its number.
 // i is p wherever the call is accepted: where it is not, the tests refuse.
 pub fn learn(s: Session, p: usize, c: Counts) -> Stepped
-    ensures { result ≡ learnOf s p c }
+    ensures { result ≡ learn_of s p c }
 {
     let i = p % 64;
     let q = s.processes[i];

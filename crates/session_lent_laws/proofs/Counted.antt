@@ -8,7 +8,7 @@ use Rattle.model.specs.declared.Counts.{Counts}
 use Rattle.model.specs.declared.Stepped.{Stepped}
 use Rattle.model.specs.declared.Changed.{Changed}
 use Rattle.model.specs.Public
-use Rattle.model.specs.Public.{withoutCounts}
+use Rattle.model.specs.Public.{without_counts}
 use Rattle.model.specs.contracts.Counts as Ct
 use Rattle.model.proofs.Counts.TheLaws as Ct'
 use Rattle.model.specs.contracts.Changed as Ch
@@ -16,7 +16,7 @@ use Rattle.model.specs.contracts.Session as Se
 use Rattle.model.proofs.Session.TheLaws as Se'
 use Rattle.model.specs.contracts.Stepped as St
 use Rattle.session_lent_laws.proofs.Lent.{reference}
-use Rattle.session_lent_laws.proofs.Thin.{Lending, lent_two, lent-three}
+use Rattle.session_lent_laws.proofs.Thin.{Lending, lent_two, lent_three}
 
 abbrev pub sessions : Lending
 sessions = record {
@@ -37,16 +37,16 @@ sessions = record {
   R-code = λ x. x.code;
   R-subject = λ x. x.session;
   R-one = (Ch.the_type).to_one;
-  rest = withoutCounts;
+  rest = without_counts;
   same_code = λ x. refl;
-  same-subject = λ x. refl;
+  same_subject = λ x. refl;
 }
 
-abbrev pub steps-lent : Promise 1
-steps-lent = lent-three sessions Public.step
+abbrev pub steps_lent : Promise 1
+steps_lent = lent_three sessions Public.step
 
-abbrev pub learns-lent : Promise 1
-learns-lent = lent_two sessions Public.learn
+abbrev pub learns_lent : Promise 1
+learns_lent = lent_two sessions Public.learn
 
 module _ {n : ℕ} where
   abbrev pub session : Row n
@@ -59,17 +59,17 @@ abbrev pub lent : Row 1
 lent = reference Ct.the_type Ct'.the_laws
 
 -- an operation on a process that takes the counts: its answer; and one that is lent them: its answer, and the counts that it leaves
-abbrev pub takes-counts : (gives : Row 0) → ((κs : Lfts 0) → Session → ℕ → Counts → (gives.row κs).Denot) → Promise 0
-takes-counts gives answer = record {
+abbrev pub takes_counts : (gives : Row 0) → ((κs : Lfts 0) → Session → ℕ → Counts → (gives.row κs).Denot) → Promise 0
+takes_counts gives answer = record {
   takes = session ∷ uint w64 ∷ counts ∷ [];
   gives = gives;
   answer = λ κs a. answer κs a.0 a.1.0 a.1.1.0;
   ends = λ κs a. (tt, (tt, (tt, tt)));
 }
 
-abbrev pub lent-counts : (gives : Row 1) → ((κs : Lfts 1) → Session → ℕ → Counts → (gives.row κs).Denot) →
+abbrev pub lent_counts : (gives : Row 1) → ((κs : Lfts 1) → Session → ℕ → Counts → (gives.row κs).Denot) →
     (Session → ℕ → Counts → Counts) → Promise 1
-lent-counts gives answer leaves = record {
+lent_counts gives answer leaves = record {
   takes = session ∷ uint w64 ∷ lent ∷ [];
   gives = gives;
   answer = λ κs a. answer κs a.0 a.1.0 a.1.1.0.now;

@@ -42,18 +42,18 @@ module _ (S : Declared) (laws : LL.Laws S) where
   vals = LL.vals S laws
 
   -- field k's type and place
-  abbrev field-at : ℕ → Ty × ℕ
-  field-at k = get_or (field_at zero (to_tys (mirs (fields S))) k) (ty_bool, zero)
+  abbrev field_at : ℕ → Ty × ℕ
+  field_at k = get_or (field_at zero (to_tys (mirs (fields S))) k) (ty_bool, zero)
 
   -- of the struct x in local i, whose cell stands at n
   pub reads : {M : Type 1} {𝓤 : Ura M} {𝓛 : Logic 𝓤} {K : Type 0} {Γ : List (Item 𝓤)} {E : Env 𝓤 𝓛.H} → K →
       (x : S.D) (i n k : ℕ) {b : ℕ} → spot_of 𝓤 𝓛.H E i ≡ (layout (shape S), b, zero)
       → nth 𝓛 n Γ ≡ ‵ (fat full_share (layout (shape S)) b zero (LL.val S laws x)) →
-      field_at zero (to_tys (mirs (fields S))) k ≡ some (field-at k)
+      field_at zero (to_tys (mirs (fields S))) k ≡ some (field_at k)
       → Opd K 𝓛 Γ E (copy (place i (field k ∷ []))) (get_v (of_list
       (flat (fields S) (valss (fields S) (LL.spells S.parts laws) (S.to x)))) k)
   reads {𝓤 = 𝓤} {𝓛} {K = K} {Γ} {E} t x i n k {b} spot is placed =
-      load t (from t (subst (λ (z : Spot 𝓤 𝓛.H). Steps K 𝓛 Γ E z (field k ∷ []) ((field-at k).0, b, zero + (field-at k).1)) (sym spot)
+      load t (from t (subst (λ (z : Spot 𝓤 𝓛.H). Steps K 𝓛 Γ E z (field k ∷ []) ((field_at k).0, b, zero + (field_at k).1)) (sym spot)
       (fld t placed (stop t))))
       (look_in t n (sub t k placed (subst (λ (j : Item 𝓤). Part K 𝓛 j full_share (layout (shape S)) b zero (LL.val S laws x)
       (λ u. ‵ (fat full_share (layout (shape S)) b zero u))) (sym is) (whole t))))

@@ -21,7 +21,7 @@ use denote.Exit.{Exit}
 use denote.Struct.Declared.{field}
 use denote.Struct.Field.{rows, u32-field}
 use denote.Struct.Laws as LL
-use Rattle.base_walk.proofs.Promise.{Args, own-all, token, on-entry, Row, uint, truth, struct, Promise}
+use Rattle.base_walk.proofs.Promise.{Args, own_all, token, on_entry_of, Row, uint, truth, struct, Promise}
 use Rattle.base_walk.proofs.Walk.{Walk, gone, asks}
 use Rattle.model.specs.declared.Counts.{Counts}
 use Rattle.model.specs.contracts.Counts as Ct
@@ -56,7 +56,7 @@ pub record Lending : Type 2 where
       ◌≡◌ {A = Denots (rows (u32-field ∷ field S ∷ []))} (R-code x, (S.to (R-subject x), tt)) (R-code y, (S.to (R-subject y), tt)) → x ≡ y
   pub rest : T-D → R-D
   pub same_code : (x : T-D) → R-code (rest x) ≡ code x
-  pub same-subject : (x : T-D) → R-subject (rest x) ≡ subject x
+  pub same_subject : (x : T-D) → R-subject (rest x) ≡ subject x
 
 module _ (L : Lending) where
   abbrev pub stepped : Declared
@@ -69,8 +69,8 @@ module _ (L : Lending) where
     to_one = L.T-one;
   }
 
-  abbrev pub stepped-laws : LL.Laws stepped
-  stepped-laws = (LL.u32-laws, (LL.field_laws L.S L.laws L.low, (Ct'.the_field_laws, tt)))
+  abbrev pub stepped_laws : LL.Laws stepped
+  stepped_laws = (LL.u32-laws, (LL.field_laws L.S L.laws L.low, (Ct'.the_field_laws, tt)))
 
   abbrev pub changed : Declared
   changed = record {
@@ -82,105 +82,105 @@ module _ (L : Lending) where
     to_one = L.R-one;
   }
 
-  abbrev pub changed-laws : LL.Laws changed
-  changed-laws = (LL.u32-laws, (LL.field_laws L.S L.laws L.low, tt))
+  abbrev pub changed_laws : LL.Laws changed
+  changed_laws = (LL.u32-laws, (LL.field_laws L.S L.laws L.low, tt))
 
   -- The code. A local for the result, for each parameter, for the answer, and for the counts that the callee is given.
-  abbrev counts-ty : Ty
-  counts-ty = layout (shape Ct.the_type)
+  abbrev counts_ty : Ty
+  counts_ty = layout (shape Ct.the_type)
 
-  abbrev lent-ty : Ty
-  lent-ty = ty_ref (named 0) mut (ty_named ((Ct.the_type).name, []))
+  abbrev lent_ty : Ty
+  lent_ty = ty_ref (named 0) mut (ty_named ((Ct.the_type).name, []))
 
-  abbrev two-code : Name → Fn
-  two-code callee = record {
+  abbrev two_code : Name → Fn
+  two_code callee = record {
     lifetimes = 1;
     outlives = [];
     params = 3;
     locals = map (λ τ. local τ value_local)
-        (layout (shape changed) ∷ layout (shape L.S) ∷ ty_int w64 ∷ lent-ty ∷ layout (shape stepped) ∷ counts-ty ∷ []);
-    body = seq (assign (place 5 []) (rv_opd (copy (place 3 (deref counts-ty ∷ [])))))
+        (layout (shape changed) ∷ layout (shape L.S) ∷ ty_int w64 ∷ lent_ty ∷ layout (shape stepped) ∷ counts_ty ∷ []);
+    body = seq (assign (place 5 []) (rv_opd (copy (place 3 (deref counts_ty ∷ [])))))
         (seq (call callee (copy (place 1 []) ∷ copy (place 2 []) ∷ copy (place 5 []) ∷ []) (place 4 []))
-        (seq (assign (place 3 (deref counts-ty ∷ [])) (rv_opd (copy (place 4 (part 2 ∷ [])))))
+        (seq (assign (place 3 (deref counts_ty ∷ [])) (rv_opd (copy (place 4 (part 2 ∷ [])))))
         (seq (assign (place 0 []) (aggregate (copy (place 4 (part 0 ∷ [])) ∷ copy (place 4 (part 1 ∷ [])) ∷ []))) return)));
   }
 
-  abbrev three-code : Name → Fn
-  three-code callee = record {
+  abbrev three_code : Name → Fn
+  three_code callee = record {
     lifetimes = 1;
     outlives = [];
     params = 4;
     locals = map (λ τ. local τ value_local)
-        (layout (shape changed) ∷ layout (shape L.S) ∷ ty_int w64 ∷ ty_bool ∷ lent-ty ∷ layout (shape stepped) ∷ counts-ty ∷ []);
-    body = seq (assign (place 6 []) (rv_opd (copy (place 4 (deref counts-ty ∷ [])))))
+        (layout (shape changed) ∷ layout (shape L.S) ∷ ty_int w64 ∷ ty_bool ∷ lent_ty ∷ layout (shape stepped) ∷ counts_ty ∷ []);
+    body = seq (assign (place 6 []) (rv_opd (copy (place 4 (deref counts_ty ∷ [])))))
         (seq (call callee (copy (place 1 []) ∷ copy (place 2 []) ∷ copy (place 3 []) ∷ copy (place 6 []) ∷ []) (place 5 []))
-        (seq (assign (place 4 (deref counts-ty ∷ [])) (rv_opd (copy (place 5 (part 2 ∷ [])))))
+        (seq (assign (place 4 (deref counts_ty ∷ [])) (rv_opd (copy (place 5 (part 2 ∷ [])))))
         (seq (assign (place 0 []) (aggregate (copy (place 5 (part 0 ∷ [])) ∷ copy (place 5 (part 1 ∷ [])) ∷ []))) return)));
   }
 
-  abbrev changed-plain : Plains (fields changed)
-  changed-plain = (LL.u32-plain, (LL.field_plain L.S L.plain, tt))
+  abbrev changed_plain : Plains (fields changed)
+  changed_plain = (LL.u32-plain, (LL.field_plain L.S L.plain, tt))
 
   -- What each takes and gives.
   module _ {n : ℕ} where
-    abbrev pub subject-row : Row n
-    subject-row = struct (λ κs. L.S) (λ κs. L.laws) (λ κs. silent L.S L.copies)
+    abbrev pub subject_row : Row n
+    subject_row = struct (λ κs. L.S) (λ κs. L.laws) (λ κs. silent L.S L.copies)
 
-    abbrev pub counts-row : Row n
-    counts-row = struct (λ κs. Ct.the_type) (λ κs. Ct'.the_laws) (λ κs x w. refl)
+    abbrev pub counts_row : Row n
+    counts_row = struct (λ κs. Ct.the_type) (λ κs. Ct'.the_laws) (λ κs x w. refl)
 
-    abbrev pub stepped-row : Row n
-    stepped-row = struct (λ κs. stepped) (λ κs. stepped-laws)
+    abbrev pub stepped_row : Row n
+    stepped_row = struct (λ κs. stepped) (λ κs. stepped_laws)
         (λ κs. silent stepped (LL.u32-copy, (LL.field_copy L.S L.copies, (Ct'.the_field_copy, tt))))
 
     abbrev pub changed_row : Row n
-    changed_row = struct (λ κs. changed) (λ κs. changed-laws) (λ κs. silent changed (LL.u32-copy, (LL.field_copy L.S L.copies, tt)))
+    changed_row = struct (λ κs. changed) (λ κs. changed_laws) (λ κs. silent changed (LL.u32-copy, (LL.field_copy L.S L.copies, tt)))
 
   abbrev pub takes_two : (L.S.D → ℕ → Counts → L.T-D) → Promise 0
   takes_two answer = record {
-    takes = subject-row ∷ uint w64 ∷ counts-row ∷ [];
-    gives = stepped-row;
+    takes = subject_row ∷ uint w64 ∷ counts_row ∷ [];
+    gives = stepped_row;
     answer = λ κs a. answer a.0 a.1.0 a.1.1.0;
     ends = λ κs a. (L.last a.0, (tt, (tt, tt)));
   }
 
   abbrev pub lent_two : (L.S.D → ℕ → Counts → L.T-D) → Promise 1
   lent_two answer = record {
-    takes = subject-row ∷ uint w64 ∷ reference Ct.the_type Ct'.the_laws ∷ [];
+    takes = subject_row ∷ uint w64 ∷ reference Ct.the_type Ct'.the_laws ∷ [];
     gives = changed_row;
     answer = λ κs a. L.rest (answer a.0 a.1.0 a.1.1.0.now);
     ends = λ κs a. (L.last a.0, (tt, (L.counts (answer a.0 a.1.0 a.1.1.0.now), tt)));
   }
 
-  abbrev pub takes-three : (L.S.D → ℕ → Bool → Counts → L.T-D) → Promise 0
-  takes-three answer = record {
-    takes = subject-row ∷ uint w64 ∷ truth ∷ counts-row ∷ [];
-    gives = stepped-row;
+  abbrev pub takes_three : (L.S.D → ℕ → Bool → Counts → L.T-D) → Promise 0
+  takes_three answer = record {
+    takes = subject_row ∷ uint w64 ∷ truth ∷ counts_row ∷ [];
+    gives = stepped_row;
     answer = λ κs a. answer a.0 a.1.0 a.1.1.0 a.1.1.1.0;
     ends = λ κs a. (L.last a.0, (tt, (tt, (tt, tt))));
   }
 
-  abbrev pub lent-three : (L.S.D → ℕ → Bool → Counts → L.T-D) → Promise 1
-  lent-three answer = record {
-    takes = subject-row ∷ uint w64 ∷ truth ∷ reference Ct.the_type Ct'.the_laws ∷ [];
+  abbrev pub lent_three : (L.S.D → ℕ → Bool → Counts → L.T-D) → Promise 1
+  lent_three answer = record {
+    takes = subject_row ∷ uint w64 ∷ truth ∷ reference Ct.the_type Ct'.the_laws ∷ [];
     gives = changed_row;
     answer = λ κs a. L.rest (answer a.0 a.1.0 a.1.1.0 a.1.1.1.0.now);
     ends = λ κs a. (L.last a.0, (tt, (tt, (L.counts (answer a.0 a.1.0 a.1.1.0 a.1.1.1.0.now), tt))));
   }
 
   -- What is known of an answer is known of its counts, and of the rest of it.
-  pub counts_of : (x : L.T-D) → Is (row stepped) x (LL.vals stepped stepped-laws x) →
+  pub counts_of : (x : L.T-D) → Is (row stepped) x (LL.vals stepped stepped_laws x) →
       Is Ct.the_row (L.counts x) (LL.vals Ct.the_type Ct'.the_laws (L.counts x))
-  counts_of x is = (LL.owed stepped stepped-laws x _ is).1.1.0
+  counts_of x is = (LL.owed stepped stepped_laws x _ is).1.1.0
 
-  pub rest_of : (x : L.T-D) → Is (row stepped) x (LL.vals stepped stepped-laws x) →
-      Is (row changed) (L.rest x) (LL.vals changed changed-laws (L.rest x))
+  pub rest_of : (x : L.T-D) → Is (row stepped) x (LL.vals stepped stepped_laws x) →
+      Is (row changed) (L.rest x) (LL.vals changed changed_laws (L.rest x))
   rest_of x is =
-      let known = LL.owed stepped stepped-laws x _ is in
-      LL.owes changed changed-laws (L.rest x) (
+      let known = LL.owed stepped stepped_laws x _ is in
+      LL.owes changed changed_laws (L.rest x) (
         subst (λ (c : ℕ). Is u32-field.row c (vint w32 c ∷ [])) (sym (L.same_code x)) known.0,
         (
-          subst (λ (d : L.S.D). Is (field L.S).row (L.S.to d) (LL.vals L.S L.laws d)) (sym (L.same-subject x)) known.1.0,
+          subst (λ (d : L.S.D). Is (field L.S).row (L.S.to d) (LL.vals L.S L.laws d)) (sym (L.same_subject x)) known.1.0,
           tt,
         ),
       )
@@ -189,73 +189,73 @@ module _ (L : Lending) where
   abbrev given : L.T-D → Val
   given x = vstruct (of_list (vint w32 (L.code x) ∷ LL.val L.S L.laws (L.subject x) ∷ []))
 
-  given_is : (x : L.T-D) → LL.val changed changed-laws (L.rest x) ≡ given x
-  given_is x = ap₂ (λ c d. vstruct (of_list (vint w32 c ∷ LL.val L.S L.laws d ∷ []))) (L.same_code x) (L.same-subject x)
+  given_is : (x : L.T-D) → LL.val changed changed_laws (L.rest x) ≡ given x
+  given_is x = ap₂ (λ c d. vstruct (of_list (vint w32 c ∷ LL.val L.S L.laws d ∷ []))) (L.same_code x) (L.same_subject x)
 
   module _ {M : Type 1} (𝓤 : Ura M) where
-    given-for : (x : L.T-D) (Q : Val → SProp 𝓤) {P : SProp 𝓤} →
-        ent 𝓤 P (Q (LL.val changed changed-laws (L.rest x))) → ent 𝓤 P (Q (given x))
-    given-for x Q {P} = subst (λ (v : Val). ent 𝓤 P (Q v)) (given_is x)
+    given_for : (x : L.T-D) (Q : Val → SProp 𝓤) {P : SProp 𝓤} →
+        ent 𝓤 P (Q (LL.val changed changed_laws (L.rest x))) → ent 𝓤 P (Q (given x))
+    given_for x Q {P} = subst (λ (v : Val). ent 𝓤 P (Q v)) (given_is x)
 
-    given-typed : (𝓛 : Logic 𝓤) → (x : L.T-D) → Is (row stepped) x (LL.vals stepped stepped-laws x) →
+    given_typed : (𝓛 : Logic 𝓤) → (x : L.T-D) → Is (row stepped) x (LL.vals stepped stepped_laws x) →
         Typed (row changed).mir (given x ∷ [])
-    given-typed 𝓛 x is =
+    given_typed 𝓛 x is =
         subst (λ (v : Val). Typed (row changed).mir (v ∷ [])) (given_is x)
-        ((LL.lawful changed changed-laws 𝓛).typed (L.rest x) _ (rest_of x is))
+        ((LL.lawful changed changed_laws 𝓛).typed (L.rest x) _ (rest_of x is))
 
-  pub walk-two : (answer : L.S.D → ℕ → Counts → L.T-D) (name : Name) {M : Type 1} {𝓤 : Ura M} (𝓛 : Logic 𝓤)
-      → Walk 𝓛 (two-code name) (lent_two answer) name (takes_two answer)
-  walk-two answer name {𝓤 = 𝓤} 𝓛 C Λ callee κs qs a ty Q out =
+  pub walk_two : (answer : L.S.D → ℕ → Counts → L.T-D) (name : Name) {M : Type 1} {𝓤 : Ura M} (𝓛 : Logic 𝓤)
+      → Walk 𝓛 (two_code name) (lent_two answer) name (takes_two answer)
+  walk_two answer name {𝓤 = 𝓤} 𝓛 C Λ callee κs qs a ty Q out =
       let e : Args (takes_two answer) tt = (a.0, (a.1.0, (a.1.1.0.now, tt))) in
       let x = (takes_two answer).answer tt e in
       alloc1 ! (λ l₀. alloc1 ! (λ l₁. alloc1 ! (λ l₂. alloc1 ! (λ l₃. alloc1 ! (λ l₄. alloc1 ! (λ l₅. alloc0 ! $ params1 ! $
       pass1 ! (init ! 8 refl ty.0) $ pass1 ! (init ! 6 refl ty.1.0) $ pass1 ! (init ! 4 refl (tt, tt)) $ pass0 ! $ move ! (12 ∷ []) $
-      use1 𝓛 ((‵ (flft κs.0 qs.0) ⊛ ‵ ftrue) ⊛ ‵ (own-all (lent_two answer) κs a)) (id⊢ 𝓤 _) $ split ! $ split ! $ move !
+      use1 𝓛 ((‵ (flft κs.0 qs.0) ⊛ ‵ ftrue) ⊛ ‵ (own_all (lent_two answer) κs a)) (id⊢ 𝓤 _) $ split ! $ split ! $ move !
       (2 ∷ []) $ fsplit ! $ move ! (1 ∷ []) $ fsplit ! $ move ! (1 ∷ []) $ fsplit ! $ move ! (0 ∷ 4 ∷ []) $
       opened Ct.the_type Ct'.the_laws ! tt κs a.1.1.0 (λ is.
       -- [what the counts own; the counts; the open borrow; obs; auth; …; what p and s own; …; room for _5; …; room for _4; …; _3; …; _2; …;
       -- _1; …; room for _0; …]
       assigns ! (of_opd ! (load ! (from ! (hop ! (look ! 13 refl) (stop !))) (look_raw ! 1 refl))) (from ! (stop !))
-      (init ! 9 refl (((counts-row {n = 1}).lawful 𝓛 κs).typed _ _ is).0) $
+      (init ! 9 refl (((counts_row {n = 1}).lawful 𝓛 κs).typed _ _ is).0) $
       move ! (0 ∷ 5 ∷ []) $ fjoin ! $ move ! (5 ∷ 0 ∷ []) $ fjoin ! $ move ! (5 ∷ 0 ∷ []) $ fjoin ! $ move ! (5 ∷ 0 ∷ []) $ use2 𝓛
-      (raw (on-entry (takes_two answer) 𝓛 tt tt e)) (id⊢ 𝓤 _) $
+      (raw (on_entry_of (takes_two answer) 𝓛 tt tt e)) (id⊢ 𝓤 _) $
       -- [what the callee is handed; the counts; the open borrow; obs; auth; _5; …; room for _4; …; _3; …; _2; …; _1; …; room for _0; …]
       asks ! callee tt tt e (and_then ! (load ! (from ! (stop !)) (look ! 13 refl))
       (and_then ! (load ! (from ! (stop !)) (look ! 11 refl)) (and_then ! (load ! (from ! (stop !)) (look ! 5 refl)) (no_more !))))
       (λ ws x-is wt.
       -- [the answer's own; …; …; the counts; the open borrow; obs; auth; _5; …; room for _4; …; _3; …; _2; …; _1; …; room for _0; …]
       land ! (from ! (stop !)) (init ! 9 refl wt.0) $
-      assigns ! (of_opd ! (reads stepped stepped-laws ! x 4 9 2 refl refl refl)) (from ! (hop ! (look ! 11 refl) (stop !)))
-      (store_raw ! 3 refl (((counts-row {n = 1}).lawful 𝓛 κs).typed (L.counts x) _ (counts_of x x-is)).0) $
-      assigns ! (agg ! (and_then ! (reads stepped stepped-laws ! x 4 9 0 refl refl refl)
-      (and_then ! (reads stepped stepped-laws ! x 4 9 1 refl refl refl) (no_more !)))) (from ! (stop !))
-      (init ! 17 refl (given-typed 𝓤 𝓛 x x-is).0) $
+      assigns ! (of_opd ! (reads stepped stepped_laws ! x 4 9 2 refl refl refl)) (from ! (hop ! (look ! 11 refl) (stop !)))
+      (store_raw ! 3 refl (((counts_row {n = 1}).lawful 𝓛 κs).typed (L.counts x) _ (counts_of x x-is)).0) $
+      assigns ! (agg ! (and_then ! (reads stepped stepped_laws ! x 4 9 0 refl refl refl)
+      (and_then ! (reads stepped stepped_laws ! x 4 9 1 refl refl refl) (no_more !)))) (from ! (stop !))
+      (init ! 17 refl (given_typed 𝓤 𝓛 x x-is).0) $
       move ! (3 ∷ 4 ∷ 5 ∷ 6 ∷ []) $ closed Ct.the_type Ct'.the_laws ! tt κs a.1.1.0 (L.counts x) Ct'.the_plain (counts_of x x-is) $
       -- [the reference; the token; …; …; …; _5; …; _4; …; _3; …; _2; …; _1; …; _0; …]
       returns ! (look ! 15 refl) $ gone ! 15 refl refl $ gone ! 13 refl refl $ gone ! 11 refl refl $ gone ! 9 refl refl $
       gone ! 7 refl refl $ gone ! 5 refl refl $ free0 ! $
-      owned ! (row changed) (Is (row changed)) (LL.makes changed changed-plain 𝓛) (L.rest x) _ (rest_of x x-is) $
+      owned ! (row changed) (Is (row changed)) (LL.makes changed changed_plain 𝓛) (L.rest x) _ (rest_of x x-is) $
       nothing ! $ move ! (2 ∷ 0 ∷ []) $ fjoin ! $ nothing ! $ fjoin ! $ nothing ! $ fjoin ! $ nothing ! $ move ! (3 ∷ 0 ∷ []) $ use2 𝓛
       (raw (token (lent_two answer) 𝓛 κs qs)) (id⊢ 𝓤 _) $ keep ! (1 ∷ 2 ∷ 0 ∷ []) $
-      by ! (given-for 𝓤 x Q (out _ refl))))))))))
+      by ! (given_for 𝓤 x Q (out _ refl))))))))))
 
-  pub walk-three : (answer : L.S.D → ℕ → Bool → Counts → L.T-D) (name : Name) {M : Type 1} {𝓤 : Ura M} (𝓛 : Logic 𝓤)
-      → Walk 𝓛 (three-code name) (lent-three answer) name (takes-three answer)
-  walk-three answer name {𝓤 = 𝓤} 𝓛 C Λ callee κs qs a ty Q out =
-      let e : Args (takes-three answer) tt = (a.0, (a.1.0, (a.1.1.0, (a.1.1.1.0.now, tt)))) in
-      let x = (takes-three answer).answer tt e in
+  pub walk_three : (answer : L.S.D → ℕ → Bool → Counts → L.T-D) (name : Name) {M : Type 1} {𝓤 : Ura M} (𝓛 : Logic 𝓤)
+      → Walk 𝓛 (three_code name) (lent_three answer) name (takes_three answer)
+  walk_three answer name {𝓤 = 𝓤} 𝓛 C Λ callee κs qs a ty Q out =
+      let e : Args (takes_three answer) tt = (a.0, (a.1.0, (a.1.1.0, (a.1.1.1.0.now, tt)))) in
+      let x = (takes_three answer).answer tt e in
       alloc1 ! (λ l₀. alloc1 ! (λ l₁. alloc1 ! (λ l₂. alloc1 ! (λ l₃. alloc1 ! (λ l₄. alloc1 ! (λ l₅. alloc1 ! (λ l₆. alloc0 ! $ params1 ! $
       pass1 ! (init ! 10 refl ty.0) $ pass1 ! (init ! 8 refl ty.1.0) $ pass1 ! (init ! 6 refl ty.1.1.0) $ pass1 !
       (init ! 4 refl (tt, tt)) $ pass0 ! $ move ! (14 ∷ []) $
-      use1 𝓛 ((‵ (flft κs.0 qs.0) ⊛ ‵ ftrue) ⊛ ‵ (own-all (lent-three answer) κs a)) (id⊢ 𝓤 _) $ split ! $ split ! $ move !
+      use1 𝓛 ((‵ (flft κs.0 qs.0) ⊛ ‵ ftrue) ⊛ ‵ (own_all (lent_three answer) κs a)) (id⊢ 𝓤 _) $ split ! $ split ! $ move !
       (2 ∷ []) $ fsplit ! $ move ! (1 ∷ []) $ fsplit ! $ move ! (1 ∷ []) $ fsplit ! $ move ! (1 ∷ []) $ fsplit ! $ move ! (0 ∷ 5 ∷ []) $
       opened Ct.the_type Ct'.the_laws ! tt κs a.1.1.1.0 (λ is.
       -- [what the counts own; the counts; the open borrow; obs; auth; …; what hint, p and s own; …; room for _6; …; room for _5; …; _4; …;
       -- _3; …; _2; …; _1; …; room for _0; …]
       assigns ! (of_opd ! (load ! (from ! (hop ! (look ! 14 refl) (stop !))) (look_raw ! 1 refl))) (from ! (stop !))
-      (init ! 10 refl (((counts-row {n = 1}).lawful 𝓛 κs).typed _ _ is).0) $
+      (init ! 10 refl (((counts_row {n = 1}).lawful 𝓛 κs).typed _ _ is).0) $
       move ! (0 ∷ 5 ∷ []) $ fjoin ! $ move ! (5 ∷ 0 ∷ []) $ fjoin ! $ move ! (5 ∷ 0 ∷ []) $ fjoin ! $ move ! (5 ∷ 0 ∷ []) $ fjoin ! $ move !
-      (5 ∷ 0 ∷ []) $ use2 𝓛 (raw (on-entry (takes-three answer) 𝓛 tt tt e)) (id⊢ 𝓤 _) $
+      (5 ∷ 0 ∷ []) $ use2 𝓛 (raw (on_entry_of (takes_three answer) 𝓛 tt tt e)) (id⊢ 𝓤 _) $
       -- [what the callee is handed; the counts; the open borrow; obs; auth; _6; …; room for _5; …; _4; …; _3; …; _2; …; _1; …; room for _0;
       -- …]
       asks ! callee tt tt e (and_then ! (load ! (from ! (stop !)) (look ! 15 refl))
@@ -264,16 +264,16 @@ module _ (L : Lending) where
       (λ ws x-is wt.
       -- [the answer's own; …; …; the counts; the open borrow; obs; auth; _6; …; room for _5; …; _4; …; _3; …; _2; …; _1; …; room for _0; …]
       land ! (from ! (stop !)) (init ! 9 refl wt.0) $
-      assigns ! (of_opd ! (reads stepped stepped-laws ! x 5 9 2 refl refl refl)) (from ! (hop ! (look ! 11 refl) (stop !)))
-      (store_raw ! 3 refl (((counts-row {n = 1}).lawful 𝓛 κs).typed (L.counts x) _ (counts_of x x-is)).0) $
-      assigns ! (agg ! (and_then ! (reads stepped stepped-laws ! x 5 9 0 refl refl refl)
-      (and_then ! (reads stepped stepped-laws ! x 5 9 1 refl refl refl) (no_more !)))) (from ! (stop !))
-      (init ! 19 refl (given-typed 𝓤 𝓛 x x-is).0) $
+      assigns ! (of_opd ! (reads stepped stepped_laws ! x 5 9 2 refl refl refl)) (from ! (hop ! (look ! 11 refl) (stop !)))
+      (store_raw ! 3 refl (((counts_row {n = 1}).lawful 𝓛 κs).typed (L.counts x) _ (counts_of x x-is)).0) $
+      assigns ! (agg ! (and_then ! (reads stepped stepped_laws ! x 5 9 0 refl refl refl)
+      (and_then ! (reads stepped stepped_laws ! x 5 9 1 refl refl refl) (no_more !)))) (from ! (stop !))
+      (init ! 19 refl (given_typed 𝓤 𝓛 x x-is).0) $
       move ! (3 ∷ 4 ∷ 5 ∷ 6 ∷ []) $ closed Ct.the_type Ct'.the_laws ! tt κs a.1.1.1.0 (L.counts x) Ct'.the_plain (counts_of x x-is) $
       -- [the reference; the token; …; …; …; _6; …; _5; …; _4; …; _3; …; _2; …; _1; …; _0; …]
       returns ! (look ! 17 refl) $ gone ! 17 refl refl $ gone ! 15 refl refl $ gone ! 13 refl refl $ gone ! 11 refl refl $
       gone ! 9 refl refl $ gone ! 7 refl refl $ gone ! 5 refl refl $ free0 ! $
-      owned ! (row changed) (Is (row changed)) (LL.makes changed changed-plain 𝓛) (L.rest x) _ (rest_of x x-is) $
+      owned ! (row changed) (Is (row changed)) (LL.makes changed changed_plain 𝓛) (L.rest x) _ (rest_of x x-is) $
       nothing ! $ move ! (2 ∷ 0 ∷ []) $ fjoin ! $ nothing ! $ fjoin ! $ nothing ! $ fjoin ! $ nothing ! $ fjoin ! $ nothing ! $ move !
-      (3 ∷ 0 ∷ []) $ use2 𝓛 (raw (token (lent-three answer) 𝓛 κs qs)) (id⊢ 𝓤 _) $ keep ! (1 ∷ 2 ∷ 0 ∷ []) $
-      by ! (given-for 𝓤 x Q (out _ refl)))))))))))
+      (3 ∷ 0 ∷ []) $ use2 𝓛 (raw (token (lent_three answer) 𝓛 κs qs)) (id⊢ 𝓤 _) $ keep ! (1 ∷ 2 ∷ 0 ∷ []) $
+      by ! (given_for 𝓤 x Q (out _ refl)))))))))))

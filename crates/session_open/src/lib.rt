@@ -1,7 +1,7 @@
 // Opening a session.
 ghost use Rattle.std.specs.Prelude.{◌≡◌};
-ghost use Rattle.model.specs.Board.{limitsOf};
-ghost use Rattle.model.specs.Refusal.{refusal, openTests};
+ghost use Rattle.model.specs.Board.{limits_of};
+ghost use Rattle.model.specs.Refusal.{refusal, open_tests};
 ghost use Rattle.model.specs.Machine.{opening};
 
 use model::numbers::{BAD_PROCESS_COUNT, BAD_ROUND_LIMIT};
@@ -10,7 +10,7 @@ use model::{Caller, Changed};
 // 01, "Numbers returned", opening: 1, 2, within the caller's limits (02, wish 9: "1 and 2 speak of the caller's limits"); 0 for no refusal,
 // here and below.
 pub fn open_refusal(caller: Caller, n: usize, limit: usize) -> u32
-    ensures { result ≡ refusal (openTests (limitsOf caller) n limit) }
+    ensures { result ≡ refusal (open_tests (limits_of caller) n limit) }
 {
     let most = session_opened::limits_of(caller);
     let processes = most.processes as usize;

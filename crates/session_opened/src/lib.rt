@@ -1,6 +1,6 @@
 // The session that an opening makes, and the limits that it is given.
 ghost use Rattle.std.specs.Prelude.{◌≡◌};
-ghost use Rattle.model.specs.Board.{opened as opened_of, limitsOf};
+ghost use Rattle.model.specs.Board.{opened as opened_of, limits_of as limits_for};
 
 use model::{Caller, Limits, Phase, Process, Session};
 
@@ -31,7 +31,7 @@ pub fn opened(n: usize, limit: usize) -> Session
 // seats and 64 rounds; the server stays at 64 and 256." The one place of the code where a caller's limits stand. (Soundness tests what a
 // session holds.)
 pub fn limits_of(caller: Caller) -> Limits
-    ensures { result ≡ limitsOf caller }
+    ensures { result ≡ limits_for caller }
 {
     match caller {
         Caller::Server => Limits {

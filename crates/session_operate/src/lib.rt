@@ -1,6 +1,6 @@
 // Any operation on a session, given any session at all, with the counts by value.
 ghost use Rattle.std.specs.Prelude.{◌≡◌};
-ghost use Rattle.model.specs.Public.{operate as operateOf};
+ghost use Rattle.model.specs.Public.{operate as operate_of};
 
 use model::{Changed, Counts, Operation, Session, Stepped};
 
@@ -18,7 +18,7 @@ fn uncounted(a: Changed, c: Counts) -> Stepped
 
 // 01, "Numbers returned": 3, 4, then the operation's own numbers.
 pub fn operate(s: Session, c: Counts, o: Operation) -> Stepped
-    ensures { result ≡ operateOf s c o }
+    ensures { result ≡ operate_of s c o }
 {
     match o {
         Operation::Propose(p, v) => uncounted(session_propose::propose(s, p, v), c),

@@ -1,13 +1,13 @@
 // Proposing. It makes its tests in their order, and changes the session where it stands if none of them refuses.
 ghost use Rattle.std.specs.Prelude.{◌≡◌};
-ghost use Rattle.model.specs.Public.{proposeAs, propose as proposeOf};
+ghost use Rattle.model.specs.Public.{propose_as as propose_as_of, propose as propose_of};
 
 use model::{Changed, Session};
 
 // 01, "One turn at a time", proposal, to a session or (02, wish 6) to a poll, where 3 is by a poll's soundness. i is p wherever the call is
 // accepted: where it is not, the tests refuse.
 pub fn propose_as(poll: bool, s: Session, p: usize, v: u32) -> Changed
-    ensures { result ≡ proposeAs poll s p v }
+    ensures { result ≡ propose_as_of poll s p v }
 {
     let i = p % 64;
     let q = s.processes[i];
@@ -26,7 +26,7 @@ pub fn propose_as(poll: bool, s: Session, p: usize, v: u32) -> Changed
 
 // To a session.
 pub fn propose(s: Session, p: usize, v: u32) -> Changed
-    ensures { result ≡ proposeOf s p v }
+    ensures { result ≡ propose_of s p v }
 {
     propose_as(false, s, p, v)
 }

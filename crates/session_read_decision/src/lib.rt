@@ -1,13 +1,13 @@
 // The read-out of D (document 01, "Standing values"), given any session at all. Refused, the answer holds blank data.
 ghost use Rattle.std.specs.Prelude.{◌≡◌};
-ghost use Rattle.model.specs.ReadOut.{decision as decisionOf};
+ghost use Rattle.model.specs.ReadOut.{decision as decision_of};
 
 use model::numbers::UNSOUND;
 use model::{DecisionAnswer, Session};
 
 // "Standing values": ".. or D". 3 alone.
 pub fn decision(s: Session) -> DecisionAnswer
-    ensures { result ≡ decisionOf s }
+    ensures { result ≡ decision_of s }
 {
     if session_sound::sound(s) {
         DecisionAnswer {

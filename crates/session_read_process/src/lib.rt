@@ -1,7 +1,7 @@
 // The read-out of a seat's record (document 01, "Standing values"), given any session at all. Refused, the answer holds blank data.
 ghost use Rattle.std.specs.Prelude.{◌≡◌};
 ghost use Rattle.model.specs.Board.{idle};
-ghost use Rattle.model.specs.ReadOut.{processRecordAs, processRecord};
+ghost use Rattle.model.specs.ReadOut.{process_record_as as process_record_as_of, process_record as process_record_of};
 
 use model::numbers::{NO_SUCH_PROCESS, UNSOUND};
 use model::{Phase, Process, ProcessAnswer, Session};
@@ -23,7 +23,7 @@ fn no_record(code: u32) -> ProcessAnswer
 // "Standing values": ".. a seat's record". 3, then 4 for a process n or above. 02, wish 6: "Seats are read out as in sessions", of polls,
 // where 3 is by a poll's soundness.
 pub fn process_record_as(poll: bool, s: Session, p: usize) -> ProcessAnswer
-    ensures { result ≡ processRecordAs poll s p }
+    ensures { result ≡ process_record_as_of poll s p }
 {
     let sound = session_sound::sound_as(poll, s);
     if !sound {
@@ -41,7 +41,7 @@ pub fn process_record_as(poll: bool, s: Session, p: usize) -> ProcessAnswer
 
 // Of a session.
 pub fn process_record(s: Session, p: usize) -> ProcessAnswer
-    ensures { result ≡ processRecord s p }
+    ensures { result ≡ process_record_of s p }
 {
     process_record_as(false, s, p)
 }

@@ -1,14 +1,14 @@
 // The read-out of a register of a session (document 01, "Standing values"), given any session at all. Refused, the answer holds blank
 // data.
 ghost use Rattle.std.specs.Prelude.{◌≡◌};
-ghost use Rattle.model.specs.ReadOut.{register as registerOf};
+ghost use Rattle.model.specs.ReadOut.{register as register_of};
 
 use model::numbers::{NO_SUCH_ROUND, UNSOUND};
 use model::{RegisterAnswer, Session};
 
 // "Standing values": "Other read-outs return T[r] and C[r]". 3, then 14 for a round not 1 to L.
 pub fn register(s: Session, round: usize) -> RegisterAnswer
-    ensures { result ≡ registerOf s round }
+    ensures { result ≡ register_of s round }
 {
     if !session_sound::sound(s) {
         return RegisterAnswer {

@@ -1,6 +1,6 @@
 // When a session is sound (document 01, "Numbers returned", last paragraph): the test that every public operation makes first.
 ghost use Rattle.std.specs.Prelude.{◌≡◌, not, ◌&&◌, length, drop, eqb};
-ghost use Rattle.model.specs.Sound.{every, soundAs, sound as soundOf};
+ghost use Rattle.model.specs.Sound.{every, sound_as as sound_as_of, sound as sound_of};
 
 use model::Session;
 use part_sound::record_sound;
@@ -23,7 +23,7 @@ fn blank_from<'a>(values: &'a [u32; 256], marks: &'a [bool; 256], from: usize) -
 // "A session is sound if: n is 1 to 64, L is W to 256", the registers and marks past L, and its records, in one pass. A poll, if its own
 // rules hold too: 02, wish 6, it "has L = W, a blank D"; wish 10, it "is open". 02, wish 9: "soundness, 3, stays with the server's" limits, whoever opened it.
 pub fn sound_as(poll: bool, s: Session) -> bool
-    ensures { result ≡ soundAs poll s }
+    ensures { result ≡ sound_as_of poll s }
 {
     let n = s.n;
     let limit = s.limit;
@@ -49,7 +49,7 @@ pub fn sound_as(poll: bool, s: Session) -> bool
 
 // Of a session.
 pub fn sound(s: Session) -> bool
-    ensures { result ≡ soundOf s }
+    ensures { result ≡ sound_of s }
 {
     sound_as(false, s)
 }

@@ -1,7 +1,7 @@
 // The standing values of a session, put to a lent buffer (document 01, "Standing values"). 3 where the session is not sound, then 15
 // where the buffer is too short; refused, the lent buffer is as it was.
 ghost use Rattle.std.specs.Prelude.{◌≡◌, ◌≤◌, ◌++◌, length, take, drop};
-ghost use Rattle.model.specs.ReadOut.{standingAnswer, standingBuffer};
+ghost use Rattle.model.specs.ReadOut.{standing_answer, standing_buffer};
 
 use model::numbers::{BAD_BUFFER, UNSOUND};
 use model::{CountAnswer, Session};
@@ -19,8 +19,8 @@ fn copy(values: &[u32], count: usize, buffer: &mut [u32])
 // "Standing values": "It returns how many". 3, then 15 "exactly when the buffer is shorter than that count", which is known before
 // the buffer is written.
 pub fn standing_values(s: Session, buffer: &mut [u32]) -> CountAnswer
-    ensures answers { result ≡ standingAnswer s buffer.old }
-    ensures writes { buffer.new ≡ standingBuffer s buffer.old }
+    ensures answers { result ≡ standing_answer s buffer.old }
+    ensures writes { buffer.new ≡ standing_buffer s buffer.old }
 {
     if !session_sound::sound(s) {
         return CountAnswer {

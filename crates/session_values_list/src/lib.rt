@@ -1,6 +1,6 @@
 // The list of the values that stand in the registers (document 01, "Standing values"; 02, wish 1: their order).
 ghost use Rattle.std.specs.Prelude.{◌≡◌, min, ◌++◌, length, drop, replicate};
-ghost use Rattle.model.specs.ReadOut.{valuesTo};
+ghost use Rattle.model.specs.ReadOut.{values_to};
 
 // The standing values and how many they are: the first `count` of `values`; 0 behind them.
 #[derive(Drop)]
@@ -19,8 +19,8 @@ fn bounded(limit: usize) -> usize
 // "List each value by the first round in which it stands, lowest first"; "a value already found in an earlier round is listed only
 // once": the search of the earlier rounds ends the round at the first equal value.
 pub fn list(registers: [u32; 256], limit: usize) -> Listed
-    ensures counts { result.count ≡ length (valuesTo registers (min limit 256)) }
-    ensures lists { result.values ≡ valuesTo registers (min limit 256) ++ drop result.count (replicate 256 0) }
+    ensures counts { result.count ≡ length (values_to registers (min limit 256)) }
+    ensures lists { result.values ≡ values_to registers (min limit 256) ++ drop result.count (replicate 256 0) }
 {
     let last = bounded(limit);
     let mut values = [0u32; 256];

@@ -1,8 +1,8 @@
 -- Past the end of a sheet every entry reads as six bytes of 0.
 use Rattle.base.specs.Prelude.{ℕ, ◌+◌, ◌≤◌, arith, ◌≡◌, List, length}
 use Rattle.model.specs.Sheet.{entry_of, entry_at}
-use Rattle.part_bytes.specs.Beyond.{byte-beyond, word32-beyond}
+use Rattle.part_bytes.specs.Beyond.{byte_beyond, word32_beyond}
 
-pub entry-beyond : (s : List ℕ) (i : ℕ) → length s ≤ i → entry_at s i ≡ entry_of 0 0 0
-entry-beyond s i h =
-    rw (byte-beyond s i h, byte-beyond s (i + 1) (omega arith), word32-beyond s (i + 2) (omega arith))
+pub entry_beyond : (s : List ℕ) (i : ℕ) → length s ≤ i → entry_at s i ≡ entry_of 0 0 0
+entry_beyond s i h =
+    rw (byte_beyond s i h, byte_beyond s (i + 1) (omega arith), word32_beyond s (i + 2) (omega arith))

@@ -1,13 +1,13 @@
 // What a place in a sheet hands out. 01, "Turn sheets": "A reader that stays attached to the sheet's bytes and its place hands the
 // entries out."
 ghost use Rattle.std.specs.Prelude.{◌≡◌};
-ghost use Rattle.sheet_laws.specs.Places.{handed as handedOf};
+ghost use Rattle.sheet_laws.specs.Places.{handed as handed_of};
 
 use sheet_laws::{ENTRY, Handed, RUN};
 
 // What the place hands out. "An entry has 6 bytes: kind, seat, 32-bit value."
 pub fn handed(s: &[u8], place: usize) -> Handed
-    ensures { result ≡ handedOf s.now place }
+    ensures { result ≡ handed_of s.now place }
 {
     if ENTRY <= place % RUN {
         Handed::Next(sheet_entry::entry_at(s, (place % ENTRY) as u16))

@@ -14,14 +14,14 @@ use Rattle.base.specs.Walks.{Ura, named, w64, ent, sem, ‵, given, ◌$◌, ◌
 use Rattle.base.specs.Walks.{fjoin, done, Lfts}
 use Rattle.base.specs.Walks.{u8, RefT, now, named_lft, nothing, slice_val, ShrSlice, shr_slice_Tells, shr_slice_Lawful, Declared, own_open}
 use Rattle.base.specs.Walks.{own_shut}
-use Rattle.base_walk.proofs.Promise.{Row, by_value, uint, struct, Promise, own-all}
+use Rattle.base_walk.proofs.Promise.{Row, by_value, uint, struct, Promise, own_all}
 use denote.Enum.Laws as EL
 use denote.Struct.Laws as LL
 use Rattle.sheet_laws.specs.Places.{begin, handed as handedAt, advanced}
 use Rattle.sheet_laws.specs.contracts.Handed as H'
 use Rattle.sheet_laws.proofs.Handed.TheLaws as H''
 use Rattle.sheet_laws.specs.declared.Reader.{Reader}
-use Rattle.sheet_laws.specs.Reading.{attached, handedBy, movedOn}
+use Rattle.sheet_laws.specs.Reading.{attached, handed_by, moved_on}
 use Rattle.sheet_laws.specs.contracts.Reader as T
 use Rattle.sheet_laws.proofs.Reader.TheLaws as T'
 
@@ -73,10 +73,10 @@ abbrev pub attaches : Promise 1
 attaches = record { takes = sheet ∷ []; gives = reader; answer = λ κs a. attached a.0; ends = λ κs a. (tt, tt) }
 
 abbrev pub reads : Promise 1
-reads = record { takes = reader ∷ []; gives = handed; answer = λ κs a. handedBy a.0; ends = λ κs a. (tt, tt) }
+reads = record { takes = reader ∷ []; gives = handed; answer = λ κs a. handed_by a.0; ends = λ κs a. (tt, tt) }
 
 abbrev pub moves : Promise 1
-moves = record { takes = reader ∷ []; gives = reader; answer = λ κs a. movedOn a.0; ends = λ κs a. (tt, tt) }
+moves = record { takes = reader ∷ []; gives = reader; answer = λ κs a. moved_on a.0; ends = λ κs a. (tt, tt) }
 
 -- ---- a reader, taken apart and put together
 abbrev pub at : Bor (List ℕ) → ℕ → Reader
@@ -86,12 +86,12 @@ abbrev pub parts : Reader → Bor (List ℕ) × (ℕ × Unit {0})
 parts d = (d.sheet, (d.place, tt))
 
 module _ {M : Type 1} {𝓤 : Ura M} (𝓛 : Logic 𝓤) (κs : Lfts 1) (s : Bor (List ℕ)) (p : ℕ) where
-  pub together : ent 𝓤 (sem 𝓛 (own-all hands κs (s, (p, tt)))) (sem 𝓛 (own-all reads κs (at s p, tt)))
-  together = qed 𝓛 (‵ (own-all hands κs (s, (p, tt))) ∷ []) ∵
+  pub together : ent 𝓤 (sem 𝓛 (own_all hands κs (s, (p, tt)))) (sem 𝓛 (own_all reads κs (at s p, tt)))
+  together = qed 𝓛 (‵ (own_all hands κs (s, (p, tt))) ∷ []) ∵
       use1 𝓛 (‵ ((reader.row κs).own (at s p) (reader.val κs (at s p) ∷ [])))
       (own_shut 𝓛 (D κs) (L κs) (s, (p, tt))) $ nothing ! $ move ! (1 ∷ 0 ∷ []) $ fjoin ! $ done !
 
-  pub apart : ent 𝓤 (sem 𝓛 (own-all reads κs (at s p, tt))) (sem 𝓛 (own-all hands κs (s, (p, tt))))
-  apart = qed 𝓛 (‵ (own-all reads κs (at s p, tt)) ∷ []) ∵ fsplit ! $
-      use1 𝓛 (given (reader.val κs (at s p) ∷ [] ≡ reader.val κs (at s p) ∷ []) (‵ (own-all hands κs (s, (p, tt)))))
+  pub apart : ent 𝓤 (sem 𝓛 (own_all reads κs (at s p, tt))) (sem 𝓛 (own_all hands κs (s, (p, tt))))
+  apart = qed 𝓛 (‵ (own_all reads κs (at s p, tt)) ∷ []) ∵ fsplit ! $
+      use1 𝓛 (given (reader.val κs (at s p) ∷ [] ≡ reader.val κs (at s p) ∷ []) (‵ (own_all hands κs (s, (p, tt)))))
       (own_open 𝓛 (D κs) (L κs) (s, (p, tt)) (reader.val κs (at s p))) $ learn ! (λ _. keep ! (0 ∷ []) $ done !)

@@ -2,7 +2,7 @@
 -- number.
 use Rattle.base.specs.Prelude.{ℕ, suc, zero, ◌+◌, ◌-◌, ◌*◌, ◌/◌, ◌%◌, ◌≤◌, ◌<◌, ◌≡◌, Bool, false, cond, List, [], ◌∷◌, ◌++◌, leb}
 use Rattle.model.specs.declared.Entry.{Entry}
-use Rattle.model.specs.Sheet.{EntryRun, run_at, runCount, runsFrom, entry_at, entries_at, entriesOf}
+use Rattle.model.specs.Sheet.{EntryRun, run_at, run_count, runs_from, entry_at, entries_at, entries_of}
 use Rattle.sheet_laws.specs.declared.Handed.{Handed}
 use Rattle.sheet_laws.specs.declared.Handed.TheVariants.{Next, End}
 
@@ -28,33 +28,33 @@ Within q = q.at + 6 * q.left ≤ 65535
 -- ---- positions
 
 -- Whether an entry of the current run is left.
-abbrev pub hasEntry : Position → Bool
-hasEntry q = leb 1 q.left
+abbrev pub has_entry : Position → Bool
+has_entry q = leb 1 q.left
 
 -- Run i, opened: its entries, "6 bytes" each, are to be handed out, and i + 1 is the next run.
-abbrev pub openedRun : (i : ℕ) → EntryRun → Position
-openedRun i x = record { run = i + 1; at = x.offset; left = x.size / 6 }
+abbrev pub opened_run : (i : ℕ) → EntryRun → Position
+opened_run i x = record { run = i + 1; at = x.offset; left = x.size / 6 }
 
 -- No entry of a run is left, and run i is the next.
 abbrev pub between : (i : ℕ) → Position
 between i = record { run = i; at = 0; left = 0 }
 
 -- The first of the runs i, i + 1, .., as many as told, that has an entry, opened. ("Length 0 is allowed".)
-unfoldable pub openFrom : List ℕ → (i count : ℕ) → Position
-openFrom s i zero = between i
-openFrom s i (suc k) = cond (leb 6 (run_at s i).size) (openedRun i (run_at s i)) (openFrom s (i + 1) k)
+unfoldable pub open_from : List ℕ → (i count : ℕ) → Position
+open_from s i zero = between i
+open_from s i (suc k) = cond (leb 6 (run_at s i).size) (opened_run i (run_at s i)) (open_from s (i + 1) k)
 
 -- The position itself where its run has an entry left, else the next run that has one, opened.
 unfoldable pub settled : List ℕ → Position → Position
-settled s q = cond (hasEntry q) q (openFrom s q.run (runCount s - q.run))
+settled s q = cond (has_entry q) q (open_from s q.run (run_count s - q.run))
 
 -- The same run, behind the next entry.
 abbrev pub passed : Position → Position
-passed q = cond (hasEntry q) (record { run = q.run; at = q.at + 6; left = q.left - 1 }) q
+passed q = cond (has_entry q) (record { run = q.run; at = q.at + 6; left = q.left - 1 }) q
 
 -- The entries from a position on: those left of its run, and those of the runs still to be opened.
-unfoldable pub restFrom : List ℕ → Position → List Entry
-restFrom s q = entries_at s q.at q.left ++ entriesOf s (runsFrom s q.run (runCount s - q.run))
+unfoldable pub rest_from : List ℕ → Position → List Entry
+rest_from s q = entries_at s q.at q.left ++ entries_of s (runs_from s q.run (run_count s - q.run))
 
 -- ---- places
 
@@ -64,7 +64,7 @@ begin s = encode (settled s (between 0))
 
 -- What a place hands out.
 unfoldable pub handed : List ℕ → ℕ → Handed
-handed s p = cond (hasEntry (decode p)) (Next (entry_at s (decode p).at)) End
+handed s p = cond (has_entry (decode p)) (Next (entry_at s (decode p).at)) End
 
 -- The place behind the entry that this one hands out.
 unfoldable pub advanced : List ℕ → ℕ → ℕ
@@ -72,7 +72,7 @@ advanced s p = encode (settled s (passed (decode p)))
 
 -- The entries from a place on.
 unfoldable pub rest : List ℕ → ℕ → List Entry
-rest s p = restFrom s (decode p)
+rest s p = rest_from s (decode p)
 
 -- What was handed out, and the entries after it; none where no entry is left.
 abbrev pub before : Handed → List Entry → List Entry
@@ -81,10 +81,10 @@ before End es = []
 
 -- 01: "ends within the sheet", which has 65,535 bytes at most: so it is with every run of an accepted sheet.
 pub record Inside (s : List ℕ) : Type 0 where
-  pub ends : (i : ℕ) → i < runCount s → (run_at s i).offset + (run_at s i).size ≤ 65535
+  pub ends : (i : ℕ) → i < run_count s → (run_at s i).offset + (run_at s i).size ≤ 65535
 
 -- A place at which a reader of such a sheet can stand: where its run has no entry left, no run is left.
 pub record Proper (s : List ℕ) (p : ℕ) : Type 0 where
   pub inside : Inside s
   pub within : Within (decode p)
-  pub last : hasEntry (decode p) ≡ false → runCount s ≤ (decode p).run
+  pub last : has_entry (decode p) ≡ false → run_count s ≤ (decode p).run

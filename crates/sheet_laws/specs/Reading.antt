@@ -11,9 +11,9 @@ abbrev pub attached : Bor (List ℕ) → Reader
 attached s = record { sheet = s; place = begin s.now }
 
 -- What a reader hands out: the entry at its place, or that none is left.
-abbrev pub handedBy : Reader → Handed
-handedBy r = handed r.sheet.now r.place
+abbrev pub handed_by : Reader → Handed
+handed_by r = handed r.sheet.now r.place
 
 -- The same reader, one entry on.
-abbrev pub movedOn : Reader → Reader
-movedOn r = record { sheet = r.sheet; place = advanced r.sheet.now r.place }
+abbrev pub moved_on : Reader → Reader
+moved_on r = record { sheet = r.sheet; place = advanced r.sheet.now r.place }

@@ -1,14 +1,14 @@
 // Places in a sheet: the first, and the next. (`sheet_handed` has what one hands out.)
 ghost use Rattle.std.specs.Prelude.{◌≡◌, ◌-◌, ◌<◌};
-ghost use Rattle.model.specs.Sheet.{runCount};
-ghost use Rattle.sheet_laws.specs.Places.{encode, openFrom, begin as beginOf, advanced};
+ghost use Rattle.model.specs.Sheet.{run_count};
+ghost use Rattle.sheet_laws.specs.Places.{encode, open_from as open_from_of, begin as begin_of, advanced};
 
 use sheet_laws::{ENTRY, RUN};
 
 // The first run from the given one on that has an entry, opened. "Length 0 is allowed".
 fn open_from(s: &[u8], first: usize) -> usize
     requires { first < 17179869184 }
-    ensures { result ≡ encode (openFrom s.now first (runCount s.now - first)) }
+    ensures { result ≡ encode (open_from_of s.now first (run_count s.now - first)) }
 {
     let count = part_bytes::byte(s, 1) as usize;
     let mut i = first;
@@ -24,7 +24,7 @@ fn open_from(s: &[u8], first: usize) -> usize
 
 // Where the reader starts.
 pub fn begin(s: &[u8]) -> usize
-    ensures { result ≡ beginOf s.now }
+    ensures { result ≡ begin_of s.now }
 {
     open_from(s, 0)
 }

@@ -2,7 +2,7 @@
 // sheet's bytes and its place hands the entries out." Each function takes the reader apart and leaves the work to
 // `sheet_place`; for every caller outside there are the functions of `sheet_reader`.
 ghost use Rattle.std.specs.Prelude.{◌≡◌};
-ghost use Rattle.sheet_laws.specs.Reading.{attached, handedBy, movedOn};
+ghost use Rattle.sheet_laws.specs.Reading.{attached, handed_by, moved_on};
 
 use sheet_laws::{Handed, Reader};
 
@@ -18,14 +18,14 @@ pub fn attach<'a>(sheet: &'a [u8]) -> Reader<'a>
 
 // What the reader hands out at its place.
 pub fn entry<'a>(r: Reader<'a>) -> Handed
-    ensures { result ≡ handedBy r.entry }
+    ensures { result ≡ handed_by r.entry }
 {
     sheet_handed::handed(r.sheet, r.place)
 }
 
 // Moves on by one entry.
 pub fn moved<'a>(r: Reader<'a>) -> Reader<'a>
-    ensures { result ≡ movedOn r.entry }
+    ensures { result ≡ moved_on r.entry }
 {
     let place = sheet_place::advance(r.sheet, r.place);
     Reader {

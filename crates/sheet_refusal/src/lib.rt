@@ -1,16 +1,16 @@
 // The refusal of a sheet. 01, "Turn sheets" and "Numbers returned", rows 10, 1, 2, 11 and 12.
 ghost use Rattle.std.specs.Prelude.{◌≡◌};
-ghost use Rattle.model.specs.Board.{limitsOf};
+ghost use Rattle.model.specs.Board.{limits_of};
 ghost use Rattle.model.specs.Refusal.{refusal as first_of};
-ghost use Rattle.model.specs.Sheet.{sheetRefusal};
-ghost use Rattle.sheet_refusal.specs.RunTests.{runTests};
+ghost use Rattle.model.specs.Sheet.{sheet_refusal};
+ghost use Rattle.sheet_refusal.specs.RunTests.{run_tests};
 
 use model::Caller;
 use model::numbers::{BAD_PAIRS, BAD_RUN, BAD_SHEET};
 
 // "11 over all pairs, 12 over all runs": from is where the run before ended, and code is 12 once a run is no whole entries.
 fn runs_refusal(s: &[u8]) -> u32
-    ensures { result ≡ first_of (runTests s.now) }
+    ensures { result ≡ first_of (run_tests s.now) }
 {
     let count = part_bytes::byte(s, 1) as usize;
     let mut from = 4 + 4 * count;
@@ -38,7 +38,7 @@ fn runs_refusal(s: &[u8]) -> u32
 // under 4 or over 65,535 bytes, over 16 pairs, or too short for its pairs". "Byte 0: n. Byte 1: the count p of pairs, 0 to 16. Bytes 2
 // and 3: L."
 pub fn refusal(caller: Caller, s: &[u8]) -> u32
-    ensures { result ≡ sheetRefusal (limitsOf caller) s.now }
+    ensures { result ≡ sheet_refusal (limits_of caller) s.now }
 {
     if s.len() < 4 {
         return BAD_SHEET;

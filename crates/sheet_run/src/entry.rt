@@ -1,15 +1,15 @@
 // What one operation does to the process that it names, as functions of that process's record, the tally and one value read.
 ghost use Rattle.std.specs.Prelude.{◌≡◌, ◌||◌, leb};
-ghost use Rattle.model.specs.Machine.{processOf};
-ghost use Rattle.model.specs.Refusal.{refusal, stepTests};
-ghost use Rattle.model_laws.specs.Accepted.{ownTests};
-ghost use Rattle.sheet_laws.specs.Entries.{haltOf, changesOf, moved_to, otherAccess};
+ghost use Rattle.model.specs.Machine.{process_of as process_for};
+ghost use Rattle.model.specs.Refusal.{refusal, step_tests};
+ghost use Rattle.model_laws.specs.Accepted.{own_tests};
+ghost use Rattle.sheet_laws.specs.Entries.{halt_of, changes_of, moved_to, other_access};
 
 use model::{Access, Counts, Ending, Operation, Process};
 
 // The process that the operation names.
 pub(crate) fn process_of(o: Operation) -> usize
-    ensures { result ≡ processOf o }
+    ensures { result ≡ process_for o }
 {
     match o {
         Operation::Propose(p, _) => p,
@@ -29,7 +29,7 @@ pub(crate) fn halts(budget: usize, k: usize, n: usize, p: usize) -> bool
 // How the run ends at an entry that is refused with this number. 01, "Turn sheets", of a budget that has ended: "that next one is not
 // tried".
 pub(crate) fn halt(budget: usize, k: usize, code: u32) -> Ending
-    ensures { result ≡ haltOf budget k code }
+    ensures { result ≡ halt_of budget k code }
 {
     if budget <= k {
         Ending::BudgetEnded
@@ -40,7 +40,7 @@ pub(crate) fn halt(budget: usize, k: usize, code: u32) -> Ending
 
 // 01, "Numbers returned", work, after the process' number.
 pub(crate) fn step_refusal(q: Process, c: Counts) -> u32
-    ensures { result ≡ refusal (stepTests q.phase c) }
+    ensures { result ≡ refusal (step_tests q.phase c) }
 {
     let phase = q.phase;
     part_refusals_counted::step_refusal(phase, c)
@@ -48,7 +48,7 @@ pub(crate) fn step_refusal(q: Process, c: Counts) -> u32
 
 // Its own refusal, after the process' number, by the closed mark; 0 for none.
 pub(crate) fn refusal_of(closed: bool, q: Process, c: Counts, o: Operation) -> u32
-    ensures { result ≡ refusal (ownTests closed q.phase c o) }
+    ensures { result ≡ refusal (own_tests closed q.phase c o) }
 {
     let phase = q.phase;
     match o {
@@ -61,7 +61,7 @@ pub(crate) fn refusal_of(closed: bool, q: Process, c: Counts, o: Operation) -> u
 
 // Whether it changes the record of its process: a look at a blank D does not. (A record that stays is not stored again.)
 pub(crate) fn changes(decision: u32, o: Operation) -> bool
-    ensures { result ≡ changesOf decision o }
+    ensures { result ≡ changes_of decision o }
 {
     match o {
         Operation::Propose(_, _) => true,
@@ -86,7 +86,7 @@ pub(crate) fn becomes(q: Process, decision: u32, o: Operation) -> Process
 
 // The one register operation of one that is no work turn: a look reads D.
 pub(crate) fn access_of(o: Operation) -> Access
-    ensures { result ≡ otherAccess o }
+    ensures { result ≡ other_access o }
 {
     match o {
         Operation::Propose(_, _) => Access::Nothing,

@@ -1,8 +1,8 @@
 // Running a sheet (01, "Turn sheets": the runner). The session is changed where it stands, entry after entry, and is never
 // tested for soundness: that every session of the run is sound is part of the loop's proof.
 ghost use Rattle.std.specs.Prelude.{◌≡◌};
-ghost use Rattle.model.specs.Board.{noCounts};
-ghost use Rattle.model.specs.Runner.{ran as ranOf, run_from, run as run_of};
+ghost use Rattle.model.specs.Board.{no_counts as no_counts_of};
+ghost use Rattle.model.specs.Runner.{ran as ran_of, run_from, run as run_of};
 ghost use Rattle.model.specs.Sheet.{entries};
 ghost use Rattle.sheet_laws.specs.Carried.{Begun};
 
@@ -15,7 +15,7 @@ mod entry;
 
 // What a run gives: the number of entries carried out, the session, the tally and the ending.
 fn ran(carried: usize, session: Session, counts: Counts, ending: Ending) -> Ran
-    ensures { result ≡ ranOf carried session counts ending }
+    ensures { result ≡ ran_of carried session counts ending }
 {
     Ran {
         carried,
@@ -27,7 +27,7 @@ fn ran(carried: usize, session: Session, counts: Counts, ending: Ending) -> Ran
 
 // An empty tally.
 fn no_counts() -> Counts
-    ensures { result ≡ noCounts }
+    ensures { result ≡ no_counts_of }
 {
     Counts {
         reads: 0,

@@ -6,102 +6,102 @@ use Rattle.model.specs.declared.Counts.{Counts}
 use Rattle.model.specs.declared.Stepped.{Stepped}
 use Rattle.model_short.specs.declared.RawEntry.{RawEntry}
 use Rattle.model_short.specs.Short.{choices}
-use Rattle.model_short.specs.Calls.{none, rawBytes, listBytes, rawAt, rawsAt}
-use Rattle.model_short_laws.specs.Entries.{indexIn}
-use Rattle.model_short_laws.specs.Choosing.{Lists, rawAnswer, behind, byEntry, fromEntry, listsFrom, laterFrom}
-use Rattle.model_short_laws.specs.Numbered.{choice, choices-from, choices-end}
+use Rattle.model_short.specs.Calls.{none, raw_bytes, list_bytes, raw_at, raws_at}
+use Rattle.model_short_laws.specs.Entries.{index_in}
+use Rattle.model_short_laws.specs.Choosing.{Lists, raw_answer, behind, by_entry, from_entry, lists_from, later_from}
+use Rattle.model_short_laws.specs.Numbered.{choice, choices_from, choices_end}
 use Rattle.sheet_short.specs.Stored.{entry_first}
-use Rattle.model_short_laws.specs.Bytes.{length-rawsAt, rawsAt-zero, rawsAt-more}
+use Rattle.model_short_laws.specs.Bytes.{length_raws_at, raws_at_zero, raws_at_more}
 
 -- The choice of the rest: all lists of the remaining length; where it is tight, those after the given one.
-unfoldable pub restLists : (n left : ℕ) → (tight : Bool) → (given : List RawEntry) → Session → Counts → Lists
-restLists n left true given s c = laterFrom n s c given
-restLists n left false given s c = listsFrom n left s c
+unfoldable pub rest_lists : (n left : ℕ) → (tight : Bool) → (given : List RawEntry) → Session → Counts → Lists
+rest_lists n left true given s c = later_from n s c given
+rest_lists n left false given s c = lists_from n left s c
 
 -- The choice of an entry, from number e on, before a rest of the remaining length: where it is tight, entry e has the lists after the
 -- given one.
-unfoldable pub entryLists : (n left e : ℕ) → (tight : Bool) → (given : List RawEntry) → Session → Counts → Lists
-entryLists n left e tight given s c = fromEntry n (restLists n left tight given) (listsFrom n left) s c (drop e (choices n))
+unfoldable pub entry_lists : (n left e : ℕ) → (tight : Bool) → (given : List RawEntry) → Session → Counts → Lists
+entry_lists n left e tight given s c = from_entry n (rest_lists n left tight given) (lists_from n left) s c (drop e (choices n))
 
 -- The first of some lists, stored at an offset; where there is none, nothing is.
 unfoldable pub stored : Lists → (buffer : List ℕ) → (offset : ℕ) → List ℕ
 stored [] b i = b
-stored (l ∷ ls) b i = sets b i (listBytes l)
+stored (l ∷ ls) b i = sets b i (list_bytes l)
 
 -- What the cycle answers and leaves.
 pub record Chosen (lists : Lists) (before after : List ℕ) (offset : ℕ) (r : Bool) : Type 0 where
   pub found : r ≡ not (none lists)
   pub bytes : after ≡ stored lists before offset
 
-lists-more : (n left : ℕ) (s : Session) (c : Counts) → 1 ≤ left → listsFrom n left s c ≡ byEntry n (listsFrom n (left - 1)) s c (choices n)
-unfolding listsFrom
-lists-more n zero s c h = absurd (omega arith)
-lists-more n (suc k) s c h = let e : suc k - 1 ≡ k = omega arith in rw e refl
+lists_more : (n left : ℕ) (s : Session) (c : Counts) → 1 ≤ left → lists_from n left s c ≡ by_entry n (lists_from n (left - 1)) s c (choices n)
+unfolding lists_from
+lists_more n zero s c h = absurd (omega arith)
+lists_more n (suc k) s c h = let e : suc k - 1 ≡ k = omega arith in rw e refl
 
 -- ---- the choice of an entry
 
-from-loose : (n : ℕ) (rest : Session → Counts → Lists) (s : Session) (c : Counts) (es : List RawEntry)
-    → fromEntry n rest rest s c es ≡ byEntry n rest s c es
-unfolding fromEntry byEntry
-from-loose n rest s c [] = refl
-from-loose n rest s c (e ∷ es) = refl
+from_loose : (n : ℕ) (rest : Session → Counts → Lists) (s : Session) (c : Counts) (es : List RawEntry)
+    → from_entry n rest rest s c es ≡ by_entry n rest s c es
+unfolding from_entry by_entry
+from_loose n rest s c [] = refl
+from_loose n rest s c (e ∷ es) = refl
 
-pub entry-loose : (n left e : ℕ) (given : List RawEntry) (s : Session) (c : Counts)
-    → entryLists n left e false given s c ≡ byEntry n (listsFrom n left) s c (drop e (choices n))
-unfolding entryLists restLists
-entry-loose n left e given s c = from-loose n (listsFrom n left) s c (drop e (choices n))
+pub entry_loose : (n left e : ℕ) (given : List RawEntry) (s : Session) (c : Counts)
+    → entry_lists n left e false given s c ≡ by_entry n (lists_from n left) s c (drop e (choices n))
+unfolding entry_lists rest_lists
+entry_loose n left e given s c = from_loose n (lists_from n left) s c (drop e (choices n))
 
 module _ (n left e : ℕ) (tight : Bool) (given : List RawEntry) (s : Session) (c : Counts) (b : List ℕ) (i : ℕ) where
-  pub entry-end : 5 * n ≤ e → Chosen (entryLists n left e tight given s c) b b i false
-  unfolding entryLists fromEntry stored
-  entry-end h = rw (choices-end n e h) (record { found = refl; bytes = refl })
+  pub entry_end : 5 * n ≤ e → Chosen (entry_lists n left e tight given s c) b b i false
+  unfolding entry_lists from_entry stored
+  entry_end h = rw (choices_end n e h) (record { found = refl; bytes = refl })
 
-  module _ (low : e < 5 * n) (x : RawEntry) (here : x ≡ choice n e) (a : Stepped) (done : a ≡ rawAnswer n s c x) where
-    done-here : rawAnswer n s c (choice n e) ≡ a
-    done-here = sym (rw here at done)
+  module _ (low : e < 5 * n) (x : RawEntry) (here : x ≡ choice n e) (a : Stepped) (done : a ≡ raw_answer n s c x) where
+    done_here : raw_answer n s c (choice n e) ≡ a
+    done_here = sym (rw here at done)
 
-    entry-step : entryLists n left e tight given s c
-        ≡ behind (eqb a.code 0) (choice n e) (restLists n left tight given a.session a.counts)
-        ++ byEntry n (listsFrom n left) s c (drop (suc e) (choices n))
-    unfolding entryLists fromEntry
-    entry-step = rw (choices-from n e low, done-here) refl
+    entry_step : entry_lists n left e tight given s c
+        ≡ behind (eqb a.code 0) (choice n e) (rest_lists n left tight given a.session a.counts)
+        ++ by_entry n (lists_from n left) s c (drop (suc e) (choices n))
+    unfolding entry_lists from_entry
+    entry_step = rw (choices_from n e low, done_here) refl
 
-    next-loose : (given' : List RawEntry)
-        → entryLists n left (e + 1) false given' s c ≡ byEntry n (listsFrom n left) s c (drop (suc e) (choices n))
-    next-loose given' = entry-loose n left (e + 1) given' s c ∙ rw add-one refl
+    next_loose : (given' : List RawEntry)
+        → entry_lists n left (e + 1) false given' s c ≡ by_entry n (lists_from n left) s c (drop (suc e) (choices n))
+    next_loose given' = entry_loose n left (e + 1) given' s c ∙ rw add-one refl
 
-    pub entry-refused : (a.code ≡ 0 → ⊥) → (given' : List RawEntry) (b' : List ℕ) (r : Bool)
-        → Chosen (entryLists n left (e + 1) false given' s c) b b' i r → Chosen (entryLists n left e tight given s c) b b' i r
+    pub entry_refused : (a.code ≡ 0 → ⊥) → (given' : List RawEntry) (b' : List ℕ) (r : Bool)
+        → Chosen (entry_lists n left (e + 1) false given' s c) b b' i r → Chosen (entry_lists n left e tight given s c) b b' i r
     unfolding behind
-    entry-refused h given' b' r k =
-        let q : entryLists n left (e + 1) false given' s c ≡ entryLists n left e tight given s c
-        = next-loose given' ∙ sym (entry-step ∙ rw (ne_eqb a.code 0 h) refl) in
+    entry_refused h given' b' r k =
+        let q : entry_lists n left (e + 1) false given' s c ≡ entry_lists n left e tight given s c
+        = next_loose given' ∙ sym (entry_step ∙ rw (ne_eqb a.code 0 h) refl) in
         rw (← q) k
 
     module _ (ok : a.code ≡ 0) (b₁ : List ℕ) (t : Bool)
-        (rest : Chosen (restLists n left tight given a.session a.counts) b b₁ (i + 6) t) where
-      pub entry_found : t ≡ true → (b₂ : List ℕ) → b₂ ≡ sets b₁ i (rawBytes x) → Chosen (entryLists n left e tight given s c) b b₂ i true
+        (rest : Chosen (rest_lists n left tight given a.session a.counts) b b₁ (i + 6) t) where
+      pub entry_found : t ≡ true → (b₂ : List ℕ) → b₂ ≡ sets b₁ i (raw_bytes x) → Chosen (entry_lists n left e tight given s c) b b₂ i true
       unfolding behind stored
       entry_found h b₂ p =
-          rw (entry-step, eq-eqb a.code 0 ok)
-          (go (restLists n left tight given a.session a.counts) rest.found rest.bytes)
+          rw (entry_step, eq-eqb a.code 0 ok)
+          (go (rest_lists n left tight given a.session a.counts) rest.found rest.bytes)
         where
           go : (ls : Lists) → t ≡ not (none ls) → b₁ ≡ stored ls b (i + 6)
-              → Chosen (map (λ (l : List RawEntry). choice n e ∷ l) ls ++ byEntry n (listsFrom n left) s c (drop (suc e) (choices n)))
+              → Chosen (map (λ (l : List RawEntry). choice n e ∷ l) ls ++ by_entry n (lists_from n left) s c (drop (suc e) (choices n)))
               b b₂ i true
           go [] f w = absurd (true≢false (sym h ∙ f))
           go (l ∷ ls) f w = record { found = refl; bytes = p ∙ rw (w, here) (entry_first b i (choice n e) l) }
 
-      pub entry-passed : t ≡ false → (given' : List RawEntry) (b₂ : List ℕ) (r : Bool)
-          → Chosen (entryLists n left (e + 1) false given' s c) b₁ b₂ i r → Chosen (entryLists n left e tight given s c) b b₂ i r
+      pub entry_passed : t ≡ false → (given' : List RawEntry) (b₂ : List ℕ) (r : Bool)
+          → Chosen (entry_lists n left (e + 1) false given' s c) b₁ b₂ i r → Chosen (entry_lists n left e tight given s c) b b₂ i r
       unfolding behind stored
-      entry-passed h given' b₂ r k =
-          rw (entry-step, eq-eqb a.code 0 ok)
-          (go (restLists n left tight given a.session a.counts) rest.found rest.bytes (rw (next-loose given') at k))
+      entry_passed h given' b₂ r k =
+          rw (entry_step, eq-eqb a.code 0 ok)
+          (go (rest_lists n left tight given a.session a.counts) rest.found rest.bytes (rw (next_loose given') at k))
         where
           go : (ls : Lists) → t ≡ not (none ls) → b₁ ≡ stored ls b (i + 6)
-              → Chosen (byEntry n (listsFrom n left) s c (drop (suc e) (choices n))) b₁ b₂ i r
-              → Chosen (map (λ (l : List RawEntry). choice n e ∷ l) ls ++ byEntry n (listsFrom n left) s c (drop (suc e) (choices n)))
+              → Chosen (by_entry n (lists_from n left) s c (drop (suc e) (choices n))) b₁ b₂ i r
+              → Chosen (map (λ (l : List RawEntry). choice n e ∷ l) ls ++ by_entry n (lists_from n left) s c (drop (suc e) (choices n)))
               b b₂ i r
           go [] f w k = rw w at k
           go (l ∷ ls) f w k = absurd (true≢false (sym f ∙ h))
@@ -109,21 +109,21 @@ module _ (n left e : ℕ) (tight : Bool) (given : List RawEntry) (s : Session) (
 -- ---- the choice of the rest
 
 module _ (n left : ℕ) (s : Session) (c : Counts) (b : List ℕ) (i : ℕ) where
-  pub rest_end : (tight : Bool) → left ≡ 0 → Chosen (restLists n left tight (rawsAt b i left) s c) b b i (not tight)
-  unfolding restLists listsFrom laterFrom stored listBytes
-  rest_end true h = rw (rawsAt-zero b i left h) (record { found = refl; bytes = refl })
+  pub rest_end : (tight : Bool) → left ≡ 0 → Chosen (rest_lists n left tight (raws_at b i left) s c) b b i (not tight)
+  unfolding rest_lists lists_from later_from stored list_bytes
+  rest_end true h = rw (raws_at_zero b i left h) (record { found = refl; bytes = refl })
   rest_end false h = rw h (record { found = refl; bytes = refl })
 
   module _ (more : 1 ≤ left) (b' : List ℕ) (r : Bool) where
-    pub rest-loose : (given given' : List RawEntry) → Chosen (entryLists n (left - 1) 0 false given' s c) b b' i r
-        → Chosen (restLists n left false given s c) b b' i r
-    unfolding restLists
-    rest-loose given given' k = rw (lists-more n left s c more) (rw (entry-loose n (left - 1) 0 given' s c) at k)
+    pub rest_loose : (given given' : List RawEntry) → Chosen (entry_lists n (left - 1) 0 false given' s c) b b' i r
+        → Chosen (rest_lists n left false given s c) b b' i r
+    unfolding rest_lists
+    rest_loose given given' k = rw (lists_more n left s c more) (rw (entry_loose n (left - 1) 0 given' s c) at k)
 
-    pub rest-tight : (x : RawEntry) → x ≡ rawAt b i → (e : ℕ) → e ≡ indexIn x (choices n)
-        → Chosen (entryLists n (left - 1) e true (rawsAt b (i + 6) (left - 1)) s c) b b' i r
-        → Chosen (restLists n left true (rawsAt b i left) s c) b b' i r
-    unfolding restLists entryLists laterFrom
-    rest-tight x here e place k =
-        let q : e ≡ indexIn (rawAt b i) (choices n) = rw here at place in
-        rw (rawsAt-more b i left more, length-rawsAt, ← q) k
+    pub rest_tight : (x : RawEntry) → x ≡ raw_at b i → (e : ℕ) → e ≡ index_in x (choices n)
+        → Chosen (entry_lists n (left - 1) e true (raws_at b (i + 6) (left - 1)) s c) b b' i r
+        → Chosen (rest_lists n left true (raws_at b i left) s c) b b' i r
+    unfolding rest_lists entry_lists later_from
+    rest_tight x here e place k =
+        let q : e ≡ index_in (raw_at b i) (choices n) = rw here at place in
+        rw (raws_at_more b i left more, length_raws_at, ← q) k

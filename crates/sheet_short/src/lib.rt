@@ -1,10 +1,10 @@
 // Every short sheet there is (02, wish 12): the first legal list of a length, and the one after a given one.
 ghost use Rattle.std.specs.Prelude.{◌+◌, ◌-◌, ◌≤◌, ◌≡◌};
 ghost use Rattle.model.specs.Window.{window};
-ghost use Rattle.model.specs.Board.{opened, noCounts};
-ghost use Rattle.model_short.specs.Calls.{rawsAt, listed, firstResult, nextResult};
+ghost use Rattle.model.specs.Board.{opened, no_counts};
+ghost use Rattle.model_short.specs.Calls.{raws_at, listed, first_result, next_result};
 ghost use Rattle.model_short_laws.specs.Machine.{SearchReady};
-ghost use Rattle.sheet_short.specs.Cycle.{Chosen, entryLists, restLists};
+ghost use Rattle.sheet_short.specs.Cycle.{Chosen, entry_lists, rest_lists};
 
 use model::numbers::LAST_LIST;
 use model::{Counts, Session};
@@ -23,7 +23,7 @@ fn choose_entry(
     buffer: &mut [u8],
 ) -> bool
     requires { SearchReady n left at s × (1 ≤ left) }
-    ensures { Chosen (entryLists n (left - 1) e tight (rawsAt buffer.old (at + 6) (left - 1)) s c)
+    ensures { Chosen (entry_lists n (left - 1) e tight (raws_at buffer.old (at + 6) (left - 1)) s c)
         buffer.old buffer.new at result }
 {
     if 5 * (n as usize) <= e {
@@ -56,7 +56,7 @@ fn choose_rest(
     buffer: &mut [u8],
 ) -> bool
     requires { SearchReady n left at s }
-    ensures { Chosen (restLists n left tight (rawsAt buffer.old at left) s c)
+    ensures { Chosen (rest_lists n left tight (raws_at buffer.old at left) s c)
         buffer.old buffer.new at result }
 {
     if left == 0 {
@@ -72,7 +72,7 @@ fn choose_rest(
 // From "a fresh session", "with L at its least": whether there is a list, which then stands in the buffer.
 fn choose(n: u8, length: usize, tight: bool, buffer: &mut [u8]) -> bool
     requires { (1 ≤ n) × (n ≤ 2) × (length ≤ 6) }
-    ensures { Chosen (restLists n length tight (rawsAt buffer.old 0 length) (opened n (window n)) noCounts)
+    ensures { Chosen (rest_lists n length tight (raws_at buffer.old 0 length) (opened n (window n)) no_counts)
         buffer.old buffer.new 0 result }
 {
     let fresh = session_opened::opened(n as usize, part_window::window(n));
@@ -86,7 +86,7 @@ fn choose(n: u8, length: usize, tight: bool, buffer: &mut [u8]) -> bool
 
 // "Asked for the first, it writes that." 1, 17, 15.
 pub fn first(n: usize, length: usize, buffer: &mut [u8]) -> u32
-    ensures { listed result buffer.new ≡ firstResult n length buffer.old }
+    ensures { listed result buffer.new ≡ first_result n length buffer.old }
 {
     let code = sheet_short_refusal::call_refusal(n, length, buffer);
     if code != 0 {
@@ -98,7 +98,7 @@ pub fn first(n: usize, length: usize, buffer: &mut [u8]) -> u32
 
 // "Given a legal list in a buffer, the builder writes the next of that length over it." 1, 17, 15, 20, 21.
 pub fn next(n: usize, length: usize, buffer: &mut [u8]) -> u32
-    ensures { listed result buffer.new ≡ nextResult n length buffer.old }
+    ensures { listed result buffer.new ≡ next_result n length buffer.old }
 {
     let code = sheet_short_refusal::given_refusal(n, length, buffer);
     if code != 0 {

@@ -6,61 +6,61 @@ use Rattle.model.specs.declared.Counts.{Counts}
 use Rattle.model.specs.declared.Stepped.{Stepped}
 use Rattle.model_short.specs.declared.RawEntry.{RawEntry}
 use Rattle.model.specs.Window.{window}
-use Rattle.model.specs.Board.{opened, noCounts}
+use Rattle.model.specs.Board.{opened, no_counts}
 use Rattle.model.specs.Refusal.{refusal}
-use Rattle.model.specs.Numbers.{illegalList}
+use Rattle.model.specs.Numbers.{illegal_list}
 use Rattle.model_short.specs.Short.{choices, among, legal}
-use Rattle.model_short.specs.Calls.{rawAt, rawsAt, givenList, firstTests, givenTests}
-use Rattle.model_short_laws.specs.Entries.{indexIn, among-index}
-use Rattle.model_short_laws.specs.Choosing.{rawAnswer, legalFrom, legal-from}
-use Rattle.model_short_laws.specs.Bytes.{rawsAt-zero, rawsAt-more}
-use Rattle.model_short_laws.specs.Numbers.{given-legal}
-use Rattle.model_short_laws.specs.Numbered.{length-choices}
+use Rattle.model_short.specs.Calls.{raw_at, raws_at, given_list, first_tests, given_tests}
+use Rattle.model_short_laws.specs.Entries.{index_in, among_index}
+use Rattle.model_short_laws.specs.Choosing.{raw_answer, legal_from, legal_from_law}
+use Rattle.model_short_laws.specs.Bytes.{raws_at_zero, raws_at_more}
+use Rattle.model_short_laws.specs.Numbers.{given_legal}
+use Rattle.model_short_laws.specs.Numbered.{length_choices}
 
 module _ (n : ℕ) (b : List ℕ) (i left : ℕ) (s : Session) (c : Counts) where
-  pub legal-end : left ≡ 0 → true ≡ legalFrom n s c (rawsAt b i left)
-  unfolding legalFrom
-  legal-end h = rw (rawsAt-zero b i left h) refl
+  pub legal_end : left ≡ 0 → true ≡ legal_from n s c (raws_at b i left)
+  unfolding legal_from
+  legal_end h = rw (raws_at_zero b i left h) refl
 
-  module _ (more : 1 ≤ left) (x : RawEntry) (here : x ≡ rawAt b i) (k : ℕ) (place : k ≡ indexIn x (choices n)) where
-    k-is : k ≡ indexIn (rawAt b i) (choices n)
-    k-is = rw here at place
+  module _ (more : 1 ≤ left) (x : RawEntry) (here : x ≡ raw_at b i) (k : ℕ) (place : k ≡ index_in x (choices n)) where
+    k_is : k ≡ index_in (raw_at b i) (choices n)
+    k_is = rw here at place
 
-    pub legal-no-choice : 5 * n ≤ k → false ≡ legalFrom n s c (rawsAt b i left)
-    unfolding legalFrom
-    legal-no-choice h =
-        let t : among (choices n) (rawAt b i) ≡ false
-        = among-index (choices n) (rawAt b i)
-        ∙ le-ltb (indexIn (rawAt b i) (choices n)) (length (choices n)) (omega (arith, k-is, length-choices n)) in
-        rw (rawsAt-more b i left more, t) refl
+    pub legal_no_choice : 5 * n ≤ k → false ≡ legal_from n s c (raws_at b i left)
+    unfolding legal_from
+    legal_no_choice h =
+        let t : among (choices n) (raw_at b i) ≡ false
+        = among_index (choices n) (raw_at b i)
+        ∙ le-ltb (index_in (raw_at b i) (choices n)) (length (choices n)) (omega (arith, k_is, length_choices n)) in
+        rw (raws_at_more b i left more, t) refl
 
-    module _ (low : k < 5 * n) (a : Stepped) (done : a ≡ rawAnswer n s c x) where
-      among-here : among (choices n) (rawAt b i) ≡ true
-      among-here =
-          among-index (choices n) (rawAt b i)
-          ∙ lt-ltb (indexIn (rawAt b i) (choices n)) (length (choices n)) (omega (arith, k-is, length-choices n))
+    module _ (low : k < 5 * n) (a : Stepped) (done : a ≡ raw_answer n s c x) where
+      among_here : among (choices n) (raw_at b i) ≡ true
+      among_here =
+          among_index (choices n) (raw_at b i)
+          ∙ lt-ltb (index_in (raw_at b i) (choices n)) (length (choices n)) (omega (arith, k_is, length_choices n))
 
-      done-here : a ≡ rawAnswer n s c (rawAt b i)
-      done-here = rw here at done
+      done_here : a ≡ raw_answer n s c (raw_at b i)
+      done_here = rw here at done
 
-      pub legal-refused : (a.code ≡ 0 → ⊥) → false ≡ legalFrom n s c (rawsAt b i left)
-      unfolding legalFrom
-      legal-refused h = rw (rawsAt-more b i left more, among-here, ← done-here, ne_eqb a.code 0 h) refl
+      pub legal_refused : (a.code ≡ 0 → ⊥) → false ≡ legal_from n s c (raws_at b i left)
+      unfolding legal_from
+      legal_refused h = rw (raws_at_more b i left more, among_here, ← done_here, ne_eqb a.code 0 h) refl
 
-      pub legal-goes-on : a.code ≡ 0
-          → legalFrom n a.session a.counts (rawsAt b (i + 6) (left - 1)) ≡ legalFrom n s c (rawsAt b i left)
-      unfolding legalFrom
-      legal-goes-on h = rw (rawsAt-more b i left more, among-here, ← done-here, eq-eqb a.code 0 h) refl
+      pub legal_goes_on : a.code ≡ 0
+          → legal_from n a.session a.counts (raws_at b (i + 6) (left - 1)) ≡ legal_from n s c (raws_at b i left)
+      unfolding legal_from
+      legal_goes_on h = rw (raws_at_more b i left more, among_here, ← done_here, eq-eqb a.code 0 h) refl
 
 -- ---- the number of the given list, from a fresh session
 
-module _ (n m : ℕ) (b : List ℕ) (ok : refusal (firstTests n m b) ≡ 0) (s : Session) (fresh : s ≡ opened n (window n)) where
-  pub given_yes : true ≡ legalFrom n s noCounts (givenList m b) → 0 ≡ refusal (givenTests n m b)
+module _ (n m : ℕ) (b : List ℕ) (ok : refusal (first_tests n m b) ≡ 0) (s : Session) (fresh : s ≡ opened n (window n)) where
+  pub given_yes : true ≡ legal_from n s no_counts (given_list m b) → 0 ≡ refusal (given_tests n m b)
   given_yes h =
-      let yes : legal n (givenList m b) ≡ true = legal-from n (givenList m b) ∙ sym (rw fresh at h) in
-      sym (given-legal n m b ok ∙ rw yes refl)
+      let yes : legal n (given_list m b) ≡ true = legal_from_law n (given_list m b) ∙ sym (rw fresh at h) in
+      sym (given_legal n m b ok ∙ rw yes refl)
 
-  pub given-no : false ≡ legalFrom n s noCounts (givenList m b) → illegalList ≡ refusal (givenTests n m b)
-  given-no h =
-      let no : legal n (givenList m b) ≡ false = legal-from n (givenList m b) ∙ sym (rw fresh at h) in
-      sym (given-legal n m b ok ∙ rw no refl)
+  pub given_no : false ≡ legal_from n s no_counts (given_list m b) → illegal_list ≡ refusal (given_tests n m b)
+  given_no h =
+      let no : legal n (given_list m b) ≡ false = legal_from_law n (given_list m b) ∙ sym (rw fresh at h) in
+      sym (given_legal n m b ok ∙ rw no refl)

@@ -1,8 +1,8 @@
 // The tests of the calls for short lists (02, wish 12): those of both calls, and whether the given list is legal.
 ghost use Rattle.std.specs.Prelude.{◌≡◌};
 ghost use Rattle.model.specs.Refusal.{refusal};
-ghost use Rattle.model_short.specs.Calls.{rawsAt, firstTests, givenTests};
-ghost use Rattle.model_short_laws.specs.Choosing.{legalFrom};
+ghost use Rattle.model_short.specs.Calls.{raws_at, first_tests, given_tests};
+ghost use Rattle.model_short_laws.specs.Choosing.{legal_from};
 ghost use Rattle.model_short_laws.specs.Machine.{SearchReady};
 
 use model::numbers::{BAD_BUFFER, BAD_CUTS, BAD_PROCESS_COUNT, ILLEGAL_LIST};
@@ -10,7 +10,7 @@ use model::{Counts, Session};
 
 // "1 for a seat count other than 1 or 2, 17 for a length over 6, 15 for a buffer not 6 times the length".
 pub fn call_refusal(n: usize, length: usize, buffer: &[u8]) -> u32
-    ensures { result ≡ refusal (firstTests n length buffer.now) }
+    ensures { result ≡ refusal (first_tests n length buffer.now) }
 {
     if n < 1 {
         return BAD_PROCESS_COUNT;
@@ -30,7 +30,7 @@ pub fn call_refusal(n: usize, length: usize, buffer: &[u8]) -> u32
 // Whether the entries at an offset, as many as told, are legal in session s.
 fn legal(n: u8, left: usize, at: usize, s: Session, c: Counts, buffer: &[u8]) -> bool
     requires { SearchReady n left at s }
-    ensures { result ≡ legalFrom n s c (rawsAt buffer.now at left) }
+    ensures { result ≡ legal_from n s c (raws_at buffer.now at left) }
 {
     if left == 0 {
         return true;
@@ -50,7 +50,7 @@ fn legal(n: u8, left: usize, at: usize, s: Session, c: Counts, buffer: &[u8]) ->
 
 // Then 20, "the given list is not legal": from "a fresh session", "with L at its least".
 pub fn given_refusal(n: usize, length: usize, buffer: &[u8]) -> u32
-    ensures { result ≡ refusal (givenTests n length buffer.now) }
+    ensures { result ≡ refusal (given_tests n length buffer.now) }
 {
     let code = call_refusal(n, length, buffer);
     if code != 0 {

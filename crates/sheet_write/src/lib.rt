@@ -1,8 +1,8 @@
 // Writing a sheet (02, wish 3: the writer).
 ghost use Rattle.std.specs.Prelude.{◌≡◌, ◌+◌, ◌*◌, ◌≤◌, length};
 ghost use Rattle.std.proofs.lemmas.List.Edits.{sets};
-ghost use Rattle.model.specs.Board.{limitsOf};
-ghost use Rattle.model_write.specs.Write.{laidOut, pairBytes, total, wrote, writeResult};
+ghost use Rattle.model.specs.Board.{limits_of};
+ghost use Rattle.model_write.specs.Write.{laid_out, pair_bytes, total, wrote, write_result};
 
 use model::{Caller, CountAnswer};
 
@@ -11,7 +11,7 @@ fn put_pairs(lengths: &[usize], sheet: &mut [u8])
     requires lengths_len_bound { length lengths.now ≤ 16 }
     requires lengths_bound { 4 + 4 * length lengths.now + 6 * total lengths.now ≤ 65535 }
     ensures { sheet.new
-        ≡ sets sheet.old 4 (pairBytes (laidOut (4 + 4 * length lengths.now) lengths.now)) }
+        ≡ sets sheet.old 4 (pair_bytes (laid_out (4 + 4 * length lengths.now) lengths.now)) }
 {
     let mut from = 4 + 4 * lengths.len();
     let mut i: usize = 0;
@@ -47,7 +47,7 @@ pub fn write(
     sheet: &mut [u8],
 ) -> CountAnswer
     ensures { wrote result sheet.new
-        ≡ writeResult (limitsOf caller) n limit entries.now lengths.now sheet.old }
+        ≡ write_result (limits_of caller) n limit entries.now lengths.now sheet.old }
 {
     let code = sheet_write_refusal::write_refusal(caller, n, limit, entries, lengths, sheet.len());
     if code != 0 {

@@ -1,9 +1,9 @@
 // The refusal of what is to be written as a sheet. 02, wish 3: "Order: 1, 2, 12 for the entry buffer, 17, 13, then 15 if the output is too
 // short."
 ghost use Rattle.std.specs.Prelude.{◌≡◌, ◌&&◌, ◌+◌, ◌*◌, ◌/◌, min, length, leb, eqb};
-ghost use Rattle.model.specs.Board.{limitsOf};
+ghost use Rattle.model.specs.Board.{limits_of};
 ghost use Rattle.model.specs.Sheet.{entries_at};
-ghost use Rattle.model_write.specs.Write.{total, wellFormed, writeRefusal};
+ghost use Rattle.model_write.specs.Write.{total, well_formed as well_formed_of, write_refusal as write_refusal_of};
 
 use model::Caller;
 use model::numbers::{BAD_BUFFER, BAD_CUTS, BAD_ENTRY, BAD_RUN};
@@ -44,7 +44,7 @@ fn writable(size: usize, lengths: &[usize]) -> bool
 
 // 01, 13: "entry with an unknown kind or a wrong value": whether none of the first 10,922 entries is such a one. (No sheet has more.)
 fn well_formed(entries: &[u8]) -> bool
-    ensures { result ≡ wellFormed (entries_at entries.now 0 (min (length entries.now / 6) 10922)) }
+    ensures { result ≡ well_formed_of (entries_at entries.now 0 (min (length entries.now / 6) 10922)) }
 {
     let whole = entries.len() / 6;
     let count = if whole < 10922 { whole } else { 10922 };
@@ -76,7 +76,7 @@ pub fn write_refusal(
     lengths: &[usize],
     room: usize,
 ) -> u32
-    ensures { result ≡ writeRefusal (limitsOf caller) n limit entries.now lengths.now room }
+    ensures { result ≡ write_refusal_of (limits_of caller) n limit entries.now lengths.now room }
 {
     let opening = session_open::open_refusal(caller, n, limit);
     if opening != 0 {

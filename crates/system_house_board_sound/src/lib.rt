@@ -2,13 +2,13 @@
 ghost use Rattle.std.specs.Prelude.{◌≡◌, length, leb};
 ghost use Rattle.model.specs.declared.Process.{Process as ProcessOf};
 ghost use Rattle.model.specs.Sound.{every};
-ghost use Rattle.model_house.specs.Sound.{soundWard, soundVote};
+ghost use Rattle.model_house.specs.Sound.{sound_ward, sound_vote};
 
 use model::Session;
 
 // 02, wish 11: "a session .. unsound, closed or of another size".
 pub fn ward_sound(seats: usize, s: Session) -> bool
-    ensures { result ≡ soundWard seats s }
+    ensures { result ≡ sound_ward seats s }
 {
     (s.n == seats) & (s.limit == 64) & !s.closed & session_sound::sound(s)
 }
@@ -51,7 +51,7 @@ fn estimates_low(s: Session, c: usize) -> bool
 
 // 02, wish 11: "a .. poll unsound, closed or of another size, a poll number above c".
 pub fn vote_sound(n: usize, c: usize, s: Session) -> bool
-    ensures { result ≡ soundVote n c s }
+    ensures { result ≡ sound_vote n c s }
 {
     if !((s.n == n) & session_sound::sound_as(true, s)) {
         return false;

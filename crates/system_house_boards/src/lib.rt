@@ -1,16 +1,16 @@
 // The turns of a worker in its ward's session and in the poll of its outer round (document 02, wish 11), on what a turn can read and
 // change. A session or poll that is not sound is left as it is, and so is all else.
 ghost use Rattle.std.specs.Prelude.{◌≡◌, cond};
-ghost use Rattle.model.specs.Sound.{sound, soundPoll};
+ghost use Rattle.model.specs.Sound.{sound, sound_poll};
 ghost use Rattle.model_poll.specs.Machine.{proposes, turns};
-ghost use Rattle.model_house.specs.Turn.{inWard, inPoll};
+ghost use Rattle.model_house.specs.Turn.{in_ward as in_ward_of, in_poll};
 
 use model::Operation;
 use model_house::View;
 
 // An operation of the ward's session.
 pub fn in_ward(v: View, o: Operation) -> View
-    ensures { result ≡ cond (sound v.session) (inWard v o) v }
+    ensures { result ≡ cond (sound v.session) (in_ward_of v o) v }
 {
     let session = v.session;
     let counts = v.counts;
@@ -25,7 +25,7 @@ pub fn in_ward(v: View, o: Operation) -> View
 
 // A proposal of w to the poll by process p.
 pub fn propose_poll(v: View, p: usize, w: u32) -> View
-    ensures { result ≡ cond (soundPoll v.poll) (inPoll v (proposes p w)) v }
+    ensures { result ≡ cond (sound_poll v.poll) (in_poll v (proposes p w)) v }
 {
     let poll = v.poll;
     let a = poll_change::propose(poll, p, w);
@@ -37,7 +37,7 @@ pub fn propose_poll(v: View, p: usize, w: u32) -> View
 
 // A turn of the poll by process p.
 pub fn step_poll(v: View, p: usize) -> View
-    ensures { result ≡ cond (soundPoll v.poll) (inPoll v (turns p)) v }
+    ensures { result ≡ cond (sound_poll v.poll) (in_poll v (turns p)) v }
 {
     let poll = v.poll;
     let counts = v.counts;

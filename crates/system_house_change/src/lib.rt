@@ -1,8 +1,8 @@
 // Proposals, house looks and crashes of a house's workers (document 02, wish 11). They make their tests in their order, and change the
 // house where it stands if none of them refuses.
 ghost use Rattle.std.specs.Prelude.{◌≡◌};
-ghost use Rattle.model_house.specs.Machine.{houseLearnt};
-ghost use Rattle.model_house.specs.Public.{housePropose, houseLearn, houseCrash};
+ghost use Rattle.model_house.specs.Machine.{house_learnt};
+ghost use Rattle.model_house.specs.Public.{house_propose, house_learn, house_crash};
 
 use model::{Access, Counts};
 use model_house::{House, HouseChanged, HouseStepped, Place, Stance, Worker};
@@ -10,7 +10,7 @@ use model_house::{House, HouseChanged, HouseStepped, Place, Stance, Worker};
 // 3, 4, 5, 6; then worker p holds v, and its next turn is the first of outer round 1. i is p wherever a call is accepted, here and below:
 // where it is not, the tests refuse.
 pub fn propose(h: House, p: usize, v: u32) -> HouseChanged
-    ensures { result ≡ housePropose h p v }
+    ensures { result ≡ house_propose h p v }
 {
     let i = p % 16;
     let q = h.workers[i];
@@ -34,7 +34,7 @@ pub fn propose(h: House, p: usize, v: u32) -> HouseChanged
 // 02, wish 11: "A crash or house look changes no ward or poll seat." 3, 4, 7, 8; then worker p is crashed, and its outer round and value
 // stay.
 pub fn crash(h: House, p: usize) -> HouseChanged
-    ensures { result ≡ houseCrash h p }
+    ensures { result ≡ house_crash h p }
 {
     let i = p % 16;
     let q = h.workers[i];
@@ -57,7 +57,7 @@ pub fn crash(h: House, p: usize) -> HouseChanged
 
 // 02, wish 11: "A house look at the house register .. ends it as decided if filled", with the number found, x.
 fn learnt(q: Worker, x: u32) -> Worker
-    ensures { result ≡ houseLearnt q x }
+    ensures { result ≡ house_learnt q x }
 {
     if x == 0 {
         return q;
@@ -72,7 +72,7 @@ fn learnt(q: Worker, x: u32) -> Worker
 // 02, wish 11: a house look, "taken instead of a turn by a working or spent worker". 3, 4, 7, 8, 16; then one read, of the house's decision
 // register.
 pub fn learn(h: House, p: usize, c: Counts) -> HouseStepped
-    ensures { result ≡ houseLearn h p c }
+    ensures { result ≡ house_learn h p c }
 {
     let i = p % 16;
     let q = h.workers[i];

@@ -2,7 +2,7 @@
 use Rattle.base.specs.Prelude.{refl}
 use Rattle.model_house.specs.declared.HouseStepped.{HouseStepped}
 use Rattle.model_house.specs.declared.HouseChanged.{HouseChanged}
-use Rattle.model_house.specs.Public.{withoutHouseCounts}
+use Rattle.model_house.specs.Public.{without_house_counts}
 use Rattle.model_house.specs.contracts.House as Ho
 use Rattle.model_house.proofs.House.TheLaws as Ho'
 use Rattle.model_house.specs.contracts.HouseStepped as St
@@ -28,7 +28,7 @@ houses = record {
   R-code = λ x. x.code;
   R-subject = λ x. x.house;
   R-one = (Ch.the_type).to_one;
-  rest = withoutHouseCounts;
+  rest = without_house_counts;
   same_code = λ x. refl;
-  same-subject = λ x. refl;
+  same_subject = λ x. refl;
 }

@@ -1,15 +1,15 @@
 // Opening a house (document 02, wish 11).
 ghost use Rattle.std.specs.Prelude.{◌≤◌, ◌-◌, ◌≡◌, ◌++◌, length, replicate};
 ghost use Rattle.model.specs.Refusal.{refusal};
-ghost use Rattle.model_house.specs.House.{maxWorkers, houseOpenTests, openedHouse, houseOpening};
+ghost use Rattle.model_house.specs.House.{max_workers, house_open_tests, opened_house, house_opening};
 
 use model::numbers::{BAD_PROCESS_COUNT, BAD_WARDS};
 use model_house::{House, HouseChanged, Row, Stance, Table, Worker};
 
 // The wards of at most 16 workers, with room for 16.
 fn padded(wards: &[u8]) -> [u8; 16]
-    requires { length wards.now ≤ maxWorkers }
-    ensures { result ≡ wards.now ++ replicate (maxWorkers - length wards.now) 0 }
+    requires { length wards.now ≤ max_workers }
+    ensures { result ≡ wards.now ++ replicate (max_workers - length wards.now) 0 }
 {
     let mut all = [0u8; 16];
     let mut i = 0;
@@ -23,7 +23,7 @@ fn padded(wards: &[u8]) -> [u8; 16]
 // 02, wish 11: "New 19: c not 1 to 4, over 16 workers, a worker's ward not 1 to c, or an empty ward; at opening, after 1 by the server's
 // limits." 0 for no refusal.
 fn open_refusal(c: usize, wards: &[u8]) -> u32
-    ensures { result ≡ refusal (houseOpenTests c wards.now) }
+    ensures { result ≡ refusal (house_open_tests c wards.now) }
 {
     let n = wards.len();
     if !((1 <= n) & (n <= 64)) {
@@ -40,8 +40,8 @@ fn open_refusal(c: usize, wards: &[u8]) -> u32
 
 // A house just opened: every session and poll is, table and decision register are blank, no worker has proposed.
 fn opened(c: usize, wards: &[u8]) -> House
-    requires { length wards.now ≤ maxWorkers }
-    ensures { result ≡ openedHouse c wards.now }
+    requires { length wards.now ≤ max_workers }
+    ensures { result ≡ opened_house c wards.now }
 {
     let n = wards.len();
     let all = padded(wards);
@@ -73,7 +73,7 @@ fn opened(c: usize, wards: &[u8]) -> House
 
 // The wards of the workers are given in number order. 1, 19. Refused, the answer holds the house of no worker.
 pub fn open(c: usize, wards: &[u8]) -> HouseChanged
-    ensures { result ≡ houseOpening c wards.now }
+    ensures { result ≡ house_opening c wards.now }
 {
     let code = open_refusal(c, wards);
     if code != 0 {

@@ -1,12 +1,12 @@
 // Functions of a worker's record, a seat's record, and whether a worker's seats are as its next turn needs (document 02, wish 11).
 ghost use Rattle.std.specs.Prelude.{◌-◌, ◌≡◌};
-ghost use Rattle.model.specs.Board.{processAt};
-ghost use Rattle.model.specs.Refusal.{status as statusOf, isOutside, isActive, isDecided};
-ghost use Rattle.model_poll.specs.Turn.{answer_of, isAnswered, isCommitted};
-ghost use Rattle.model_house.specs.House.{wardSeats};
-ghost use Rattle.model_house.specs.Machine.{phaseOf};
-ghost use Rattle.model_house.specs.Sound.{seatsFit};
-ghost use Rattle.model_house_laws.specs.Sounds.{numbersSound};
+ghost use Rattle.model.specs.Board.{process_at};
+ghost use Rattle.model.specs.Refusal.{status as status_of, is_outside as is_outside_of, is_active as is_active_of, is_decided as is_decided_of};
+ghost use Rattle.model_poll.specs.Turn.{answer_of, is_answered as is_answered_of, is_committed as is_committed_of};
+ghost use Rattle.model_house.specs.House.{ward_seats as ward_seats_of};
+ghost use Rattle.model_house.specs.Machine.{phase_of as phase_for};
+ghost use Rattle.model_house.specs.Sound.{seats_fit as seats_fit_of};
+ghost use Rattle.model_house_laws.specs.Sounds.{numbers_sound as numbers_sound_of};
 
 use model::{Phase, Process, Session, Status};
 use model_house::{Place, Stance, Worker};
@@ -14,7 +14,7 @@ use model_poll::Answer;
 
 // 02, wish 11: "Seat refusals 4 to 9 and 16 keep their order": the phase that has a worker's stance in a session.
 pub fn phase_of(stance: Stance) -> Phase
-    ensures { result ≡ phaseOf stance }
+    ensures { result ≡ phase_for stance }
 {
     match stance {
         Stance::Idle => Phase::Idle,
@@ -27,7 +27,7 @@ pub fn phase_of(stance: Stance) -> Phase
 
 // The record of process p. Past the end there is none, and one that is out stands for it.
 pub fn seat(s: Session, p: usize) -> Process
-    ensures { result ≡ processAt s p }
+    ensures { result ≡ process_at s p }
 {
     if p < 64 {
         return s.processes[p];
@@ -48,13 +48,13 @@ fn less(a: usize, b: usize) -> usize
 
 // 02, wish 11: "A ward session has n - c + 1 seats".
 pub fn ward_seats(n: usize, c: usize) -> usize
-    ensures { result ≡ wardSeats n c }
+    ensures { result ≡ ward_seats_of n c }
 {
     less(n, less(c, 1))
 }
 
 fn is_outside(phase: Phase) -> bool
-    ensures { result ≡ isOutside (statusOf phase) }
+    ensures { result ≡ is_outside_of (status_of phase) }
 {
     match part_status::status(phase) {
         Status::Outside => true,
@@ -65,7 +65,7 @@ fn is_outside(phase: Phase) -> bool
 }
 
 fn is_active(phase: Phase) -> bool
-    ensures { result ≡ isActive (statusOf phase) }
+    ensures { result ≡ is_active_of (status_of phase) }
 {
     match part_status::status(phase) {
         Status::Outside => false,
@@ -77,14 +77,14 @@ fn is_active(phase: Phase) -> bool
 
 // 02, wish 11: "an outer round not 1 to 8, a proposed worker without a value".
 pub fn numbers_sound(q: Worker) -> bool
-    ensures { result ≡ numbersSound q }
+    ensures { result ≡ numbers_sound_of q }
 {
     let stance = q.stance;
     (1 <= q.outer) & (q.outer <= 8) & (is_outside(phase_of(stance)) | (0 < q.value))
 }
 
 fn is_decided(phase: Phase) -> bool
-    ensures { result ≡ isDecided phase }
+    ensures { result ≡ is_decided_of phase }
 {
     match phase {
         Phase::Idle => false,
@@ -106,7 +106,7 @@ fn is_decided(phase: Phase) -> bool
 }
 
 fn is_answered(q: Process) -> bool
-    ensures { result ≡ isAnswered (answer_of q) }
+    ensures { result ≡ is_answered_of (answer_of q) }
 {
     match part_poll::answer(q) {
         Answer::Pending => false,
@@ -116,7 +116,7 @@ fn is_answered(q: Process) -> bool
 }
 
 fn is_committed(q: Process) -> bool
-    ensures { result ≡ isCommitted (answer_of q) }
+    ensures { result ≡ is_committed_of (answer_of q) }
 {
     match part_poll::answer(q) {
         Answer::Pending => false,
@@ -126,7 +126,7 @@ fn is_committed(q: Process) -> bool
 }
 
 fn place_fits(place: Place, a: Process, b: Process) -> bool
-    ensures { result ≡ seatsFit (Stance.Working place) a b }
+    ensures { result ≡ seats_fit_of (Stance.Working place) a b }
 {
     let ward = a.phase;
     let poll = b.phase;
@@ -145,7 +145,7 @@ fn place_fits(place: Place, a: Process, b: Process) -> bool
 // 02, wish 11: "a seat not out, working, decided or answered (committed, before a house write) as a working worker's next turn needs". a is
 // the worker's seat in its ward's session, b its seat in the poll.
 pub fn seats_fit(stance: Stance, a: Process, b: Process) -> bool
-    ensures { result ≡ seatsFit stance a b }
+    ensures { result ≡ seats_fit_of stance a b }
 {
     match stance {
         Stance::Idle => true,

@@ -4,7 +4,7 @@ ghost use Rattle.std.specs.Prelude.{ℕ, ◌≡◌, Bool, cond};
 ghost use Rattle.model.specs.Refusal.{full as full_of};
 ghost use Rattle.model_poll.specs.Turn.{answer_of};
 ghost use Rattle.model_house.specs.House.{table_at};
-ghost use Rattle.model_house.specs.Turn.{roundOver, taken, afterRead, turnAt};
+ghost use Rattle.model_house.specs.Turn.{round_over as round_over_of, taken, after_read as after_read_of, turn_at};
 
 use model::{Access, Process};
 use model_house::{Place, Stance, Table, View, Worker};
@@ -14,7 +14,7 @@ use system_house_parts::seat;
 
 // "Either way the next outer round follows"; "a worker becomes spent in the turn that ends outer round 8".
 fn round_over(outer: usize, value: u32) -> Worker
-    ensures { result ≡ roundOver outer value }
+    ensures { result ≡ round_over_of outer value }
 {
     if outer < 8 {
         return Worker {
@@ -40,7 +40,7 @@ fn value_read(t: Table, q: Worker, u: u32) -> u32
 
 // "Committed, it then writes the house's own decision register; either way the next outer round follows."
 fn after_read(t: Table, q: Worker, seat: Process) -> Worker
-    ensures { result ≡ afterRead t q (answer_of seat) }
+    ensures { result ≡ after_read_of t q (answer_of seat) }
 {
     match part_poll::answer(seat) {
         Answer::Pending => q,
@@ -61,7 +61,7 @@ fn after_read(t: Table, q: Worker, seat: Process) -> Worker
 
 // It "writes the decision to the table": the number that its ward seat s holds, at its ward w.
 pub fn write_table(v: View, w: usize, s: usize) -> View
-    ensures { (p : ℕ) (hint : Bool) → result ≡ cond (full_of v.counts) v (turnAt p w s hint Place.WriteTable v) }
+    ensures { (p : ℕ) (hint : Bool) → result ≡ cond (full_of v.counts) v (turn_at p w s hint Place.WriteTable v) }
 {
     let counts = v.counts;
     if full(counts) {
@@ -85,7 +85,7 @@ pub fn write_table(v: View, w: usize, s: usize) -> View
 
 // It "reads the table at the answer's ward": the answer of its poll seat p.
 pub fn read_table(v: View, p: usize) -> View
-    ensures { (w s : ℕ) (hint : Bool) → result ≡ cond (full_of v.counts) v (turnAt p w s hint Place.ReadTable v) }
+    ensures { (w s : ℕ) (hint : Bool) → result ≡ cond (full_of v.counts) v (turn_at p w s hint Place.ReadTable v) }
 {
     let counts = v.counts;
     if full(counts) {
@@ -102,7 +102,7 @@ pub fn read_table(v: View, p: usize) -> View
 
 // It "writes the house's own decision register": its value.
 pub fn write_house(v: View) -> View
-    ensures { (p w s : ℕ) (hint : Bool) → result ≡ cond (full_of v.counts) v (turnAt p w s hint Place.WriteHouse v) }
+    ensures { (p w s : ℕ) (hint : Bool) → result ≡ cond (full_of v.counts) v (turn_at p w s hint Place.WriteHouse v) }
 {
     let counts = v.counts;
     if full(counts) {

@@ -1,7 +1,7 @@
 // When a house is sound (document 02, wish 11): the test that every call on a house makes first.
 ghost use Rattle.std.specs.Prelude.{◌≤◌, ◌*◌, true, ◌≡◌, get_or};
-ghost use Rattle.model_house.specs.House.{outerRounds, all_below, noSession};
-ghost use Rattle.model_house.specs.Sound.{soundWard, soundVote, soundWards, soundWorker, soundHouse};
+ghost use Rattle.model_house.specs.House.{outer_rounds, all_below, no_session};
+ghost use Rattle.model_house.specs.Sound.{sound_ward, sound_vote, sound_wards, sound_worker, sound_house};
 
 use model::Session;
 use model_house::House;
@@ -9,7 +9,7 @@ use model_house::House;
 // 02, wish 11: "a session .. unsound, closed or of another size", of those of wards 1 to c.
 fn sessions_sound(c: usize, seats: usize, sessions: [Session; 32]) -> bool
     requires { c ≤ 4 }
-    ensures { result ≡ all_below (outerRounds * c) (λ i. soundWard seats (get_or sessions i noSession)) }
+    ensures { result ≡ all_below (outer_rounds * c) (λ i. sound_ward seats (get_or sessions i no_session)) }
 {
     let last = 8 * c;
     let mut i = 0;
@@ -25,7 +25,7 @@ fn sessions_sound(c: usize, seats: usize, sessions: [Session; 32]) -> bool
 
 // 02, wish 11: "a .. poll unsound, closed or of another size, a poll number above c".
 fn polls_sound(n: usize, c: usize, polls: [Session; 8]) -> bool
-    ensures { result ≡ all_below outerRounds (λ i. soundVote n c (get_or polls i noSession)) }
+    ensures { result ≡ all_below outer_rounds (λ i. sound_vote n c (get_or polls i no_session)) }
 {
     let mut i = 0;
     while i < 8 {
@@ -46,8 +46,8 @@ fn wide(x: u8) -> usize
 
 // 02, wish 11: "an outer round not 1 to 8, a proposed worker without a value, or a seat not .. as a working worker's next turn needs".
 fn workers_sound(h: House) -> bool
-    requires { soundWards h ≡ true }
-    ensures { result ≡ all_below h.n (soundWorker h) }
+    requires { sound_wards h ≡ true }
+    ensures { result ≡ all_below h.n (sound_worker h) }
 {
     let n = h.n;
     let wards = h.wards;
@@ -77,7 +77,7 @@ fn workers_sound(h: House) -> bool
 
 // The wards, the sessions of wards 1 to c, the polls, and the workers, each with the seats that its next turn needs.
 pub fn sound(h: House) -> bool
-    ensures { result ≡ soundHouse h }
+    ensures { result ≡ sound_house h }
 {
     let n = h.n;
     let c = h.c;

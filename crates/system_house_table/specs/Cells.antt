@@ -3,19 +3,19 @@ use Rattle.std.proofs.lemmas.Simd.{map-map}
 use Rattle.std.proofs.Common.{map-id}
 use Rattle.std.proofs.Math.ListN.{get_or-map}
 use Rattle.base.specs.Prelude.{ℕ, suc, zero, ◌+◌, ◌-◌, arith, ◌≡◌, refl, sym, List, [], ◌∷◌, map, length, get_or, set}
-use Rattle.base.specs.Prelude.{drop, drop-cons, drop_of_length-le}
+use Rattle.base.specs.Prelude.{drop, drop-cons, drop_of_length_le}
 use Rattle.model_house.specs.declared.Row.{Row}
 use Rattle.model_house.specs.declared.Table.{Table}
-use Rattle.model_house.specs.House.{no_row, table_at, withEntry}
+use Rattle.model_house.specs.House.{no_row, table_at, with_entry}
 
-abbrev pub entriesIn : Row → List ℕ
-entriesIn r = r.entries
+abbrev pub entries_in : Row → List ℕ
+entries_in r = r.entries
 
 abbrev made : List ℕ → Row
 made e = record { entries = e }
 
 abbrev pub cells_of : Table → List (List ℕ)
-cells_of t = map entriesIn t.rows
+cells_of t = map entries_in t.rows
 
 abbrev pub table_of : List (List ℕ) → Table
 table_of cells = record { rows = map made cells }
@@ -27,23 +27,23 @@ module _ {A : Type 0} (l : List A) (d : A) where
   listed i zero = []
   listed i (suc k) = get_or l i d ∷ listed (suc i) k
 
-  listed-drop : (i k : ℕ) → length l ≡ i + k → listed i k ≡ drop i l
-  listed-drop i zero size = sym (drop_of_length-le l {i = i} (omega arith))
-  listed-drop i (suc k) size = rw (listed-drop (suc i) k (omega arith), drop-cons l i d (omega arith))
+  listed_drop : (i k : ℕ) → length l ≡ i + k → listed i k ≡ drop i l
+  listed_drop i zero size = sym (drop_of_length_le l {i = i} (omega arith))
+  listed_drop i (suc k) size = rw (listed_drop (suc i) k (omega arith), drop-cons l i d (omega arith))
 
   pub eight : length l ≡ 8 → listed 0 8 ≡ l
-  eight size = listed-drop 0 8 size
+  eight size = listed_drop 0 8 size
 
 -- ---- an entry, and another one stored
 
-map-set : {A B : Type 0} (f : A → B) (l : List A) (i : ℕ) (x : A) → map f (set l i x) ≡ set (map f l) i (f x)
-map-set f [] i x = refl
-map-set f (y ∷ l) zero x = refl
-map-set f (y ∷ l) (suc i) x = rw (map-set f l i x)
+map_set : {A B : Type 0} (f : A → B) (l : List A) (i : ℕ) (x : A) → map f (set l i x) ≡ set (map f l) i (f x)
+map_set f [] i x = refl
+map_set f (y ∷ l) zero x = refl
+map_set f (y ∷ l) (suc i) x = rw (map_set f l i x)
 
 module _ (t : Table) (o w : ℕ) {cells : List (List ℕ)} {i j : ℕ} (ec : cells ≡ cells_of t) (ei : i ≡ o - 1) (ej : j ≡ w - 1) where
-  pub cell-is : get_or (get_or cells i []) j 0 ≡ table_at t o w
-  cell-is = rw (ec, ei, ej, get_or-map entriesIn t.rows (o - 1) no_row) refl
+  pub cell_is : get_or (get_or cells i []) j 0 ≡ table_at t o w
+  cell_is = rw (ec, ei, ej, get_or-map entries_in t.rows (o - 1) no_row) refl
 
-  pub written_is : (v : ℕ) → table_of (set cells i (set (get_or cells i []) j v)) ≡ withEntry t o w v
-  written_is v = rw (ec, ei, ej, get_or-map entriesIn t.rows (o - 1) no_row, map-set, map-map, map-id) refl
+  pub written_is : (v : ℕ) → table_of (set cells i (set (get_or cells i []) j v)) ≡ with_entry t o w v
+  written_is v = rw (ec, ei, ej, get_or-map entries_in t.rows (o - 1) no_row, map_set, map-map, map-id) refl

@@ -1,7 +1,7 @@
 // The value table (document 02, wish 11: "one row for each outer round and one entry per ward"), in the form that document 01 names: "An 8
 // by 4 array of arrays of u32 passed and returned by value by the ward-name machine." A struct cannot hold that, so a house keeps rows.
 ghost use Rattle.std.specs.Prelude.{◌-◌, ◌≡◌, [], get_or, set};
-ghost use Rattle.model_house.specs.House.{table_at, withEntry};
+ghost use Rattle.model_house.specs.House.{table_at, with_entry};
 ghost use Rattle.system_house_table.specs.Cells.{cells_of, table_of};
 
 use model_house::{Row, Table};
@@ -110,7 +110,7 @@ pub fn entry(t: Table, o: usize, w: usize) -> u32
 
 // The table with v there.
 pub fn written(t: Table, o: usize, w: usize, v: u32) -> Table
-    ensures { result ≡ withEntry t o w v }
+    ensures { result ≡ with_entry t o w v }
 {
     table(with_cell(cells(t), prior(o), prior(w), v))
 }

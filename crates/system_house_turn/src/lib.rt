@@ -1,7 +1,7 @@
 // A turn of a worker of a house (document 02, wish 11), with the counts by value. It makes its tests in their order, and changes the house
 // if none of them refuses. (`system_house_lent` has it with the counts lent.)
 ghost use Rattle.std.specs.Prelude.{◌≡◌};
-ghost use Rattle.model_house.specs.Public.{houseTurn};
+ghost use Rattle.model_house.specs.Public.{house_turn};
 
 use model::Counts;
 use model_house::{House, HouseStepped, View};
@@ -9,7 +9,7 @@ use model_house::{House, HouseStepped, View};
 // 3, 4, 7, 8, 9, 16; then one turn of worker p, on what it can read and change. i is p wherever the call is accepted: where it is not, the
 // tests refuse.
 pub fn turn(h: House, p: usize, hint: bool, c: Counts) -> HouseStepped
-    ensures { result ≡ houseTurn h p hint c }
+    ensures { result ≡ house_turn h p hint c }
 {
     let i = p % 16;
     let q = h.workers[i];

@@ -1,8 +1,8 @@
 // A turn of a worker (document 02, wish 11), on what the turn can read and change, by the worker's place.
 ghost use Rattle.std.specs.Prelude.{◌≡◌, true, cond};
-ghost use Rattle.model_house.specs.Turn.{stands as standsOf, afterStep, afterLearn, afterPoll, turnAt};
-ghost use Rattle.model_house.specs.Machine.{turnBy};
-ghost use Rattle.model_house_laws.specs.Views.{viewFits};
+ghost use Rattle.model_house.specs.Turn.{stands as stands_of, after_step as after_step_of, after_learn as after_learn_of, after_poll as after_poll_of, turn_at as turn_at_of};
+ghost use Rattle.model_house.specs.Machine.{turn_by};
+ghost use Rattle.model_house_laws.specs.Views.{view_fits};
 
 use model::{Operation, Process, Status};
 use model_house::{Place, Stance, View, Worker};
@@ -13,7 +13,7 @@ use system_house_registers::{read_table, write_house, write_table};
 
 // "Works and looks until decided." A worker "becomes spent in the turn that .. makes its ward seat spent".
 fn after_step(q: Process) -> Stance
-    ensures { result ≡ afterStep q }
+    ensures { result ≡ after_step_of q }
 {
     let phase = q.phase;
     match part_status::status(phase) {
@@ -26,7 +26,7 @@ fn after_step(q: Process) -> Stance
 
 // Decided, its seat is as the table write needs it.
 fn after_learn(q: Process) -> Stance
-    ensures { result ≡ afterLearn q }
+    ensures { result ≡ after_learn_of q }
 {
     let next = Stance::Working(Place::WriteTable);
     if seats_fit(next, q, q) {
@@ -37,7 +37,7 @@ fn after_learn(q: Process) -> Stance
 
 // It polls until the poll answers it: until its seat is as the table read needs it.
 fn after_poll(q: Process) -> Stance
-    ensures { result ≡ afterPoll q }
+    ensures { result ≡ after_poll_of q }
 {
     let next = Stance::Working(Place::ReadTable);
     if seats_fit(next, q, q) {
@@ -48,7 +48,7 @@ fn after_poll(q: Process) -> Stance
 
 // The view with another stance in the worker's record.
 fn stands(v: View, stance: Stance) -> View
-    ensures { result ≡ standsOf v stance }
+    ensures { result ≡ stands_of v stance }
 {
     let q = v.worker;
     let worker = Worker {
@@ -61,10 +61,10 @@ fn stands(v: View, stance: Stance) -> View
     left
 }
 
-// The turn at each place, clause by clause as `turnAt` has it.
+// The turn at each place, clause by clause as `turn_at` has it.
 fn turn_at(v: View, p: usize, w: u8, s: usize, hint: bool, place: Place) -> View
-    requires { viewFits v ≡ true }
-    ensures { result ≡ turnAt p w s hint place v }
+    requires { view_fits v ≡ true }
+    ensures { result ≡ turn_at_of p w s hint place v }
 {
     match place {
         Place::ProposeWard => {
@@ -99,7 +99,7 @@ fn turn_at(v: View, p: usize, w: u8, s: usize, hint: bool, place: Place) -> View
 
 // Whether a turn can be taken: the boards are sound, and a register operation can be counted.
 fn fits(v: View) -> bool
-    ensures { result ≡ viewFits v }
+    ensures { result ≡ view_fits v }
 {
     let session = v.session;
     let poll = v.poll;
@@ -110,7 +110,7 @@ fn fits(v: View) -> bool
 // The turn of worker p, of ward w, whose seat in its ward's session is s. A worker that does not work takes none; a view that does not fit
 // is left as it is.
 pub fn turn_view(v: View, p: usize, w: u8, s: usize, hint: bool) -> View
-    ensures { result ≡ cond (viewFits v) (turnBy p w s hint v.worker.stance v) v }
+    ensures { result ≡ cond (view_fits v) (turn_by p w s hint v.worker.stance v) v }
 {
     if !fits(v) {
         return v;

@@ -1,7 +1,7 @@
 // One public operation called many times over, for bench/run.sh. Standard input: a byte, the operation, and the number of calls, 32 bits,
 // low byte first. Standard output: a number that comes of the answers, so that no call can be left out.
 ghost use Rattle.std.specs.Prelude.{◌≡◌};
-ghost use Rattle.model.specs.Public.{step as step_of, learn as learnOf};
+ghost use Rattle.model.specs.Public.{step as step_of, learn as learn_of};
 
 use model::{Caller, Counts, Session};
 use session_crash::crash;
@@ -38,7 +38,7 @@ fn step(s: Session, p: usize, leader: bool, c: Counts) -> Session
 }
 
 fn learn(s: Session, p: usize, c: Counts) -> Session
-    ensures { result ≡ (learnOf s p c).session }
+    ensures { result ≡ (learn_of s p c).session }
 {
     let mut counts = c;
     let answer = session_step_lent::learn(s, p, &mut counts);

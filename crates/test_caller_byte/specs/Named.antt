@@ -3,5 +3,5 @@ use Rattle.std.specs.Prelude.{ℕ, cond, eqb}
 use Rattle.model.specs.declared.Caller.{Caller}
 use Rattle.model.specs.declared.Caller.TheVariants.{Server, Cart}
 
-abbrev pub callerOf : (byte : ℕ) → Caller
-callerOf b = cond (eqb b 0) Server Cart
+abbrev pub caller_of : (byte : ℕ) → Caller
+caller_of b = cond (eqb b 0) Server Cart

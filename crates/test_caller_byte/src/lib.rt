@@ -1,12 +1,12 @@
 // The caller that a byte names, for the programs of tests.
 ghost use Rattle.std.specs.Prelude.{◌≡◌};
-ghost use Rattle.test_caller_byte.specs.Named.{callerOf};
+ghost use Rattle.test_caller_byte.specs.Named.{caller_of as caller_for};
 
 use model::Caller;
 
 // 02, wish 9: "a call names only which of the two it is". Here by a byte: 0 the server, any other the cart.
 pub fn caller_of(named: u8) -> Caller
-    ensures { result ≡ callerOf named }
+    ensures { result ≡ caller_for named }
 {
     if named == 0 {
         Caller::Server

@@ -3,18 +3,18 @@
 ghost use Rattle.std.specs.Prelude.{◌≡◌};
 ghost use Rattle.model.specs.Machine.{opening};
 ghost use Rattle.model.specs.Runner.{run as run_of};
-ghost use Rattle.model_poll.specs.Machine.{pollOpening};
-ghost use Rattle.model_report.specs.Report.{reportOf};
-ghost use Rattle.model_report.specs.ReportExport.{textCode, textBuffer};
-ghost use Rattle.model_write.specs.WriteExport.{export_of, writeExport};
-ghost use Rattle.test_caller_byte.specs.Named.{callerOf};
+ghost use Rattle.model_poll.specs.Machine.{poll_opening};
+ghost use Rattle.model_report.specs.Report.{report_of};
+ghost use Rattle.model_report.specs.ReportExport.{text_code, text_buffer};
+ghost use Rattle.model_write.specs.WriteExport.{export_of, write_export};
+ghost use Rattle.test_caller_byte.specs.Named.{caller_of as caller_for};
 
 use test_caller_byte::caller_of;
 
 // Opens a session: the number.
 #[unsafe(no_mangle)]
 pub extern "C" fn caller_open(caller: u8, n: usize, limit: usize) -> u32
-    ensures { result ≡ (opening (callerOf caller) n limit).code }
+    ensures { result ≡ (opening (caller_for caller) n limit).code }
 {
     session_open::open(caller_of(caller), n, limit).code
 }
@@ -22,7 +22,7 @@ pub extern "C" fn caller_open(caller: u8, n: usize, limit: usize) -> u32
 // Opens a poll: the number.
 #[unsafe(no_mangle)]
 pub extern "C" fn caller_open_poll(caller: u8, n: usize) -> u32
-    ensures { result ≡ (pollOpening (callerOf caller) n).code }
+    ensures { result ≡ (poll_opening (caller_for caller) n).code }
 {
     poll_open::open(caller_of(caller), n).code
 }
@@ -30,9 +30,9 @@ pub extern "C" fn caller_open_poll(caller: u8, n: usize) -> u32
 // Runs a sheet under a budget, and writes the report's text of that run to the buffer, as `janus_report` does.
 #[unsafe(no_mangle)]
 pub extern "C" fn caller_report(caller: u8, sheet: &[u8], budget: usize, buffer: &mut [u8]) -> usize
-    ensures code { result ≡ textCode (reportOf (run_of (callerOf caller) sheet.now budget)) buffer.old }
+    ensures code { result ≡ text_code (report_of (run_of (caller_for caller) sheet.now budget)) buffer.old }
     ensures writes { buffer.new
-        ≡ textBuffer (reportOf (run_of (callerOf caller) sheet.now budget)) buffer.old }
+        ≡ text_buffer (report_of (run_of (caller_for caller) sheet.now budget)) buffer.old }
 {
     janus_report::put_report(sheet_run::run(caller_of(caller), sheet, budget), buffer)
 }
@@ -49,7 +49,7 @@ pub extern "C" fn caller_write(
     size: &mut usize,
 ) -> u32
     ensures { export_of result sheet.new size.new
-        ≡ writeExport (callerOf caller) n limit entries.now lengths.now sheet.old size.old }
+        ≡ write_export (caller_for caller) n limit entries.now lengths.now sheet.old size.old }
 {
     janus_written::write(caller_of(caller), n, limit, entries, lengths, sheet, size)
 }

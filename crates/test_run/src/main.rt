@@ -3,7 +3,7 @@
 // first, and then the sheet. Standard output, two lines: the C entry's number, the entries carried out, and the reads, the writes and the
 // contested writes; then the read-out's number, its count, and the numbers in the buffer's places after it.
 ghost use Rattle.std.specs.Prelude.{◌≡◌, ◌≤◌};
-ghost use Rattle.model.specs.Export.{endingCode};
+ghost use Rattle.model.specs.Export.{ending_code};
 
 use model::numbers::BUDGET_ENDED;
 use model::{Ending, Session};
@@ -11,7 +11,7 @@ use use_input::Input;
 
 // "0 for finished, 100 for budget ended, or the refusal."
 fn code(ending: Ending) -> u32
-    ensures { result ≡ endingCode ending }
+    ensures { result ≡ ending_code ending }
 {
     match ending {
         Ending::Finished => 0,

@@ -4,8 +4,8 @@ use Rattle.base.specs.Bools.{cond_cases}
 use Rattle.model_rule.specs.Event.{Event, proposal, write, flag, commit, decision, Past, Proposed, Written, Committed}
 use Rattle.model_rule.specs.Event.Past.{here, there}
 use Rattle.theory_board.specs.Epoch.{top, last, Wrote, Flagged, PassedBy}
-use Rattle.theory_board.specs.Past.{past-before, past-total, happened-past, in-cases}
-use Rattle.theory_board.specs.Registers.{top-le, wrote-round}
+use Rattle.theory_board.specs.Past.{past_before, past_total, happened_past, in_cases}
+use Rattle.theory_board.specs.Registers.{top_le, wrote_round}
 
 -- What a write of v to register r by process p rests on: p is one of the n, its earlier writes were in epochs below r, and it
 -- passed the round before r.
@@ -48,40 +48,40 @@ pub data Lawful (W n : ℕ) : List Event → Type 0 where
   also : {x : Event} {h : List Event} → Lawful W n h → EventLawful W n x h → Lawful W n (x ∷ h)
 
 -- Each event of a lawful past is lawful.
-pub lawful-at : {W n : ℕ} {x : Event} {b h : List Event} → Lawful W n h → Past (x ∷ b) h → EventLawful W n x b
-lawful-at (also l k) here = k
-lawful-at (also l k) (there q) = lawful-at l q
+pub lawful_at : {W n : ℕ} {x : Event} {b h : List Event} → Lawful W n h → Past (x ∷ b) h → EventLawful W n x b
+lawful_at (also l k) here = k
+lawful_at (also l k) (there q) = lawful_at l q
 
 -- A blank register is above the highest written round.
-pub blank-above : {W n : ℕ} {h : List Event} → Lawful W n h → (j : ℕ) → 1 ≤ j → last h j ≡ 0 → top h < j
-blank-above none j a z = a
-blank-above (also {x = proposal v} l k) j a z = blank-above l j a z
-blank-above (also {x = write p r v} {h = h} l k) j a z =
+pub blank_above : {W n : ℕ} {h : List Event} → Lawful W n h → (j : ℕ) → 1 ≤ j → last h j ≡ 0 → top h < j
+blank_above none j a z = a
+blank_above (also {x = proposal v} l k) j a z = blank_above l j a z
+blank_above (also {x = write p r v} {h = h} l k) j a z =
     cond_cases (λ (u : ℕ). u ≡ 0 → max r (top h) < j) (eqb r j)
     (λ t e. absurd (omega (arith, k.some)))
-    (λ t e. omega (arith, k.reached, eqb-false r j t, blank-above l j a e))
+    (λ t e. omega (arith, k.reached, eqb-false r j t, blank_above l j a e))
     z
-blank-above (also {x = flag i} l k) j a z = blank-above l j a z
-blank-above (also {x = commit r v} l k) j a z = blank-above l j a z
-blank-above (also {x = decision p v} l k) j a z = blank-above l j a z
+blank_above (also {x = flag i} l k) j a z = blank_above l j a z
+blank_above (also {x = commit r v} l k) j a z = blank_above l j a z
+blank_above (also {x = decision p v} l k) j a z = blank_above l j a z
 
 -- A commit stays lawful: a later flag is of no lower epoch.
-pub commit-lawful : {W n r v : ℕ} {h : List Event} → Lawful W n h → Committed r v h → CommitLawful W r v h
-commit-lawful l c =
-    let k = lawful-at l c.past in
-    let before = past-before c.past in
+pub commit_lawful : {W n r v : ℕ} {h : List Event} → Lawful W n h → Committed r v h → CommitLawful W r v h
+commit_lawful l c =
+    let k = lawful_at l c.past in
+    let before = past_before c.past in
     record {
       window = k.window;
-      written = (k.written.0, happened-past before k.written.1);
+      written = (k.written.0, happened_past before k.written.1);
       unflagged =
           λ j e low inside f.
-          elim (past-total f.past c.past) [
+          elim (past_total f.past c.past) [
             | inl older ↦
-                elim (in-cases (record { before = f.before; past = older; epoch = f.epoch })) [
+                elim (in_cases (record { before = f.before; past = older; epoch = f.epoch })) [
                   | inl same ↦ let z : ◌≡◌ {A = ℕ} 0 1 = cc in absurd (omega arith)
                   | inr flagged ↦ k.unflagged j e low inside flagged
                 ]
-            | inr newer ↦ omega (arith, f.epoch, top-le newer, wrote-round k.written.1)
+            | inr newer ↦ omega (arith, f.epoch, top_le newer, wrote_round k.written.1)
           ];
-      proposed = happened-past before k.proposed;
+      proposed = happened_past before k.proposed;
     }

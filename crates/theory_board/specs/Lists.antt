@@ -5,9 +5,9 @@ use Rattle.model_rule.specs.System.{System, Call, inputs, Run, none, call, machi
 
 module _ {State Input Answer Event : Type 0} (M : System State Input Answer Event) (Kept : State → List Event → Type 0)
     (keeps : (s : State) (h : List Event) (f : Input) → Kept s h → Kept (M.state (M.perform s f)) (events M s f ++ h)) where
-  pub machine-kept : {start : State} → Kept start [] → (fs : List Input) → Kept (machine M start fs) (past M start fs)
-  machine-kept i [] = i
-  machine-kept i (f ∷ fs) = keeps _ _ f (machine-kept i fs)
+  pub machine_kept : {start : State} → Kept start [] → (fs : List Input) → Kept (machine M start fs) (past M start fs)
+  machine_kept i [] = i
+  machine_kept i (f ∷ fs) = keeps _ _ f (machine_kept i fs)
 
   module _ {promised : State → Input → Answer}
       (answers : (s : State) (h : List Event) (f : Input) → Kept s h →
@@ -17,14 +17,14 @@ module _ {State Input Answer Event : Type 0} (M : System State Input Answer Even
     followed i none = (tt, refl)
     followed {start} i (call {cs} run c promise) =
         let f = followed i run in
-        let a = answers _ _ c.input (machine-kept i (inputs cs)) in
+        let a = answers _ _ c.input (machine_kept i (inputs cs)) in
         let e = (rw f.1 at promise) ∙ a.0 in
         ((e, λ three. a.1 (sym (ap M.code e) ∙ three), f.0), ap M.state e)
 
 -- What holds at the end of every list holds after each call of a list: the calls up to it are a list too.
-pub after-each : {State Input Answer Event : Type 0} (M : System State Input Answer Event) (P : State → List (Call Input Answer) → Type 0)
+pub after_each : {State Input Answer Event : Type 0} (M : System State Input Answer Event) (P : State → List (Call Input Answer) → Type 0)
     {promised : State → Input → Answer} {start s : State} {cs : List (Call Input Answer)} →
     ((cs : List (Call Input Answer)) (s : State) → Run M.state promised start cs s → P s cs) → Run M.state promised start cs s →
     AfterEach M P start cs
-after-each M P all none = all _ _ none
-after-each M P all (call run c e) = (all _ _ (call run c e), after-each M P all run)
+after_each M P all none = all _ _ none
+after_each M P all (call run c e) = (all _ _ (call run c e), after_each M P all run)

@@ -3,7 +3,7 @@ use Rattle.base.specs.Prelude.{ℕ, suc, ◌+◌, ◌≤◌, ◌<◌, ◌≡◌,
 use Rattle.model_laws.specs.Types.{Phase, Idle, Waiting, Write, Scan, Adopt, Compare, Flag, CheckMark, CheckValue, Commit, Exhausted}
 use Rattle.model_laws.specs.Types.{Crashed, Decided, HasCommitted, HasAdopted, Process, Access, Nothing, ReadValue, WriteValue, ReadMark}
 use Rattle.model_laws.specs.Types.{SetMark, ReadDecision, WriteDecision}
-use Rattle.model.specs.Refusal.{status, isOutside}
+use Rattle.model.specs.Refusal.{status, is_outside}
 use Rattle.model_rule.specs.Event.{Event, commit, Happened, Proposed, Written, DecidedOn}
 use Rattle.theory_board.specs.Epoch.{top, last, Wrote, Flagged, ComparedBy, PassedBy}
 use Rattle.theory_board.specs.Lawful.{Unflagged, IsCommitted}
@@ -51,5 +51,5 @@ RecordPlaced W p q h = Proposed q.estimate h × Placed W p q.round q.estimate q.
 
 -- And one that has decided is at Decided and holds that value.
 pub record Stands (W p : ℕ) (q : Process) (h : List Event) : Type 0 where
-  pub placed : isOutside (status q.phase) ≡ false → RecordPlaced W p q h
+  pub placed : is_outside (status q.phase) ≡ false → RecordPlaced W p q h
   pub decided : (v : ℕ) → DecidedOn p v h → (q.phase ≡ Decided) × (q.estimate ≡ v)

@@ -4,34 +4,34 @@ use Rattle.model_rule.specs.Event.{Event, proposal, write, flag, commit, decisio
 use Rattle.model_rule.specs.Event.Past.{here, there}
 use Rattle.theory_board.specs.Epoch.{top, last, HappenedIn, WrittenIn}
 use Rattle.base.specs.Bools.{cond_cases}
-use Rattle.theory_board.specs.Past.{past-empty}
+use Rattle.theory_board.specs.Past.{past_empty}
 
 -- ---- the highest written round
 
 -- An event does not lower the highest written round.
-pub top-event : (x : Event) (h : List Event) → top h ≤ top (x ∷ h)
-top-event (proposal v) h = le_refl (top h)
-top-event (write p r v) h = omega arith
-top-event (flag j) h = le_refl (top h)
-top-event (commit r v) h = le_refl (top h)
-top-event (decision p v) h = le_refl (top h)
+pub top_event : (x : Event) (h : List Event) → top h ≤ top (x ∷ h)
+top_event (proposal v) h = le_refl (top h)
+top_event (write p r v) h = omega arith
+top_event (flag j) h = le_refl (top h)
+top_event (commit r v) h = le_refl (top h)
+top_event (decision p v) h = le_refl (top h)
 
 -- The highest written round only grows.
-pub top-le : {h h' : List Event} → Past h h' → top h ≤ top h'
-top-le {h} here = le_refl (top h)
-top-le (there {e = x} {h = g} q) = le_trans (top-le q) (top-event x g)
+pub top_le : {h h' : List Event} → Past h h' → top h ≤ top h'
+top_le {h} here = le_refl (top h)
+top_le (there {e = x} {h = g} q) = le_trans (top_le q) (top_event x g)
 
 -- An event's epoch is at most the highest written round.
-pub epoch-top : {e : ℕ} {x : Event} {h : List Event} → HappenedIn e x h → e ≤ top h
-epoch-top x = omega (arith, x.epoch, top-le x.past)
+pub epoch_top : {e : ℕ} {x : Event} {h : List Event} → HappenedIn e x h → e ≤ top h
+epoch_top x = omega (arith, x.epoch, top_le x.past)
 
 -- A written round is at most the highest one.
-pub wrote-round : {p r v : ℕ} {h : List Event} → Happened (write p r v) h → r ≤ top h
-wrote-round x = omega (arith, top-le x.past)
+pub wrote_round : {p r v : ℕ} {h : List Event} → Happened (write p r v) h → r ≤ top h
+wrote_round x = omega (arith, top_le x.past)
 
 -- A value of the highest written register was written in the epoch of that round.
-pub written-fresh : {r v : ℕ} {h : List Event} → Written r v h → top h ≤ r → WrittenIn r v r h
-written-fresh w low = (w.0, record { before = w.1.before; past = w.1.past; epoch = omega (arith, top-le w.1.past) })
+pub written_fresh : {r v : ℕ} {h : List Event} → Written r v h → top h ≤ r → WrittenIn r v r h
+written_fresh w low = (w.0, record { before = w.1.before; past = w.1.past; epoch = omega (arith, top_le w.1.past) })
 
 -- What was written in an epoch was written.
 pub written_in : {r v e : ℕ} {h : List Event} → WrittenIn r v e h → Written r v h
@@ -47,18 +47,18 @@ later : {a h : List Event} {x : Event} {j u v : ℕ} → (u ≡ v) ⊎ WrittenSi
 later = ⊎_elim inl (λ s. inr (s.0, s.1, s.2, there s.3))
 
 -- A register holds what it held in an older part, or what was written to it since.
-pub last-since : {a h : List Event} (j : ℕ) → Past a h → (last h j ≡ last a j) ⊎ WrittenSince a j (last h j) h
-last-since j here = inl refl
-last-since j (there {e = proposal v} q) = later (last-since j q)
-last-since {a} j (there {e = write p r v} {h = h} q) =
+pub last_since : {a h : List Event} (j : ℕ) → Past a h → (last h j ≡ last a j) ⊎ WrittenSince a j (last h j) h
+last_since j here = inl refl
+last_since j (there {e = proposal v} q) = later (last_since j q)
+last_since {a} j (there {e = write p r v} {h = h} q) =
     cond_cases (λ u. (u ≡ last a j) ⊎ WrittenSince a j u (write p r v ∷ h)) (eqb r j)
     (λ t. inr (p, h, q, rw (← eqb-true r j t) here))
-    (λ t. later (last-since j q))
-last-since j (there {e = flag i} q) = later (last-since j q)
-last-since j (there {e = commit r v} q) = later (last-since j q)
-last-since j (there {e = decision p v} q) = later (last-since j q)
+    (λ t. later (last_since j q))
+last_since j (there {e = flag i} q) = later (last_since j q)
+last_since j (there {e = commit r v} q) = later (last_since j q)
+last_since j (there {e = decision p v} q) = later (last_since j q)
 
 -- A filled register holds a value that was written to it.
 pub last_written : (h : List Event) (j : ℕ) → 0 < last h j → Written j (last h j) h
 last_written h j some =
-    ⊎_elim (λ e. absurd (omega arith)) (λ s. (s.0, record { before = s.1; past = s.3 })) (last-since j (past-empty h))
+    ⊎_elim (λ e. absurd (omega arith)) (λ s. (s.0, record { before = s.1; past = s.3 })) (last_since j (past_empty h))

@@ -4,9 +4,9 @@ use Rattle.base.specs.Prelude.{div-lt_iff_lt-mul, ◌≡◌, List}
 use Rattle.model_rule.specs.Event.{Event}
 use Rattle.model_rule.specs.Safe.{threshold}
 use Rattle.theory_board.specs.Epoch.{WrittenIn}
-use Rattle.theory_board.specs.Lawful.{lawful-at}
-use Rattle.theory_count.specs.Pigeon.{spare-hole}
-use Rattle.theory_count.specs.Apart.{same_write, grid-once}
+use Rattle.theory_board.specs.Lawful.{lawful_at}
+use Rattle.theory_count.specs.Pigeon.{spare_hole}
+use Rattle.theory_count.specs.Apart.{same_write, grid_once}
 use Rattle.theory_count.specs.Rivals.{Rivals, Cell, walked, cell}
 use Rattle.theory_count.specs.Sharp.{sharp}
 
@@ -28,15 +28,15 @@ module _
         let row = mod-lt t some in
         let column = (div-lt_iff_lt-mul some).1 inside in
         let found = cell (m + t / s) (m - t % s) rivals (omega (arith, window)) (omega arith) (omega arith) in
-        (found.0, (lawful-at rivals.lawful found.1.1.past).writer, found.1)
+        (found.0, (lawful_at rivals.lawful found.1.1.past).writer, found.1)
 
     -- A process made the write at one place of the grid only.
-    mark-once : (t t' p : ℕ) → Mark t p → Mark t' p → t ≡ t'
-    mark-once t t' p a b = grid-once rivals.lawful s m some (omega (arith, window)) t t' a.1 b.1
+    mark_once : (t t' p : ℕ) → Mark t p → Mark t' p → t ≡ t'
+    mark_once t t' p a b = grid_once rivals.lawful s m some (omega (arith, window)) t t' a.1 b.1
 
     -- The process that wrote v to register m in epoch m made no write of the grid.
-    mark-other : (w : WrittenIn m v m h) (t : ℕ) → Mark t w.0 → ⊥
-    mark-other w t a =
+    mark_other : (w : WrittenIn m v m h) (t : ℕ) → Mark t w.0 → ⊥
+    mark_other w t a =
         let same = same_write rivals.lawful w.1 a.1 (omega arith) (omega arith) in
         a.2 (omega arith) (omega arith)
 
@@ -44,7 +44,7 @@ module _
     grid : 0 < k → k * s < n
     grid columns =
         let extra = (walked {i = m} rivals.lawful rivals.committed.written (omega (arith, window)) (omega arith)).written in
-        spare-hole n (k * s) extra.0 Mark (lawful-at rivals.lawful extra.1.past).writer mark mark-once (mark-other extra)
+        spare_hole n (k * s) extra.0 Mark (lawful_at rivals.lawful extra.1.past).writer mark mark_once (mark_other extra)
 
 -- Two factors that differ by one at most, and a number above their product: four times it is above the square of their sum.
 square : {n : ℕ} (s k : ℕ) → s ≤ k → k ≤ suc s → k * s < n → (s + k) * (s + k) < 4 * n
@@ -57,8 +57,8 @@ square s k low high more =
     ]
 
 -- Two values cannot both be written to the register of a round in which one of them was committed.
-pub no-rivals : {W n R u v : ℕ} {h : List Event} → 2 ≤ W → n < threshold W → Rivals W n R u v h → ⊥
-no-rivals {W} {n} {R} wide few rivals =
+pub no_rivals : {W n R u v : ℕ} {h : List Event} → 2 ≤ W → n < threshold W → Rivals W n R u v h → ⊥
+no_rivals {W} {n} {R} wide few rivals =
     let s = W / 2 in
     let k = W - W / 2 in
     let whole : s + k ≡ W = omega arith in
@@ -72,7 +72,7 @@ no-rivals {W} {n} {R} wide few rivals =
 
 -- A window with W * W ≥ 4n is below it.
 pub wide_below : (W n : ℕ) → 4 * n ≤ W * W → n < threshold W
-wide_below W n square-of =
+wide_below W n square_of =
     elim (dec_lt n (threshold W)) [
       | yes below ↦ below
       | no above ↦
@@ -84,7 +84,7 @@ wide_below W n square-of =
     ]
 
 -- A window whose threshold is above one process is at least 2.
-pub below-wide : (W n : ℕ) → 1 ≤ n → n < threshold W → 2 ≤ W
-below-wide zero n some few = absurd (omega arith)
-below-wide (suc zero) n some few = absurd (omega arith)
-below-wide (suc (suc W)) n some few = omega arith
+pub below_wide : (W n : ℕ) → 1 ≤ n → n < threshold W → 2 ≤ W
+below_wide zero n some few = absurd (omega arith)
+below_wide (suc zero) n some few = absurd (omega arith)
+below_wide (suc (suc W)) n some few = omega arith

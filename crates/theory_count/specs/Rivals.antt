@@ -2,17 +2,17 @@
 use Rattle.base.specs.Prelude.{ℕ, suc, zero, ◌+◌, ◌≤◌, ◌<◌, arith, ℕ_discrete, ◌≡◌, refl, List, inl, inr}
 use Rattle.model_rule.specs.Event.{Event, Written}
 use Rattle.theory_board.specs.Epoch.{Wrote, Held, Passed}
-use Rattle.theory_board.specs.Lawful.{CommitLawful, Lawful, lawful-at}
-use Rattle.theory_board.specs.Past.{past-before, passed-past}
+use Rattle.theory_board.specs.Lawful.{CommitLawful, Lawful, lawful_at}
+use Rattle.theory_board.specs.Past.{past_before, passed_past}
 use Rattle.theory_board.specs.Registers.{written_in}
-use Rattle.theory_count.specs.TwoValues.{two-values}
+use Rattle.theory_count.specs.TwoValues.{two_values}
 
 -- A value written to a register was walked through every lower round.
 pub walked : {W n i r v : ℕ} {h : List Event} → Lawful W n h → Written r v h → 1 ≤ i → i < r → Passed W i v h
 walked {r = zero} lawful w low below = absurd (omega arith)
 walked {i} {r = suc r} lawful w low below =
     let past = w.1.past in
-    let pass = passed-past (past-before past) ((lawful-at lawful past).passed r refl (omega arith)) in
+    let pass = passed_past (past_before past) ((lawful_at lawful past).passed r refl (omega arith)) in
     elim (ℕ_discrete i r) [
       | yes same ↦ rw same pass
       | no other ↦ walked lawful (written_in pass.written) low (omega arith)
@@ -50,7 +50,7 @@ cell {u = u} i j rivals inside low below =
           (w.0, (u, w.1, λ e. rivals.differ))
       | no apart ↦
           let w =
-          two-values (held_at i j rivals rivals.written inside low below)
+          two_values (held_at i j rivals rivals.written inside low below)
           (held_at i j rivals rivals.committed.written inside low below) rivals.differ in
           (w.0, (w.1, w.2, λ e. absurd (apart e)))
     ]

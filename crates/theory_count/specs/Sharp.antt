@@ -3,11 +3,11 @@ use Rattle.base.specs.Prelude.{ℕ, suc, zero, ◌+◌, ◌*◌, ◌-◌, ◌/�
 use Rattle.base.specs.Prelude.{◌≡◌, sym, List, ◌⊎◌, inl, inr}
 use Rattle.model_rule.specs.Event.{Event, Written}
 use Rattle.theory_board.specs.Epoch.{Wrote}
-use Rattle.theory_board.specs.Lawful.{lawful-at}
+use Rattle.theory_board.specs.Lawful.{lawful_at}
 use Rattle.theory_count.specs.Pigeon.{holes}
-use Rattle.theory_count.specs.Apart.{same_write, grid-once}
+use Rattle.theory_count.specs.Apart.{same_write, grid_once}
 use Rattle.theory_count.specs.Rivals.{Rivals, walked, cell}
-use Rattle.theory_count.specs.Carriers.{carried-twice, Low, closing, closing-wrote, IsCarrier, carry-one}
+use Rattle.theory_count.specs.Carriers.{carried_twice, Low, closing, closing_wrote, IsCarrier, carry_one}
 
 module _
     {W n R u v : ℕ} {h : List Event} (s k m : ℕ) (rivals : Rivals W n R u v h)
@@ -33,14 +33,14 @@ module _
       carrier : (t : ℕ) → t < k / 2 → (p : ℕ) × (p < n) × Carrier t p
       carrier zero few =
           let w = (walked {i = m + 1} rivals.lawful written (omega (arith, window)) (omega arith)).written in
-          (w.0, (lawful-at rivals.lawful w.1.past).writer, (m + 1, omega arith, omega arith, omega arith, w.1))
+          (w.0, (lawful_at rivals.lawful w.1.past).writer, (m + 1, omega arith, omega arith, omega arith, w.1))
       carrier (suc t) few =
-          let x = carried-twice (m + 2 * suc t) (m + 1) rivals written other differ (omega (arith, window)) (omega arith) (omega arith) in
-          (x.0, (lawful-at rivals.lawful x.4.past).writer, (x.1, x.2, omega (arith, x.3), omega (arith, x.2), x.4))
+          let x = carried_twice (m + 2 * suc t) (m + 1) rivals written other differ (omega (arith, window)) (omega arith) (omega arith) in
+          (x.0, (lawful_at rivals.lawful x.4.past).writer, (x.1, x.2, omega (arith, x.3), omega (arith, x.2), x.4))
 
       -- A write of the grid above epoch m is of no carrier.
-      high-carries : {p j w i : ℕ} → Wrote p j w i h → j ≤ m → m < i → (e : ℕ) → Wrote p (m + 1) c e h → ⊥
-      high-carries a low high e b =
+      high_carries : {p j w i : ℕ} → Wrote p j w i h → j ≤ m → m < i → (e : ℕ) → Wrote p (m + 1) c e h → ⊥
+      high_carries a low high e b =
           let reached : m + 1 ≤ e = omega (arith, b.epoch) in
           let same = same_write rivals.lawful a b (omega arith) (omega arith) in
           omega (arith, same.0)
@@ -55,22 +55,22 @@ module _
             elim (ℕ_discrete (t / s) 0) [
               | yes first ↦
                   let x = closing s k m rivals split mid above (m - t % s) low in
-                  let w = closing-wrote s k m rivals split mid above (m - t % s) low in
+                  let w = closing_wrote s k m rivals split mid above (m - t % s) low in
                   let here : m + t / s ≡ m = omega arith in (
                     x.process,
-                    (lawful-at rivals.lawful w.past).writer,
+                    (lawful_at rivals.lawful w.past).writer,
                     (x.value, rw here w, λ e a. never (m - t % s) low (e, a)),
                   )
               | no later ↦
                   let x = cell (m + t / s) (m - t % s) rivals (omega (arith, window)) (omega arith) (omega arith) in (
                     x.0,
-                    (lawful-at rivals.lawful x.1.1.past).writer,
-                    (x.1.0, x.1.1, high-carries x.1.1 (omega arith) (omega arith)),
+                    (lawful_at rivals.lawful x.1.1.past).writer,
+                    (x.1.0, x.1.1, high_carries x.1.1 (omega arith) (omega arith)),
                   )
             ]
 
         once : (t t' p : ℕ) → Place t p → Place t' p → t ≡ t'
-        once t t' p (inl a) (inl b) = grid-once rivals.lawful s m some (omega (arith, window)) t t' a.1.1 b.1.1
+        once t t' p (inl a) (inl b) = grid_once rivals.lawful s m some (omega (arith, window)) t t' a.1.1 b.1.1
         once t t' p (inl a) (inr b) = absurd (a.1.2 b.1.0 b.1.4)
         once t t' p (inr a) (inl b) = absurd (b.1.2 a.1.0 a.1.4)
         once t t' p (inr a) (inr b) =
@@ -93,9 +93,9 @@ module _
         elim (dec_le (k * s + k / 2) n) [
           | yes enough ↦ enough
           | no few ↦
-              let u-at = rivals.written in
-              let v-at = rivals.committed.written in
+              let u_at = rivals.written in
+              let v_at = rivals.committed.written in
               let back : v ≡ u → ⊥ = λ e. rivals.differ (sym e) in
-              absurd (few (count u-at v-at rivals.differ
-              (λ j row x. few (count v-at u-at back (λ i low y. carry-one s k m rivals split mid above row low x y rivals.differ)))))
+              absurd (few (count u_at v_at rivals.differ
+              (λ j row x. few (count v_at u_at back (λ i low y. carry_one s k m rivals split mid above row low x y rivals.differ)))))
         ]

@@ -1,3 +1,3 @@
 -- The contracts of the functions that the agreement rule and the rules of polls and of houses speak of.
-pub mod Contracts
+pub mod FunctionContracts
 pub mod Houses

@@ -6,127 +6,127 @@ use Rattle.model.specs.Window.{window}
 use Rattle.model.specs.Board.{opened}
 use Rattle.model.specs.Step.{counted}
 use Rattle.model.specs.Refusal.{refusal}
-use Rattle.model_laws.specs.Operations.{access-in-range}
+use Rattle.model_laws.specs.Operations.{access_in_range}
 use Rattle.model_rule.specs.Event.{Event}
-use Rattle.model_rule.specs.Contested.{markedRounds, OneTally}
+use Rattle.model_rule.specs.Contested.{marked_rounds, OneTally}
 use Rattle.model_poll.specs.Machine as poll
 use Rattle.model_poll.specs.Machine.{PollOperation}
-use Rattle.theory_board.specs.Lists.{machine-kept}
-use Rattle.theory_board.specs.Marks.{perform-adds, opened-unmarked, calls-contested}
-use Rattle.theory_poll.specs.Theorem.{poll-reached-adds}
-use Rattle.model_house.specs.House.{noSession, wardSeats, wardRounds, wardOf, houseOpening, openedHouse}
-use Rattle.model_house.specs.Turn.{inWard, inPoll, turnAt}
-use Rattle.model_house.specs.Machine.{HouseOperation, proposes, turns, learns, crashes, houseTests, view_of, withView, houseAfter}
-use Rattle.model_house.specs.Machine.{houseCounts, houseStepped, houseAnswered, housePerform}
+use Rattle.theory_board.specs.Lists.{machine_kept}
+use Rattle.theory_board.specs.Marks.{perform_adds, opened_unmarked, calls_contested}
+use Rattle.theory_poll.specs.Theorem.{poll_reached_adds}
+use Rattle.model_house.specs.House.{no_session, ward_seats, ward_rounds, ward_of, house_opening, opened_house}
+use Rattle.model_house.specs.Turn.{in_ward, in_poll, turn_at}
+use Rattle.model_house.specs.Machine.{HouseOperation, proposes, turns, learns, crashes, house_tests, view_of, with_view, house_after}
+use Rattle.model_house.specs.Machine.{house_counts, house_stepped, house_answered, house_perform}
 use Rattle.model_house.specs.Rule.{houses, HouseCall, HouseRun}
 use Rattle.theory_house.specs.Types.{Place, ProposeWard, StepWard, LearnWard, WriteTable, ProposePoll, StepPoll, ReadTable}
 use Rattle.theory_house.specs.Types.{WriteHouse, House, View, HouseStepped}
 use Rattle.theory_house.specs.Invariant.{Held}
-use Rattle.theory_house.specs.Turning.{Turning, ownSession, ownPoll, ownSeat, index_of, roundOf, ward-reached, poll-reached, round-low}
-use Rattle.theory_house.specs.Turning.{index-low}
-use Rattle.theory_house.specs.Theorem.{turn-known, operation-held, houses-followed, opening-known, opening-held}
+use Rattle.theory_house.specs.Turning.{Turning, own_session, own_poll, own_seat, index_of, round_of, ward_reached, poll_reached, round_low}
+use Rattle.theory_house.specs.Turning.{index_low}
+use Rattle.theory_house.specs.Theorem.{turn_known, operation_held, houses_followed, opening_known, opening_held}
 
 -- ---- the marked rounds
 
-abbrev markedOn : List Session → ℕ
-markedOn [] = 0
-markedOn (s ∷ l) = markedRounds s + markedOn l
+abbrev marked_on : List Session → ℕ
+marked_on [] = 0
+marked_on (s ∷ l) = marked_rounds s + marked_on l
 
-abbrev pub houseMarked : House → ℕ
-houseMarked h = markedOn h.sessions + markedOn h.polls
+abbrev pub house_marked : House → ℕ
+house_marked h = marked_on h.sessions + marked_on h.polls
 
-marked-set : (l : List Session) (i : ℕ) (s : Session) → i < length l →
-    markedOn (set l i s) + markedRounds (get_or l i noSession) ≡ markedOn l + markedRounds s
-marked-set [] i s low = absurd (omega arith)
-marked-set (x ∷ l) zero s low = omega arith
-marked-set (x ∷ l) (suc i) s low = omega (arith, marked-set l i s (omega arith))
+marked_set : (l : List Session) (i : ℕ) (s : Session) → i < length l →
+    marked_on (set l i s) + marked_rounds (get_or l i no_session) ≡ marked_on l + marked_rounds s
+marked_set [] i s low = absurd (omega arith)
+marked_set (x ∷ l) zero s low = omega arith
+marked_set (x ∷ l) (suc i) s low = omega (arith, marked_set l i s (omega arith))
 
-marked-none : (k n L : ℕ) → markedOn (replicate k (opened n L)) ≡ 0
-marked-none zero n L = refl
-marked-none (suc k) n L = omega (arith, opened-unmarked n L, marked-none k n L)
+marked_none : (k n L : ℕ) → marked_on (replicate k (opened n L)) ≡ 0
+marked_none zero n L = refl
+marked_none (suc k) n L = omega (arith, opened_unmarked n L, marked_none k n L)
 
-none-marked : (c : ℕ) (ws : List ℕ) → houseMarked (openedHouse c ws) ≡ 0
-unfolding openedHouse
-none-marked c ws = omega (arith, marked-none 32 (wardSeats (length ws) c) wardRounds, marked-none 8 (length ws) (window (length ws)))
+none_marked : (c : ℕ) (ws : List ℕ) → house_marked (opened_house c ws) ≡ 0
+unfolding opened_house
+none_marked c ws = omega (arith, marked_none 32 (ward_seats (length ws) c) ward_rounds, marked_none 8 (length ws) (window (length ws)))
 
 -- ---- one call
 
 module _ {h : House} {x : List Event} {p : ℕ} {place : Place} (t : Turning h x p place) (c : Counts) (hint : Bool) where
   abbrev S : Session
-  S = ownSession h p
+  S = own_session h p
 
   abbrev P : Session
-  P = ownPoll h p
+  P = own_poll h p
 
   -- Of what the turn can change.
   abbrev Alike : View → Type 0
-  Alike v = v.counts.contested + (markedRounds S + markedRounds P) ≡ c.contested + (markedRounds v.session + markedRounds v.poll)
+  Alike v = v.counts.contested + (marked_rounds S + marked_rounds P) ≡ c.contested + (marked_rounds v.session + marked_rounds v.poll)
 
-  ward-alike : (o : Operation) → Alike (inWard (view_of h c p) o)
+  ward_alike : (o : Operation) → Alike (in_ward (view_of h c p) o)
   unfolding view_of
-  ward-alike o =
-      let range = access-in-range _ S o (ward-reached t).sound in
-      omega (arith, perform-adds S c (ward-reached t).invariant.long.marks (window S.n) o range)
+  ward_alike o =
+      let range = access_in_range _ S o (ward_reached t).sound in
+      omega (arith, perform_adds S c (ward_reached t).invariant.long.marks (window S.n) o range)
 
-  poll-alike : (o : PollOperation) → Alike (inPoll (view_of h c p) o)
+  poll_alike : (o : PollOperation) → Alike (in_poll (view_of h c p) o)
   unfolding view_of
-  poll-alike o =
-      let e : window P.n ≡ window h.n = ap window (poll-reached t).size in
-      rw e (omega (arith, poll-reached-adds c o (poll-reached t)))
+  poll_alike o =
+      let e : window P.n ≡ window h.n = ap window (poll_reached t).size in
+      rw e (omega (arith, poll_reached_adds c o (poll_reached t)))
 
-  turn-alike : (y : Place) → Alike (turnAt p (wardOf h p) (ownSeat h p) hint y (view_of h c p))
-  unfolding turnAt view_of counted
-  turn-alike ProposeWard = ward-alike _
-  turn-alike StepWard = ward-alike _
-  turn-alike LearnWard = ward-alike _
-  turn-alike WriteTable = refl
-  turn-alike ProposePoll = poll-alike _
-  turn-alike StepPoll = poll-alike _
-  turn-alike ReadTable = refl
-  turn-alike WriteHouse = refl
+  turn_alike : (y : Place) → Alike (turn_at p (ward_of h p) (own_seat h p) hint y (view_of h c p))
+  unfolding turn_at view_of counted
+  turn_alike ProposeWard = ward_alike _
+  turn_alike StepWard = ward_alike _
+  turn_alike LearnWard = ward_alike _
+  turn_alike WriteTable = refl
+  turn_alike ProposePoll = poll_alike _
+  turn_alike StepPoll = poll_alike _
+  turn_alike ReadTable = refl
+  turn_alike WriteHouse = refl
 
-  turned-alike : let v = turnAt p (wardOf h p) (ownSeat h p) hint place (view_of h c p) in
-      v.counts.contested + houseMarked h ≡ c.contested + houseMarked (withView h p v)
-  unfolding withView
-  turned-alike =
-      let v = turnAt p (wardOf h p) (ownSeat h p) hint place (view_of h c p) in
+  turned_alike : let v = turn_at p (ward_of h p) (own_seat h p) hint place (view_of h c p) in
+      v.counts.contested + house_marked h ≡ c.contested + house_marked (with_view h p v)
+  unfolding with_view
+  turned_alike =
+      let v = turn_at p (ward_of h p) (own_seat h p) hint place (view_of h c p) in
       let known = t.held.known in
-      let low = index-low t in
-      let few = round-low t in
-      let ward = marked-set h.sessions (index_of h p) v.session (omega (arith, known.wards.long)) in
-      let vote = marked-set h.polls (roundOf h p) v.poll (omega (arith, known.votes.long)) in
-      omega (arith, ward, vote, turn-alike place)
+      let low = index_low t in
+      let few = round_low t in
+      let ward = marked_set h.sessions (index_of h p) v.session (omega (arith, known.wards.long)) in
+      let vote = marked_set h.polls (round_of h p) v.poll (omega (arith, known.votes.long)) in
+      omega (arith, ward, vote, turn_alike place)
 
 -- A call, accepted or refused.
-pub grows-alike : {h : House} {x : List Event} → Held h x → (c : Counts) (o : HouseOperation) → let r = housePerform h c o in
-    r.counts.contested + houseMarked h ≡ c.contested + houseMarked r.house
-unfolding housePerform houseAnswered houseCounts houseAfter counted
-grows-alike {h} i c o = by (refusal (houseTests h c o)) refl
+pub grows_alike : {h : House} {x : List Event} → Held h x → (c : Counts) (o : HouseOperation) → let r = house_perform h c o in
+    r.counts.contested + house_marked h ≡ c.contested + house_marked r.house
+unfolding house_perform house_answered house_counts house_after counted
+grows_alike {h} i c o = by (refusal (house_tests h c o)) refl
   where
-    accepted : (o : HouseOperation) → refusal (houseTests h c o) ≡ 0 →
-        (houseCounts h c o).contested + houseMarked h ≡ c.contested + houseMarked (houseAfter h c o)
+    accepted : (o : HouseOperation) → refusal (house_tests h c o) ≡ 0 →
+        (house_counts h c o).contested + house_marked h ≡ c.contested + house_marked (house_after h c o)
     accepted (proposes p v) e = refl
     accepted (turns p hint) e =
-        let k = turn-known i c p hint e in
-        subst (λ (v : View). v.counts.contested + houseMarked h ≡ c.contested + houseMarked (withView h p v)) (sym k.3)
-        (turned-alike k.1 c hint)
+        let k = turn_known i c p hint e in
+        subst (λ (v : View). v.counts.contested + house_marked h ≡ c.contested + house_marked (with_view h p v)) (sym k.3)
+        (turned_alike k.1 c hint)
     accepted (learns p) e = refl
     accepted (crashes p) e = refl
 
-    by : (k : ℕ) → refusal (houseTests h c o) ≡ k → let r = houseStepped k h (houseAfter h c o) c (houseCounts h c o) in
-        r.counts.contested + houseMarked h ≡ c.contested + houseMarked r.house
+    by : (k : ℕ) → refusal (house_tests h c o) ≡ k → let r = house_stepped k h (house_after h c o) c (house_counts h c o) in
+        r.counts.contested + house_marked h ≡ c.contested + house_marked r.house
     by zero e = accepted o e
     by (suc k) e = refl
 
 -- ---- a list of calls
 
-pub house-contested : (c : ℕ) (ws : List ℕ) → let start = houseOpening c ws in start.code ≡ 0 →
+pub house_contested : (c : ℕ) (ws : List ℕ) → let start = house_opening c ws in start.code ≡ 0 →
     (cs : List HouseCall) (h : House) (d : Counts) → HouseRun start.house cs h → OneTally (λ (a : HouseStepped). a.counts) cs d →
-    d.contested ≡ houseMarked h
-house-contested c ws ok cs h d run tally =
-    let fresh = opening-held c ws ok in
-    let f = houses-followed fresh run in
+    d.contested ≡ house_marked h
+house_contested c ws ok cs h d run tally =
+    let fresh = opening_held c ws ok in
+    let f = houses_followed fresh run in
     rw f.1
-    (calls-contested houses (λ (a : HouseStepped). a.counts) houseMarked _ (rw (opening-known c ws ok).2 (none-marked c ws))
-    (λ fs f. grows-alike (machine-kept houses Held (λ h x f i. operation-held i f) fresh fs) f.counts f.operation)
+    (calls_contested houses (λ (a : HouseStepped). a.counts) house_marked _ (rw (opening_known c ws ok).2 (none_marked c ws))
+    (λ fs f. grows_alike (machine_kept houses Held (λ h x f i. operation_held i f) fresh fs) f.counts f.operation)
     cs d f.0 tally)

@@ -5,14 +5,14 @@ use Rattle.base.specs.Prelude.{ℕ, suc, zero, ◌+◌, ◌*◌, ◌-◌, ◌%�
 use Rattle.base.specs.Prelude.{get_or, List·getD-eq-default, ◌⊎◌, dec_le, dec_lt, ℕ_discrete}
 use Rattle.model_laws.specs.Types.{Session}
 use Rattle.model.specs.Window.{window}
-use Rattle.model_laws.specs.Windows.{window-square, window-least}
+use Rattle.model_laws.specs.Windows.{window_square, window_least}
 use Rattle.model_rule.specs.Event.{Event, Past, here, Proposed, Written, Committed}
-use Rattle.theory_board.specs.Past.{past-before, happened-past}
-use Rattle.theory_board.specs.Lawful.{Lawful, none, IsCommitted, lawful-at, commit-lawful}
+use Rattle.theory_board.specs.Past.{past_before, happened_past}
+use Rattle.theory_board.specs.Lawful.{Lawful, none, IsCommitted, lawful_at, commit_lawful}
 use Rattle.theory_board.specs.Reached.{Reached}
 use Rattle.theory_count.specs.Grid.{wide_below}
 use Rattle.theory_count.specs.Agreed.{agreed}
-use Rattle.model_house.specs.House.{wardRounds, wardSeats, noSession, no_row}
+use Rattle.model_house.specs.House.{ward_rounds, ward_seats, no_session, no_row}
 use Rattle.theory_house.specs.Types.{Table}
 
 -- ---- what is remembered
@@ -51,11 +51,11 @@ pub record Boards (poll : Bool) (k L size : ℕ) (l : List Session) (g : List (L
   pub long : length l ≡ size
   pub many : length g ≡ size
   pub each : (i : ℕ) → i < size →
-      Reached poll (window k) k L (get_or l i noSession) (past_at g i) × ((get_or l i noSession).closed ≡ false)
+      Reached poll (window k) k L (get_or l i no_session) (past_at g i) × ((get_or l i no_session).closed ≡ false)
 
-pub boards-lawful : {poll : Bool} {k L size : ℕ} {l : List Session} {g : List (List Event)} → Boards poll k L size l g →
+pub boards_lawful : {poll : Bool} {k L size : ℕ} {l : List Session} {g : List (List Event)} → Boards poll k L size l g →
     (i : ℕ) → Lawful (window k) k (past_at g i)
-boards-lawful {k = k} {size = size} {g = g} b i =
+boards_lawful {k = k} {size = size} {g = g} b i =
     elim (dec_lt i size) [
       | yes low ↦ let r = (b.each i low).0 in rw r.size at r.invariant.lawful
       | no high ↦ rw (List·getD-eq-default g [] {n = i} (omega (arith, b.many, high))) none
@@ -63,7 +63,7 @@ boards-lawful {k = k} {size = size} {g = g} b i =
 
 -- The sessions, ward by ward, and the polls; n workers in c wards; d stands in the house's decision register.
 pub record Known (n c : ℕ) (sessions polls : List Session) (d : ℕ) (g : List (List Event)) (m : Memory) : Type 0 where
-  pub wards : Boards false (wardSeats n c) wardRounds 32 sessions g
+  pub wards : Boards false (ward_seats n c) ward_rounds 32 sessions g
   pub votes : Boards true n (window n) 8 polls m.polls
   pub rows : length m.table.rows ≡ 8
   pub columns : (o : ℕ) → o < 8 → length (get_or m.table.rows o no_row).entries ≡ 4
@@ -78,43 +78,43 @@ pub record Known (n c : ℕ) (sessions polls : List Session) (d : ℕ) (g : List
 module _ {n c d : ℕ} {S P : List Session} {g : List (List Event)} {m : Memory} (i : Known n c S P d g m) where
   -- What was written in a poll was proposed to it, so that its entry is filled.
   pub filled : (o u : ℕ) → Written (window n) u (past_at m.polls o) → Filled (cell m.table o (u - 1))
-  filled o u w = (i.polled o u (happened-past (past-before w.1.past) (lawful-at (boards-lawful i.votes o) w.1.past).value)).1
+  filled o u w = (i.polled o u (happened_past (past_before w.1.past) (lawful_at (boards_lawful i.votes o) w.1.past).value)).1
 
   -- Lemma 13.
-  begins-before : (o v : ℕ) → Begins (window n) m (suc o) v → Begins (window n) m o v
-  begins-before o v b =
+  begins_before : (o v : ℕ) → Begins (window n) m (suc o) v → Begins (window n) m o v
+  begins_before o v b =
       let f = i.table o (b.0 - 1) (filled o b.0 b.1) in
       let e : (8 * (b.0 - 1) + o) % 8 ≡ o = omega (arith, f.0) in
-      rw (e, b.2) at (i.begun _ _ (commit-lawful (boards-lawful i.wards (8 * (b.0 - 1) + o)) f.1.1).proposed)
+      rw (e, b.2) at (i.begun _ _ (commit_lawful (boards_lawful i.wards (8 * (b.0 - 1) + o)) f.1.1).proposed)
 
-  begins-since : (a b v : ℕ) → a ≤ b → Begins (window n) m b v → Begins (window n) m a v
-  begins-since a zero v low x = let same : a ≡ 0 = omega arith in rw same x
-  begins-since a (suc b) v low x =
+  begins_since : (a b v : ℕ) → a ≤ b → Begins (window n) m b v → Begins (window n) m a v
+  begins_since a zero v low x = let same : a ≡ 0 = omega arith in rw same x
+  begins_since a (suc b) v low x =
       elim (ℕ_discrete a (suc b)) [
         | yes same ↦ rw same x
-        | no other ↦ begins-since a b v (omega (arith, other)) (begins-before b v x)
+        | no other ↦ begins_since a b v (omega (arith, other)) (begins_before b v x)
       ]
 
   -- The next round can begin with what was committed.
-  pub committed-begins : {v : ℕ} (k : HouseCommitted (window n) m v) → Begins (window n) m (suc k.0) v
-  committed-begins k = (k.1, (commit-lawful (boards-lawful i.votes k.0) k.2).written, k.3)
+  pub committed_begins : {v : ℕ} (k : HouseCommitted (window n) m v) → Begins (window n) m (suc k.0) v
+  committed_begins k = (k.1, (commit_lawful (boards_lawful i.votes k.0) k.2).written, k.3)
 
   -- "Some worker proposed it to the house."
-  pub house-proposed : {v : ℕ} → HouseCommitted (window n) m v → Proposed v m.past
-  house-proposed {v} k = begins-since 0 (suc k.0) v (omega arith) (committed-begins k)
+  pub house_proposed : {v : ℕ} → HouseCommitted (window n) m v → Proposed v m.past
+  house_proposed {v} k = begins_since 0 (suc k.0) v (omega arith) (committed_begins k)
 
   module _ (some : 1 ≤ n) where
     -- A value that begins a later round is the committed one,
     ordered : {u v : ℕ} (a : HouseCommitted (window n) m u) (b : HouseCommitted (window n) m v) → a.0 ≤ b.0 → v ≡ u
     ordered {u} {v} a b low =
-        let x = begins-since (suc a.0) (suc b.0) v (omega arith) (committed-begins b) in
-        let wide = wide_below (window n) n (window-square n) in
-        let same = agreed (window n) n _ (window-least n some) wide (boards-lawful i.votes a.0) a.2 x.1 (omega arith) in
+        let x = begins_since (suc a.0) (suc b.0) v (omega arith) (committed_begins b) in
+        let wide = wide_below (window n) n (window_square n) in
+        let same = agreed (window n) n _ (window_least n some) wide (boards_lawful i.votes a.0) a.2 x.1 (omega arith) in
         sym x.2 ∙ (rw (← same) at a.3)
 
     -- Lemma 14: so that one number is committed.
-    pub house-agreed : {u v : ℕ} → HouseCommitted (window n) m u → HouseCommitted (window n) m v → u ≡ v
-    house-agreed a b = elim (dec_le a.0 b.0) [ yes low ↦ sym (ordered a b low) | no high ↦ ordered b a (omega (arith, high)) ]
+    pub house_agreed : {u v : ℕ} → HouseCommitted (window n) m u → HouseCommitted (window n) m v → u ≡ v
+    house_agreed a b = elim (dec_le a.0 b.0) [ yes low ↦ sym (ordered a b low) | no high ↦ ordered b a (omega (arith, high)) ]
 
 -- ---- all of it is kept while memory grows
 
@@ -128,12 +128,12 @@ pub unmoved : {m : Memory} → Grown m m
 unmoved = record { polls = λ o. here; table = λ o j f. refl; past = here }
 
 module _ {n c d : ℕ} {S P : List Session} {g : List (List Event)} {m m' : Memory} (i : Known n c S P d g m) (more : Grown m m') where
-  pub begins-grown : (o v : ℕ) → Begins (window n) m o v → Begins (window n) m' o v
-  begins-grown zero v b = happened-past more.past b
-  begins-grown (suc o) v b =
-      (b.0, (b.1.0, happened-past (more.polls o) b.1.1), more.table o (b.0 - 1) (filled i o b.0 b.1) ∙ b.2)
+  pub begins_grown : (o v : ℕ) → Begins (window n) m o v → Begins (window n) m' o v
+  begins_grown zero v b = happened_past more.past b
+  begins_grown (suc o) v b =
+      (b.0, (b.1.0, happened_past (more.polls o) b.1.1), more.table o (b.0 - 1) (filled i o b.0 b.1) ∙ b.2)
 
-  pub committed-grown : {v : ℕ} → HouseCommitted (window n) m v → HouseCommitted (window n) m' v
-  committed-grown k =
-      let f = filled i k.0 k.1 (commit-lawful (boards-lawful i.votes k.0) k.2).written in
-      (k.0, k.1, happened-past (more.polls k.0) k.2, more.table k.0 (k.1 - 1) f ∙ k.3)
+  pub committed_grown : {v : ℕ} → HouseCommitted (window n) m v → HouseCommitted (window n) m' v
+  committed_grown k =
+      let f = filled i k.0 k.1 (commit_lawful (boards_lawful i.votes k.0) k.2).written in
+      (k.0, k.1, happened_past (more.polls k.0) k.2, more.table k.0 (k.1 - 1) f ∙ k.3)

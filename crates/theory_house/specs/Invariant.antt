@@ -2,12 +2,12 @@
 use Rattle.base.specs.Prelude.{ℕ, suc, ◌+◌, ◌*◌, ◌-◌, ◌≤◌, ◌<◌, ◌≡◌, true, false, List, ◌∷◌, length, get_or, take}
 use Rattle.model_laws.specs.Types.{Process, Session}
 use Rattle.model.specs.Window.{window}
-use Rattle.model.specs.Board.{processAt}
-use Rattle.model.specs.Refusal.{status, isOutside}
+use Rattle.model.specs.Board.{process_at}
+use Rattle.model.specs.Refusal.{status, is_outside}
 use Rattle.model_rule.specs.Event.{Event, decision, Past, Proposed, DecidedOn}
-use Rattle.model_house.specs.House.{noSession, wardOf, workerAt, seatOf, wardSeats, allowed}
-use Rattle.model_house.specs.Machine.{phaseOf}
-use Rattle.model_house.specs.Sound.{seatsFit}
+use Rattle.model_house.specs.House.{no_session, ward_of, worker_at, seat_of, ward_seats, allowed}
+use Rattle.model_house.specs.Machine.{phase_of}
+use Rattle.model_house.specs.Sound.{seats_fit}
 use Rattle.theory_house.specs.Types.{Place, ProposeWard, StepWard, LearnWard, WriteTable, ProposePoll, StepPoll, ReadTable}
 use Rattle.theory_house.specs.Types.{WriteHouse, Stance, Idle, Working, Exhausted, Crashed, Decided, Worker, Table, House}
 use Rattle.theory_house.specs.Core.{cell, Filled, Memory, Begins, HouseCommitted, Known}
@@ -21,20 +21,20 @@ pub record Numbers (n c : ℕ) (wards : List ℕ) : Type 0 where
   pub long : length wards ≡ 16
   pub allow : allowed c (take n wards) ≡ true
   pub ward : (p : ℕ) → p < n → (1 ≤ get_or wards p 0) × (get_or wards p 0 ≤ c)
-  pub seat : (p : ℕ) → p < n → seatOf wards p < wardSeats n c
-  pub apart : (p q : ℕ) → p < n → q < n → (p ≡ q → ⊥) → get_or wards p 0 ≡ get_or wards q 0 → seatOf wards p ≡ seatOf wards q → ⊥
+  pub seat : (p : ℕ) → p < n → seat_of wards p < ward_seats n c
+  pub apart : (p q : ℕ) → p < n → q < n → (p ≡ q → ⊥) → get_or wards p 0 ≡ get_or wards q 0 → seat_of wards p ≡ seat_of wards q → ⊥
 
 -- ---- one worker
 
 -- Its seats, by round from 0: in its ward's sessions, and in the polls.
-abbrev pub wardSeat : (wards : List ℕ) → (sessions : List Session) → (p o : ℕ) → Process
-wardSeat wards sessions p o = processAt (get_or sessions (8 * (get_or wards p 0 - 1) + o) noSession) (seatOf wards p)
+abbrev pub ward_seat : (wards : List ℕ) → (sessions : List Session) → (p o : ℕ) → Process
+ward_seat wards sessions p o = process_at (get_or sessions (8 * (get_or wards p 0 - 1) + o) no_session) (seat_of wards p)
 
-abbrev pub pollSeat : (polls : List Session) → (p o : ℕ) → Process
-pollSeat polls p o = processAt (get_or polls o noSession) p
+abbrev pub poll_seat : (polls : List Session) → (p o : ℕ) → Process
+poll_seat polls p o = process_at (get_or polls o no_session) p
 
 abbrev pub Out : Process → Type 0
-Out a = isOutside (status a.phase) ≡ true
+Out a = is_outside (status a.phase) ≡ true
 
 -- What is known at each place, beside the seat that the next turn needs: of the value v, of the entry of ward w, and of the poll's seat b
 -- of round r, which is out until the worker proposes to the poll.
@@ -60,9 +60,9 @@ Knows W m Decided r v w a b = Unit {0}
 pub record Fits (W : ℕ) (m : Memory) (q : Worker) (a b : ℕ → Process) (w : ℕ) : Type 0 where
   pub start : 1 ≤ q.outer
   pub few : q.outer ≤ 8
-  pub some : isOutside (status (phaseOf q.stance)) ≡ false → 0 < q.value
+  pub some : is_outside (status (phase_of q.stance)) ≡ false → 0 < q.value
   pub later : (o : ℕ) → q.outer ≤ o → o < 8 → Out (a o) × Out (b o)
-  pub seats : seatsFit q.stance (a (q.outer - 1)) (b (q.outer - 1)) ≡ true
+  pub seats : seats_fit q.stance (a (q.outer - 1)) (b (q.outer - 1)) ≡ true
   pub knows : Knows W m q.stance (q.outer - 1) q.value w (a (q.outer - 1)) (b (q.outer - 1))
 
 -- ---- decisions
@@ -88,7 +88,7 @@ pub record Held (h : House) (x : List Event) : Type 0 where
   pub numbers : Numbers h.n h.c h.wards
   pub long : length h.workers ≡ 16
   pub known : Known h.n h.c h.sessions h.polls h.decision sessions (memory polls h.table x)
-  pub worker : (p : ℕ) → p < h.n → Fits (window h.n) (memory polls h.table x) (workerAt h p) (wardSeat h.wards h.sessions p)
-      (pollSeat h.polls p) (wardOf h p)
-  pub told : (p : ℕ) → Told p (workerAt h p) x
+  pub worker : (p : ℕ) → p < h.n → Fits (window h.n) (memory polls h.table x) (worker_at h p) (ward_seat h.wards h.sessions p)
+      (poll_seat h.polls p) (ward_of h p)
+  pub told : (p : ℕ) → Told p (worker_at h p) x
   pub rests : Rests (window h.n) (memory polls h.table x)

@@ -17,13 +17,13 @@ from k zero = []
 from k (suc m) = k ∷ from (suc k) m
 
 -- k, k + 2, .., below the end, at most `most` of them.
-abbrev everySecond : (most k end : ℕ) → List ℕ
-everySecond zero k end = []
-everySecond (suc m) k end = cond (ltb k end) (k ∷ everySecond m (k + 2) end) []
+abbrev every_second : (most k end : ℕ) → List ℕ
+every_second zero k end = []
+every_second (suc m) k end = cond (ltb k end) (k ∷ every_second m (k + 2) end) []
 
-abbrev isEven : ℕ → Bool
-isEven zero = true
-isEven (suc k) = not (isEven k)
+abbrev is_even : ℕ → Bool
+is_even zero = true
+is_even (suc k) = not (is_even k)
 
 abbrev concat : List (List Operation) → List Operation
 concat [] = []
@@ -58,12 +58,12 @@ pub record Standing : Type 0 where
 -- ---- the values
 
 -- The value of the second pass of epoch e: 1 in epoch W - 1, 2 in the one before, and so by turns.
-abbrev secondValue : (W e : ℕ) → ℕ
-secondValue W e = cond (isEven (W - 1 - e)) 1 2
+abbrev second_value : (W e : ℕ) → ℕ
+second_value W e = cond (is_even (W - 1 - e)) 1 2
 
 -- The value of the first pass.
-abbrev firstValue : (W e : ℕ) → ℕ
-firstValue W e = 3 - secondValue W e
+abbrev first_value : (W e : ℕ) → ℕ
+first_value W e = 3 - second_value W e
 
 -- ---- one pass
 
@@ -72,9 +72,9 @@ abbrev due : (t : ℕ) → List Ready → List Ready
 due t [] = []
 due t (r ∷ rs) = cond (eqb r.pass t) (r ∷ due t rs) (due t rs)
 
-abbrev notDue : (t : ℕ) → List Ready → List Ready
-notDue t [] = []
-notDue t (r ∷ rs) = cond (eqb r.pass t) (notDue t rs) (r ∷ notDue t rs)
+abbrev not_due : (t : ℕ) → List Ready → List Ready
+not_due t [] = []
+not_due t (r ∷ rs) = cond (eqb r.pass t) (not_due t rs) (r ∷ not_due t rs)
 
 -- The processes whose pass it is write, and when all have written, each compares the rounds down to 1, finds no difference and waits.
 abbrev writes : List Ready → List Operation
@@ -87,23 +87,23 @@ abbrev freed : List Ready → List Free → List Free
 freed [] fs = fs
 freed (r ∷ rs) fs = freed rs (record { process = r.process; round = r.register; pass = r.pass } ∷ fs)
 
-unfoldable pub withWrite : (t : ℕ) → Standing → Standing
-withWrite t s =
+unfoldable pub with_write : (t : ℕ) → Standing → Standing
+with_write t s =
     let rs = due t s.ready in
     record {
       operations = s.operations ++ writes rs ++ compares rs;
-      ready = notDue t s.ready;
+      ready = not_due t s.ready;
       free = freed rs s.free;
       proposed = s.proposed;
     }
 
 -- The passes for which processes must come to stand before register j, in the pass t of epoch j - 1: to register W one with each value; to
 -- a lower one its first writer, and those who write over it in the epochs from j on whose value is that of this pass.
-abbrev passesFor : (W j t : ℕ) → List ℕ
-passesFor W j t =
-    cond (isEven t)
-    (cond (eqb j W) ((2 * W + 1) ∷ []) (map (λ (e : ℕ). 2 * e + 1) (everySecond W j W)))
-    ((2 * j) ∷ map (λ (e : ℕ). 2 * e + 1) (everySecond W (j + 1) W))
+abbrev passes_for : (W j t : ℕ) → List ℕ
+passes_for W j t =
+    cond (is_even t)
+    (cond (eqb j W) ((2 * W + 1) ∷ []) (map (λ (e : ℕ). 2 * e + 1) (every_second W j W)))
+    ((2 * j) ∷ map (λ (e : ℕ). 2 * e + 1) (every_second W (j + 1) W))
 
 -- A free process can take the pass' value to register i + 1 if it is in a lower round than i, where it adopts the value, or came to round i
 -- in this pass.
@@ -111,15 +111,15 @@ abbrev fits : (i t : ℕ) → Free → Bool
 fits i t f = ltb f.round i || eqb f.pass t
 
 -- The first free process that fits, or a new one; its operations up to the place before the write to register i + 1.
-unfoldable pub goesOn : (i t : ℕ) → (later : ℕ) → (before fs : List Free) → Standing → Standing
-goesOn i t later before [] s =
+unfoldable pub goes_on_to : (i t : ℕ) → (later : ℕ) → (before fs : List Free) → Standing → Standing
+goes_on_to i t later before [] s =
     record {
       operations = s.operations ++ Propose s.proposed 1 ∷ replicate (2 * i + 3) (works s.proposed);
       ready = s.ready ++ record { process = s.proposed; register = i + 1; pass = later } ∷ [];
       free = before;
       proposed = suc s.proposed;
     }
-goesOn i t later before (f ∷ fs) s =
+goes_on_to i t later before (f ∷ fs) s =
     cond (fits i t f)
     (record {
       operations = s.operations ++ replicate (cond (eqb f.round i) 1 (2 * i + 3 - f.round)) (works f.process);
@@ -127,27 +127,27 @@ goesOn i t later before (f ∷ fs) s =
       free = before ++ fs;
       proposed = s.proposed;
     })
-    (goesOn i t later (before ++ f ∷ []) fs s)
+    (goes_on_to i t later (before ++ f ∷ []) fs s)
 
-unfoldable pub allGoOn : (i t : ℕ) → List ℕ → Standing → Standing
-allGoOn i t [] s = s
-allGoOn i t (later ∷ rest) s = allGoOn i t rest (goesOn i t later [] s.free s)
+unfoldable pub all_go_on : (i t : ℕ) → List ℕ → Standing → Standing
+all_go_on i t [] s = s
+all_go_on i t (later ∷ rest) s = all_go_on i t rest (goes_on_to i t later [] s.free s)
 
-unfoldable pub onePass : (W i t : ℕ) → Standing → Standing
-onePass W i t s = allGoOn i t (passesFor W (i + 1) t) (withWrite t s)
+unfoldable pub one_pass : (W i t : ℕ) → Standing → Standing
+one_pass W i t s = all_go_on i t (passes_for W (i + 1) t) (with_write t s)
 
 unfoldable pub epochs : (W : ℕ) → List ℕ → Standing → Standing
 epochs W [] s = s
-epochs W (i ∷ is) s = epochs W is (onePass W i (2 * i + 1) (onePass W i (2 * i) s))
+epochs W (i ∷ is) s = epochs W is (one_pass W i (2 * i + 1) (one_pass W i (2 * i) s))
 
 -- ---- the list
 
 -- W processes stand before the write to register 1: its first writer, and one for each epoch.
-unfoldable pub atFirst : (W : ℕ) → Standing
-atFirst W =
+unfoldable pub at_first : (W : ℕ) → Standing
+at_first W =
     record {
       operations =
-          (Propose 0 (firstValue W 1) ∷ map (λ (e : ℕ). Propose e (secondValue W e)) (from 1 (W - 1))) ++ map works (from 0 W);
+          (Propose 0 (first_value W 1) ∷ map (λ (e : ℕ). Propose e (second_value W e)) (from 1 (W - 1))) ++ map works (from 0 W);
       ready =
           record { process = 0; register = 1; pass = 2 }
           ∷ map (λ (e : ℕ). record { process = e; register = 1; pass = 2 * e + 1 }) (from 1 (W - 1));
@@ -156,28 +156,28 @@ atFirst W =
     }
 
 -- After all epochs.
-unfoldable pub atLast : (W : ℕ) → Standing
-atLast W = epochs W (from 1 (W - 1)) (atFirst W)
+unfoldable pub at_last : (W : ℕ) → Standing
+at_last W = epochs W (from 1 (W - 1)) (at_first W)
 
 -- The process whose pass it is.
-abbrev processDue : (t : ℕ) → List Ready → ℕ
-processDue t [] = 0
-processDue t (r ∷ rs) = cond (eqb r.pass t) r.process (processDue t rs)
+abbrev process_due : (t : ℕ) → List Ready → ℕ
+process_due t [] = 0
+process_due t (r ∷ rs) = cond (eqb r.pass t) r.process (process_due t rs)
 
 -- The two before the write to register W: with the value 1, and with 2.
-abbrev pub withOne : (W : ℕ) → Standing → ℕ
-withOne W s = processDue (2 * W) s.ready
+abbrev pub with_one : (W : ℕ) → Standing → ℕ
+with_one W s = process_due (2 * W) s.ready
 
-abbrev pub withTwo : (W : ℕ) → Standing → ℕ
-withTwo W s = processDue (2 * W + 1) s.ready
+abbrev pub with_two : (W : ℕ) → Standing → ℕ
+with_two W s = process_due (2 * W + 1) s.ready
 
 -- The first one writes, compares, checks and commits in so many steps.
-abbrev pub commitSteps : (W : ℕ) → ℕ
-commitSteps W = 3 * W + 2
+abbrev pub commit_steps : (W : ℕ) → ℕ
+commit_steps W = 3 * W + 2
 
 -- The steps of a process alone from the write to register W + m on: the other value stands in the registers below W.
-abbrev pub lastSteps : (W m : ℕ) → ℕ
-lastSteps W m =
+abbrev pub last_steps : (W m : ℕ) → ℕ
+last_steps W m =
     (cond (eqb m 0) 0 1) + 1 + W + (W - 1 - m) + (cond (eqb (m + 1) W) (2 * W + 1) (2 * m + 3))
 
 -- The list in two parts, and the two processes that come to register W. In the first part, for which W rounds are enough, one of them
@@ -191,12 +191,12 @@ pub record Plan : Type 0 where
 
 unfoldable pub construction : (W : ℕ) → Plan
 construction W =
-    let s = atLast W in
-    let one = withOne W s in
-    let other = withTwo W s in
+    let s = at_last W in
+    let one = with_one W s in
+    let other = with_two W s in
     record {
       one = one;
       other = other;
-      first = map acts (s.operations ++ replicate (commitSteps W) (works one) ++ Learn one ∷ works other ∷ []);
-      second = map acts (replicate (count (map (lastSteps W) (from 0 W)) - 1) (works other) ++ Learn other ∷ []);
+      first = map acts (s.operations ++ replicate (commit_steps W) (works one) ++ Learn one ∷ works other ∷ []);
+      second = map acts (replicate (count (map (last_steps W) (from 0 W)) - 1) (works other) ++ Learn other ∷ []);
     }

@@ -4,5 +4,5 @@ pub mod Pairs
 pub mod SheetOf
 pub mod Written
 pub mod Read
-pub mod Contracts
+pub mod FunctionContracts
 pub mod Functions

@@ -1,69 +1,69 @@
 -- Document 02, wish 3: what is read is written again.
 use Rattle.std.proofs.Common.{length-drop}
 use Rattle.base.specs.Prelude.{ℕ, ◌+◌, ◌*◌, ◌≤◌, arith, ◌≡◌, sym, ◌∙◌, ap, true, List, length, length-map, drop, take_all}
-use Rattle.model.specs.Sheet.{processCount, runCount, roundLimit, runs, headerEnd, wholeEntries}
+use Rattle.model.specs.Sheet.{process_count, run_count, round_limit, runs, header_end, whole_entries}
 use Rattle.model.specs.Sound.{every}
 use Rattle.model_laws.specs.ByteLaws.{AreBytes}
-use Rattle.model_laws.specs.SheetLaws.{length-runsFrom}
-use Rattle.model_write.specs.Write.{laidOut, sheetOf, total, writeResult}
-use Rattle.model_write.specs.RoundTrip.{lengthsOf, runBytes, entryBytes, gapless, ReadWrites}
-use Rattle.theory_write.specs.Follow.{laidOut-lengths, total-lengths, runBytes-laidOut}
-use Rattle.theory_write.specs.Pairs.{sheet-parts}
-use Rattle.theory_write.specs.SheetOf.{entries-sheetOf}
-use Rattle.model_write_laws.specs.Facts.{WriteFacts, facts-write}
-use Rattle.model_laws.specs.SheetFacts.{sheet-facts}
+use Rattle.model_laws.specs.SheetLaws.{length_runs_from}
+use Rattle.model_write.specs.Write.{laid_out, sheet_of, total, write_result}
+use Rattle.model_write.specs.RoundTrip.{lengths_of, run_bytes, entry_bytes, gapless, ReadWrites}
+use Rattle.theory_write.specs.Follow.{laid_out_lengths, total_lengths, run_bytes_laid_out}
+use Rattle.theory_write.specs.Pairs.{sheet_parts}
+use Rattle.theory_write.specs.SheetOf.{entries_sheet_of}
+use Rattle.model_write_laws.specs.Facts.{WriteFacts, facts_write}
+use Rattle.model_laws.specs.SheetFacts.{sheet_facts}
 
 -- As many cuts as runs.
-pub length-lengthsOf : (s : List ℕ) → length (lengthsOf s) ≡ runCount s
-length-lengthsOf s = simp (length-map, length-runsFrom)
+pub length_lengths_of : (s : List ℕ) → length (lengths_of s) ≡ run_count s
+length_lengths_of s = simp (length-map, length_runs_from)
 
 -- Of a sheet without gaps whose runs are whole entries:
-module _ (s : List ℕ) (whole : every wholeEntries (runs s) ≡ true) (gap : gapless s ≡ true) where
+module _ (s : List ℕ) (whole : every whole_entries (runs s) ≡ true) (gap : gapless s ≡ true) where
   -- Its runs are laid out by its cuts.
-  runs-laidOut : laidOut (headerEnd s) (lengthsOf s) ≡ runs s
+  runs_laid_out : laid_out (header_end s) (lengths_of s) ≡ runs s
   unfolding gapless
-  runs-laidOut = laidOut-lengths (headerEnd s) (length s) (runs s) gap whole
+  runs_laid_out = laid_out_lengths (header_end s) (length s) (runs s) gap whole
 
   -- Its cuts add up to the bytes behind the pairs.
-  total-lengthsOf : headerEnd s + 6 * total (lengthsOf s) ≡ length s
+  total_lengths_of : header_end s + 6 * total (lengths_of s) ≡ length s
   unfolding gapless
-  total-lengthsOf = total-lengths (headerEnd s) (length s) (runs s) gap whole
+  total_lengths_of = total_lengths (header_end s) (length s) (runs s) gap whole
 
   -- These are its entries' bytes.
-  entryBytes-gapless : entryBytes s ≡ drop (headerEnd s) s
-  entryBytes-gapless =
-      let all : length (drop (headerEnd s) s) ≤ 6 * total (lengthsOf s) = rw length-drop (omega (arith, total-lengthsOf)) in
-      ap (runBytes s) (sym runs-laidOut) ∙ runBytes-laidOut s (headerEnd s) (lengthsOf s) ∙ take_all _ _ all
+  entry_bytes_gapless : entry_bytes s ≡ drop (header_end s) s
+  entry_bytes_gapless =
+      let all : length (drop (header_end s) s) ≤ 6 * total (lengths_of s) = rw length-drop (omega (arith, total_lengths_of)) in
+      ap (run_bytes s) (sym runs_laid_out) ∙ run_bytes_laid_out s (header_end s) (lengths_of s) ∙ take_all _ _ all
 
   -- So its cuts add up to its entries.
-  length-entryBytes : 6 * total (lengthsOf s) ≡ length (entryBytes s)
-  length-entryBytes = rw (entryBytes-gapless, length-drop) (omega (arith, total-lengthsOf))
+  length_entry_bytes : 6 * total (lengths_of s) ≡ length (entry_bytes s)
+  length_entry_bytes = rw (entry_bytes_gapless, length-drop) (omega (arith, total_lengths_of))
 
   -- Written again, it is the same sheet.
-  pub sheetOf-read : AreBytes s → headerEnd s ≤ length s → sheetOf (processCount s) (roundLimit s) (entryBytes s) (lengthsOf s) ≡ s
-  unfolding sheetOf
-  sheetOf-read bytes header = rw (length-lengthsOf s, runs-laidOut, entryBytes-gapless) (sym (sheet-parts s bytes header))
+  pub sheet_of_read : AreBytes s → header_end s ≤ length s → sheet_of (process_count s) (round_limit s) (entry_bytes s) (lengths_of s) ≡ s
+  unfolding sheet_of
+  sheet_of_read bytes header = rw (length_lengths_of s, runs_laid_out, entry_bytes_gapless) (sym (sheet_parts s bytes header))
 
 -- So the call that is given what was read is accepted, and writes the sheet.
-pub read-writes : ReadWrites
-unfolding writeResult
-read-writes most s out bytes ok formed gap room =
-    let a = sheet-facts most s ok in
-    let n = processCount s in
-    let L = roundLimit s in
-    let es = entryBytes s in
-    let ms = lengthsOf s in
-    let same : sheetOf n L es ms ≡ s = sheetOf-read s a.whole gap bytes a.header in
-    let sum : 6 * total ms ≡ length es = length-entryBytes s a.whole gap in
-    let few : length (sheetOf n L es ms) ≤ 65535 = rw same a.few in
+pub read_writes : ReadWrites
+unfolding write_result
+read_writes most s out bytes ok formed gap room =
+    let a = sheet_facts most s ok in
+    let n = process_count s in
+    let L = round_limit s in
+    let es = entry_bytes s in
+    let ms = lengths_of s in
+    let same : sheet_of n L es ms ≡ s = sheet_of_read s a.whole gap bytes a.header in
+    let sum : 6 * total ms ≡ length es = length_entry_bytes s a.whole gap in
+    let few : length (sheet_of n L es ms) ≤ 65535 = rw same a.few in
     let b : WriteFacts most n L es ms (length out) =
     record {
       opens = a.opens;
       whole = sum;
-      count = rw (length-lengthsOf s) a.count;
+      count = rw (length_lengths_of s) a.count;
       few = few;
-      formed = rw (← entries-sheetOf n L es ms few sum, same) formed;
+      formed = rw (← entries_sheet_of n L es ms few sum, same) formed;
       fits = rw same room;
     }
     in
-    rw (facts-write most n L es ms (length out) b, same)
+    rw (facts_write most n L es ms (length out) b, same)

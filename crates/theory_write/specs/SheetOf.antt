@@ -2,78 +2,78 @@
 use Rattle.std.proofs.Math.Seq.{drop_at}
 use Rattle.base.specs.Prelude.{ℕ, ◌+◌, ◌*◌, ◌/◌, ◌≤◌, ◌<◌, arith, add-zero, ◌≡◌, refl, sym, ◌∙◌, ap, true, List, length, drop, drop-drop}
 use Rattle.base.specs.Prelude.{take_all}
-use Rattle.model.specs.Sheet.{processCount, runCount, roundLimit, runs, wholeEntries, entriesOf, entries}
+use Rattle.model.specs.Sheet.{process_count, run_count, round_limit, runs, whole_entries, entries_of, entries}
 use Rattle.model.specs.Sound.{every}
-use Rattle.model_laws.specs.ByteLaws.{word16-at}
-use Rattle.model_laws.specs.SheetLaws.{entriesAt-drop}
-use Rattle.model_write.specs.Write.{laidOut, pairBytes, sheetOf, total, bufferEntries}
-use Rattle.model_write.specs.RoundTrip.{lengths, lengthsOf, runBytes, entryBytes, follow, gapless}
-use Rattle.theory_write.specs.Follow.{lengths-laidOut, whole-laidOut, follow-laidOut, entriesOf-laidOut, runBytes-laidOut}
-use Rattle.theory_write.specs.Pairs.{runsFrom-pairBytes}
-use Rattle.model_write_laws.specs.Sizes.{length-laidOut, length-pairBytes, length-sheetOf}
+use Rattle.model_laws.specs.ByteLaws.{word16_at}
+use Rattle.model_laws.specs.SheetLaws.{entries_at_drop}
+use Rattle.model_write.specs.Write.{laid_out, pair_bytes, sheet_of, total, buffer_entries}
+use Rattle.model_write.specs.RoundTrip.{lengths, lengths_of, run_bytes, entry_bytes, follow, gapless}
+use Rattle.theory_write.specs.Follow.{lengths_laid_out, whole_laid_out, follow_laid_out, entries_of_laid_out, run_bytes_laid_out}
+use Rattle.theory_write.specs.Pairs.{runs_from_pair_bytes}
+use Rattle.model_write_laws.specs.Sizes.{length_laid_out, length_pair_bytes, length_sheet_of}
 
 -- ---- its header, and its entries behind the pairs
 
 module _ (n L : ℕ) (es ms : List ℕ) where
   -- Byte 0, byte 1, and bytes 2 and 3.
-  pub processCount-sheetOf : processCount (sheetOf n L es ms) ≡ n
-  unfolding sheetOf
-  processCount-sheetOf = refl
+  pub process_count_sheet_of : process_count (sheet_of n L es ms) ≡ n
+  unfolding sheet_of
+  process_count_sheet_of = refl
 
-  pub runCount-sheetOf : runCount (sheetOf n L es ms) ≡ length ms
-  unfolding sheetOf
-  runCount-sheetOf = refl
+  pub run_count_sheet_of : run_count (sheet_of n L es ms) ≡ length ms
+  unfolding sheet_of
+  run_count_sheet_of = refl
 
-  pub roundLimit-sheetOf : L < 65536 → roundLimit (sheetOf n L es ms) ≡ L
-  unfolding sheetOf
-  roundLimit-sheetOf low = word16-at (sheetOf n L es ms) _ 2 L refl low
+  pub round_limit_sheet_of : L < 65536 → round_limit (sheet_of n L es ms) ≡ L
+  unfolding sheet_of
+  round_limit_sheet_of low = word16_at (sheet_of n L es ms) _ 2 L refl low
 
   -- The entries' bytes stand behind the pairs.
-  drop-sheetOf : drop (4 + 4 * length ms) (sheetOf n L es ms) ≡ es
-  unfolding sheetOf
-  drop-sheetOf =
-      let pairs = pairBytes (laidOut (4 + 4 * length ms) ms) in
-      sym (drop-drop (4 * length ms) 4 (sheetOf n L es ms)) ∙ drop_at pairs es (4 * length ms) (simp (length-pairBytes, length-laidOut))
+  drop_sheet_of : drop (4 + 4 * length ms) (sheet_of n L es ms) ≡ es
+  unfolding sheet_of
+  drop_sheet_of =
+      let pairs = pair_bytes (laid_out (4 + 4 * length ms) ms) in
+      sym (drop-drop (4 * length ms) 4 (sheet_of n L es ms)) ∙ drop_at pairs es (4 * length ms) (simp (length_pair_bytes, length_laid_out))
 
 -- ---- its runs and its entries: where it is small enough, and the lengths add up to the entries
 
-module _ (n L : ℕ) (es ms : List ℕ) (few : length (sheetOf n L es ms) ≤ 65535) (whole : 6 * total ms ≡ length es) where
+module _ (n L : ℕ) (es ms : List ℕ) (few : length (sheet_of n L es ms) ≤ 65535) (whole : 6 * total ms ≡ length es) where
   -- The runs that are laid out end with the sheet.
-  laidOut-sheetOf : follow (4 + 4 * length ms) (length (sheetOf n L es ms)) (laidOut (4 + 4 * length ms) ms) ≡ true
-  laidOut-sheetOf = follow-laidOut _ _ ms (omega (arith, length-sheetOf n L es ms))
+  laid_out_sheet_of : follow (4 + 4 * length ms) (length (sheet_of n L es ms)) (laid_out (4 + 4 * length ms) ms) ≡ true
+  laid_out_sheet_of = follow_laid_out _ _ ms (omega (arith, length_sheet_of n L es ms))
 
   -- They are the runs that are read,
-  pub runs-sheetOf : runs (sheetOf n L es ms) ≡ laidOut (4 + 4 * length ms) ms
-  unfolding sheetOf
-  runs-sheetOf =
-      let xs = laidOut (4 + 4 * length ms) ms in
-      let low : length (sheetOf n L es ms) < 65536 = omega arith in
-      rw length-laidOut at (runsFrom-pairBytes (sheetOf n L es ms) es xs 0 _ _ low laidOut-sheetOf refl)
+  pub runs_sheet_of : runs (sheet_of n L es ms) ≡ laid_out (4 + 4 * length ms) ms
+  unfolding sheet_of
+  runs_sheet_of =
+      let xs = laid_out (4 + 4 * length ms) ms in
+      let low : length (sheet_of n L es ms) < 65536 = omega arith in
+      rw length_laid_out at (runs_from_pair_bytes (sheet_of n L es ms) es xs 0 _ _ low laid_out_sheet_of refl)
 
   -- which are whole entries,
-  pub whole-sheetOf : every wholeEntries (runs (sheetOf n L es ms)) ≡ true
-  whole-sheetOf = rw runs-sheetOf (whole-laidOut _ ms)
+  pub whole_sheet_of : every whole_entries (runs (sheet_of n L es ms)) ≡ true
+  whole_sheet_of = rw runs_sheet_of (whole_laid_out _ ms)
 
   -- without gaps,
-  pub gapless-sheetOf : gapless (sheetOf n L es ms) ≡ true
+  pub gapless_sheet_of : gapless (sheet_of n L es ms) ≡ true
   unfolding gapless
-  gapless-sheetOf = rw (runs-sheetOf, runCount-sheetOf n L es ms) laidOut-sheetOf
+  gapless_sheet_of = rw (runs_sheet_of, run_count_sheet_of n L es ms) laid_out_sheet_of
 
   -- of the lengths given,
-  pub lengthsOf-sheetOf : lengthsOf (sheetOf n L es ms) ≡ ms
-  lengthsOf-sheetOf = ap lengths runs-sheetOf ∙ lengths-laidOut _ ms
+  pub lengths_of_sheet_of : lengths_of (sheet_of n L es ms) ≡ ms
+  lengths_of_sheet_of = ap lengths runs_sheet_of ∙ lengths_laid_out _ ms
 
   -- with the bytes given,
-  pub entryBytes-sheetOf : entryBytes (sheetOf n L es ms) ≡ es
-  entryBytes-sheetOf =
-      let s = sheetOf n L es ms in
-      ap (runBytes s) runs-sheetOf ∙ runBytes-laidOut s _ ms ∙ rw drop-sheetOf (take_all (6 * total ms) es (omega arith))
+  pub entry_bytes_sheet_of : entry_bytes (sheet_of n L es ms) ≡ es
+  entry_bytes_sheet_of =
+      let s = sheet_of n L es ms in
+      ap (run_bytes s) runs_sheet_of ∙ run_bytes_laid_out s _ ms ∙ rw drop_sheet_of (take_all (6 * total ms) es (omega arith))
 
   -- and with the entries that these say.
-  pub entries-sheetOf : entries (sheetOf n L es ms) ≡ bufferEntries es
+  pub entries_sheet_of : entries (sheet_of n L es ms) ≡ buffer_entries es
   unfolding entries
-  entries-sheetOf =
-      let s = sheetOf n L es ms in
+  entries_sheet_of =
+      let s = sheet_of n L es ms in
       let all : total ms ≡ length es / 6 = omega arith in
-      let behind = rw (drop-sheetOf, add-zero) at (entriesAt-drop (4 + 4 * length ms) s 0 (total ms)) in
-      ap (entriesOf s) runs-sheetOf ∙ entriesOf-laidOut s _ ms ∙ sym behind ∙ rw all
+      let behind = rw (drop_sheet_of, add-zero) at (entries_at_drop (4 + 4 * length ms) s 0 (total ms)) in
+      ap (entries_of s) runs_sheet_of ∙ entries_of_laid_out s _ ms ∙ sym behind ∙ rw all

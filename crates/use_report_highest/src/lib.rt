@@ -1,10 +1,10 @@
 // The highest filled round, of the board line (01, "The board report").
 ghost use Rattle.std.specs.Prelude.{◌≡◌};
-ghost use Rattle.model.specs.Board.{highestFrom};
+ghost use Rattle.model.specs.Board.{highest_from};
 
 // 01: "the highest filled round (0 for none)".
 pub fn highest(values: &[u32]) -> usize
-    ensures { result ≡ highestFrom 0 0 values.now }
+    ensures { result ≡ highest_from 0 0 values.now }
 {
     let mut top: usize = 0;
     let mut r: usize = 0;

@@ -11,79 +11,79 @@ use Rattle.model.specs.declared.Counts.{Counts}
 use Rattle.model.specs.declared.Ending.{Ending}
 use Rattle.model.specs.declared.Ending.TheVariants.{Finished, Refused, BudgetEnded, Rejected}
 use Rattle.model.specs.declared.Ran.{Ran}
-use Rattle.model.specs.Board.{maxProcesses, highestFilled}
-use Rattle.model_report.specs.Report.{bytes, field, newline, outcomeLine, tallyLine, closedWord, boardLine, statusWords, seatLines}
-use Rattle.model_report.specs.Report.{moreLines, reportOf}
-use Rattle.use_text.specs.Numbers.{withFields, digits-length}
+use Rattle.model.specs.Board.{max_processes, highest_filled}
+use Rattle.model_report.specs.Report.{bytes, field, newline, outcome_line, tally_line, closed_word, board_line, status_words, seat_lines}
+use Rattle.model_report.specs.Report.{more_lines, report_of}
+use Rattle.use_text.specs.Numbers.{with_fields, digits_length}
 
 -- What words and numbers take at most: a space and 20 digits for each number.
-abbrev fieldsRoom : (words numbers : ℕ) → ℕ
-fieldsRoom w n = w + n * (1 + 20)
+abbrev fields_room : (words numbers : ℕ) → ℕ
+fields_room w n = w + n * (1 + 20)
 
 -- On a line of their own.
-abbrev lineRoom : String → (numbers : ℕ) → ℕ
-lineRoom words n = fieldsRoom (length (bytes words)) n + 1
+abbrev line_room : String → (numbers : ℕ) → ℕ
+line_room words n = fields_room (length (bytes words)) n + 1
 
 -- The longest report: 5,046 bytes.
-abbrev pub reportRoom : ℕ
-reportRoom = lineRoom "outcome refused" 2 + lineRoom "tally" 3 + lineRoom "board closed" 2 + maxProcesses * lineRoom "seat working" 3
+abbrev pub report_room : ℕ
+report_room = line_room "outcome refused" 2 + line_room "tally" 3 + line_room "board closed" 2 + max_processes * line_room "seat working" 3
 
 -- ---- what is taken
 
-fields-low : (t vs : List ℕ) → length (withFields t vs) ≤ fieldsRoom (length t) (length vs)
-fields-low t [] = omega arith
-fields-low t (v ∷ vs) = omega (arith, fields-low (t ++ field v) vs, length-append t (field v), digits-length 20 v)
+fields_low : (t vs : List ℕ) → length (with_fields t vs) ≤ fields_room (length t) (length vs)
+fields_low t [] = omega arith
+fields_low t (v ∷ vs) = omega (arith, fields_low (t ++ field v) vs, length-append t (field v), digits_length 20 v)
 
-line_low : (words : String) (vs : List ℕ) → length (withFields (bytes words) vs ++ newline) ≤ lineRoom words (length vs)
-line_low words vs = rw length-append (omega (arith, fields-low (bytes words) vs))
+line_low : (words : String) (vs : List ℕ) → length (with_fields (bytes words) vs ++ newline) ≤ line_room words (length vs)
+line_low words vs = rw length-append (omega (arith, fields_low (bytes words) vs))
 
 -- The longest word of the closed mark is that of a closed session.
-mark-low : (closed : Bool) → length (closedWord closed) ≤ length (bytes " closed")
-mark-low true = omega arith
-mark-low false = omega arith
+mark_low : (closed : Bool) → length (closed_word closed) ≤ length (bytes " closed")
+mark_low true = omega arith
+mark_low false = omega arith
 
-board-low : (s : Session) → length (boardLine s) ≤ lineRoom "board closed" 2
-board-low s =
-    simp length-append (omega (arith, digits-length 20 (highestFilled s), digits-length 20 s.decision, mark-low s.closed))
+board_low : (s : Session) → length (board_line s) ≤ line_room "board closed" 2
+board_low s =
+    simp length-append (omega (arith, digits_length 20 (highest_filled s), digits_length 20 s.decision, mark_low s.closed))
 
 -- The longest status is that of a working seat.
-status-low : (φ : Phase) (r e : ℕ) → length (statusWords φ r e) ≤ fieldsRoom (length (bytes " working")) 2
-status-low Idle r e = omega arith
-status-low Waiting r e = fields-low (bytes " working") (r ∷ e ∷ [])
-status-low Write r e = fields-low (bytes " working") (r ∷ e ∷ [])
-status-low (Scan k) r e = fields-low (bytes " working") (r ∷ e ∷ [])
-status-low (Adopt k) r e = fields-low (bytes " working") (r ∷ e ∷ [])
-status-low (Compare i) r e = fields-low (bytes " working") (r ∷ e ∷ [])
-status-low (Flag i) r e = fields-low (bytes " working") (r ∷ e ∷ [])
-status-low (CheckMark i) r e = fields-low (bytes " working") (r ∷ e ∷ [])
-status-low (CheckValue i) r e = fields-low (bytes " working") (r ∷ e ∷ [])
-status-low Commit r e = fields-low (bytes " working") (r ∷ e ∷ [])
-status-low Exhausted r e = omega (arith, fields-low (bytes " spent") (e ∷ []))
-status-low Crashed r e = omega arith
-status-low Decided r e = omega (arith, fields-low (bytes " decided") (e ∷ []))
-status-low HasCommitted r e = fields-low (bytes " working") (r ∷ e ∷ [])
-status-low HasAdopted r e = fields-low (bytes " working") (r ∷ e ∷ [])
+status_low : (φ : Phase) (r e : ℕ) → length (status_words φ r e) ≤ fields_room (length (bytes " working")) 2
+status_low Idle r e = omega arith
+status_low Waiting r e = fields_low (bytes " working") (r ∷ e ∷ [])
+status_low Write r e = fields_low (bytes " working") (r ∷ e ∷ [])
+status_low (Scan k) r e = fields_low (bytes " working") (r ∷ e ∷ [])
+status_low (Adopt k) r e = fields_low (bytes " working") (r ∷ e ∷ [])
+status_low (Compare i) r e = fields_low (bytes " working") (r ∷ e ∷ [])
+status_low (Flag i) r e = fields_low (bytes " working") (r ∷ e ∷ [])
+status_low (CheckMark i) r e = fields_low (bytes " working") (r ∷ e ∷ [])
+status_low (CheckValue i) r e = fields_low (bytes " working") (r ∷ e ∷ [])
+status_low Commit r e = fields_low (bytes " working") (r ∷ e ∷ [])
+status_low Exhausted r e = omega (arith, fields_low (bytes " spent") (e ∷ []))
+status_low Crashed r e = omega arith
+status_low Decided r e = omega (arith, fields_low (bytes " decided") (e ∷ []))
+status_low HasCommitted r e = fields_low (bytes " working") (r ∷ e ∷ [])
+status_low HasAdopted r e = fields_low (bytes " working") (r ∷ e ∷ [])
 
-seats-low : (p : ℕ) (l : List Process) → length (seatLines p l) ≤ length l * lineRoom "seat working" 3
-seats-low p [] = omega arith
-seats-low p (q ∷ l) =
-    simp length-append (omega (arith, digits-length 20 p, status-low q.phase q.round q.estimate, seats-low (suc p) l))
+seats_low : (p : ℕ) (l : List Process) → length (seat_lines p l) ≤ length l * line_room "seat working" 3
+seats_low p [] = omega arith
+seats_low p (q ∷ l) =
+    simp length-append (omega (arith, digits_length 20 p, status_low q.phase q.round q.estimate, seats_low (suc p) l))
 
 -- Behind the first line.
-more-low : (s : Session) (c : Counts) → length s.processes ≡ maxProcesses
-    → length (tallyLine c ++ boardLine s ++ seatLines 0 (take s.n s.processes)) + lineRoom "outcome refused" 2 ≤ reportRoom
-more-low s c h =
+more_low : (s : Session) (c : Counts) → length s.processes ≡ max_processes
+    → length (tally_line c ++ board_line s ++ seat_lines 0 (take s.n s.processes)) + line_room "outcome refused" 2 ≤ report_room
+more_low s c h =
     let tally = line_low "tally" (c.reads ∷ c.writes ∷ c.contested ∷ []) in
-    let board = board-low s in
-    rw (length-append, length-append) (omega (arith, seats-low 0 (take s.n s.processes), length-take s.n s.processes))
+    let board = board_low s in
+    rw (length-append, length-append) (omega (arith, seats_low 0 (take s.n s.processes), length-take s.n s.processes))
 
-all-low : (e : Ending) (k : ℕ) (s : Session) (c : Counts) → length s.processes ≡ maxProcesses
-    → length (outcomeLine e k ++ moreLines e s c) ≤ reportRoom
-all-low Finished k s c h = rw length-append (omega (arith, line_low "outcome finished" (k ∷ []), more-low s c h))
-all-low (Refused r i) k s c h = rw length-append (omega (arith, line_low "outcome refused" (r ∷ i ∷ []), more-low s c h))
-all-low BudgetEnded k s c h = rw length-append (omega (arith, line_low "outcome finished" (k ∷ []), more-low s c h))
-all-low (Rejected r) k s c h = rw length-append (omega (arith, line_low "sheet refused" (r ∷ [])))
+all_low : (e : Ending) (k : ℕ) (s : Session) (c : Counts) → length s.processes ≡ max_processes
+    → length (outcome_line e k ++ more_lines e s c) ≤ report_room
+all_low Finished k s c h = rw length-append (omega (arith, line_low "outcome finished" (k ∷ []), more_low s c h))
+all_low (Refused r i) k s c h = rw length-append (omega (arith, line_low "outcome refused" (r ∷ i ∷ []), more_low s c h))
+all_low BudgetEnded k s c h = rw length-append (omega (arith, line_low "outcome finished" (k ∷ []), more_low s c h))
+all_low (Rejected r) k s c h = rw length-append (omega (arith, line_low "sheet refused" (r ∷ [])))
 
 -- The report of any run is at most so long.
-pub report-low : (r : Ran) → length r.session.processes ≡ maxProcesses → length (reportOf r) ≤ reportRoom
-report-low r h = all-low r.ending r.carried r.session r.counts h
+pub report_low : (r : Ran) → length r.session.processes ≡ max_processes → length (report_of r) ≤ report_room
+report_low r h = all_low r.ending r.carried r.session r.counts h

@@ -1,24 +1,24 @@
 -- The whole report, put on a blank page.
 use Rattle.base.specs.Prelude.{ℕ, ◌-◌, ◌≤◌, arith, ◌≡◌, ap, List, ◌++◌, length, replicate}
 use Rattle.model.specs.declared.Ran.{Ran}
-use Rattle.model.specs.Board.{maxProcesses}
+use Rattle.model.specs.Board.{max_processes}
 use Rattle.model.specs.declared.Caller.TheVariants.{Server}
 use Rattle.model.specs.Runner.{run}
-use Rattle.model_report.specs.Report.{reportBudget, reportOf, report}
-use Rattle.use_text.specs.Page.{pageSize, Put, on-blank}
-use Rattle.use_report_laws.specs.Room.{report-low}
+use Rattle.model_report.specs.Report.{report_budget, report_of, report}
+use Rattle.use_text.specs.Page.{page_size, Put, on_blank}
+use Rattle.use_report_laws.specs.Room.{report_low}
 
 -- The report of a run stands on the page from its start, with zeros behind it.
 pub whole : {n : ℕ} {x : List ℕ} (r : Ran)
-    → length r.session.processes ≡ maxProcesses
-    → Put (replicate pageSize 0) 0 (reportOf r) x n
-    → ((n ≡ length (reportOf r)) × (n ≤ pageSize)) × (x ≡ reportOf r ++ replicate (pageSize - n) 0)
+    → length r.session.processes ≡ max_processes
+    → Put (replicate page_size 0) 0 (report_of r) x n
+    → ((n ≡ length (report_of r)) × (n ≤ page_size)) × (x ≡ report_of r ++ replicate (page_size - n) 0)
 whole r size p =
-    let low : length (reportOf r) ≤ pageSize = omega (arith, report-low r size) in
-    let q = on-blank (reportOf r) low p in
+    let low : length (report_of r) ≤ page_size = omega (arith, report_low r size) in
+    let q = on_blank (report_of r) low p in
     ((q.0, omega (arith, q.0)), q.1)
 
 -- The report of a sheet is that of its run under the report's budget.
-pub report-of-run : (s : List ℕ) {r : Ran} → r ≡ run Server s reportBudget → reportOf r ≡ report s
+pub report_of_run : (s : List ℕ) {r : Ran} → r ≡ run Server s report_budget → report_of r ≡ report s
 unfolding report
-report-of-run s e = ap reportOf e
+report_of_run s e = ap report_of e

@@ -1,6 +1,6 @@
 // The lines of a report (01, "The board report"), put on a page.
 ghost use Rattle.std.specs.Prelude.{◌++◌};
-ghost use Rattle.model_report.specs.Report.{newline, outcomeLine, tallyLine, closedWord, boardLine, reportOf};
+ghost use Rattle.model_report.specs.Report.{newline, outcome_line, tally_line, closed_word, board_line, report_of};
 ghost use Rattle.use_text.specs.Page.{Put};
 
 use model::{Counts, Ending, Ran, Session};
@@ -9,7 +9,7 @@ use use_text::{Bytes, put_fields, put_line, put_words};
 
 // 01: "outcome refused CODE INDEX", "sheet refused CODE", "outcome finished" and "the number of entries carried out".
 fn put_outcome(out: &mut Bytes, at: usize, ending: Ending, carried: usize) -> usize
-    ensures { Put out.old at (outcomeLine ending carried) out.new result }
+    ensures { Put out.old at (outcome_line ending carried) out.new result }
 {
     match ending {
         Ending::Refused(code, index) => put_line(
@@ -25,7 +25,7 @@ fn put_outcome(out: &mut Bytes, at: usize, ending: Ending, carried: usize) -> us
 
 // "The tally line is reads, writes, contested".
 fn put_tally(out: &mut Bytes, at: usize, c: Counts) -> usize
-    ensures { Put out.old at (tallyLine c) out.new result }
+    ensures { Put out.old at (tally_line c) out.new result }
 {
     put_line(
         out,
@@ -37,7 +37,7 @@ fn put_tally(out: &mut Bytes, at: usize, c: Counts) -> usize
 
 // 02, wish 10: "The board line gains a third field, "open" or "closed"." With the line's end.
 fn put_closed(out: &mut Bytes, at: usize, closed: bool) -> usize
-    ensures { Put out.old at (closedWord closed ++ newline) out.new result }
+    ensures { Put out.old at (closed_word closed ++ newline) out.new result }
 {
     if closed {
         put_words(out, at, b" closed\n")
@@ -48,7 +48,7 @@ fn put_closed(out: &mut Bytes, at: usize, closed: bool) -> usize
 
 // 01: "the board line is the highest filled round (0 for none) and D"; the third field is the closed mark.
 fn put_board(out: &mut Bytes, at: usize, s: Session) -> usize
-    ensures { Put out.old at (boardLine s) out.new result }
+    ensures { Put out.old at (board_line s) out.new result }
 {
     let top = use_report_highest::highest(&s.values);
     let mark = put_fields(out, at, b"board", &[top, s.decision as usize]);
@@ -57,7 +57,7 @@ fn put_board(out: &mut Bytes, at: usize, s: Session) -> usize
 
 // The report of a run, from `at` on. "A refused sheet gives only" its line; any other the tally, the board and the seats.
 pub fn put_lines(out: &mut Bytes, at: usize, ran: Ran) -> usize
-    ensures { Put out.old at (reportOf ran) out.new result }
+    ensures { Put out.old at (report_of ran) out.new result }
 {
     let ending = ran.ending;
     let tally = put_outcome(out, at, ending, ran.carried);

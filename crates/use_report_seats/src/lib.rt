@@ -1,6 +1,6 @@
 // The lines of the seats (01, "The board report": "Seats 0 to n - 1 follow").
 ghost use Rattle.std.specs.Prelude.{take};
-ghost use Rattle.model_report.specs.Report.{seatLines};
+ghost use Rattle.model_report.specs.Report.{seat_lines};
 ghost use Rattle.use_text.specs.Page.{Put};
 
 use model::Session;
@@ -9,7 +9,7 @@ use use_text::{Bytes, put_fields};
 
 // "Seats 0 to n - 1", "each as "seat", its number and" its status.
 pub fn put_seats(out: &mut Bytes, at: usize, s: Session) -> usize
-    ensures { Put out.old at (seatLines 0 (take s.n s.processes)) out.new result }
+    ensures { Put out.old at (seat_lines 0 (take s.n s.processes)) out.new result }
 {
     let mut next = at;
     let mut p: usize = 0;

@@ -1,6 +1,6 @@
 // A seat's status, the end of its line (01, "The board report").
 ghost use Rattle.std.specs.Prelude.{◌++◌};
-ghost use Rattle.model_report.specs.Report.{newline, statusWords};
+ghost use Rattle.model_report.specs.Report.{newline, status_words};
 ghost use Rattle.use_text.specs.Page.{Put};
 
 use model::{Phase, Process};
@@ -8,7 +8,7 @@ use use_text::{Bytes, put_line, put_words};
 
 // ".. one of "out", "working ROUND VALUE", "spent VALUE", "crashed" or "decided VALUE"", and the line's end.
 pub fn put_status(out: &mut Bytes, at: usize, q: Process) -> usize
-    ensures { Put out.old at (statusWords q.phase q.round q.estimate ++ newline) out.new result }
+    ensures { Put out.old at (status_words q.phase q.round q.estimate ++ newline) out.new result }
 {
     let phase = q.phase;
     let round = q.round;

@@ -1,7 +1,7 @@
 // The board report (document 01, "The board report"): the lines that are printed for a sheet, as bytes.
 ghost use Rattle.std.specs.Prelude.{◌≡◌, ◌-◌, ◌≤◌, ◌++◌, length, replicate};
-ghost use Rattle.model_report.specs.Report.{reportOf, report as sheetReport};
-ghost use Rattle.use_text.specs.Page.{pageSize};
+ghost use Rattle.model_report.specs.Report.{report_of as report_for, report as sheet_report};
+ghost use Rattle.use_text.specs.Page.{page_size};
 
 use model::{Caller, Ran};
 use use_text::Bytes;
@@ -15,8 +15,8 @@ pub struct Text {
 
 // The report of a run.
 pub fn report_of(ran: Ran) -> Text
-    ensures len_value { (result.len ≡ length (reportOf ran)) × (result.len ≤ pageSize) }
-    ensures bytes_value { result.bytes ≡ reportOf ran ++ replicate (pageSize - result.len) 0 }
+    ensures len_value { (result.len ≡ length (report_for ran)) × (result.len ≤ page_size) }
+    ensures bytes_value { result.bytes ≡ report_for ran ++ replicate (page_size - result.len) 0 }
 {
     let mut bytes = [0u8; use_text::SIZE];
     let len = use_report_lines::put_lines(&mut bytes, 0, ran);
@@ -25,8 +25,8 @@ pub fn report_of(ran: Ran) -> Text
 
 // The report of a sheet that is run "with a budget of 10,921". 02, wish 9: "the C entry and the report use the server's" limits.
 pub fn report(sheet: &[u8]) -> Text
-    ensures len_value { (result.len ≡ length (sheetReport sheet.now)) × (result.len ≤ pageSize) }
-    ensures bytes_value { result.bytes ≡ sheetReport sheet.now ++ replicate (pageSize - result.len) 0 }
+    ensures len_value { (result.len ≡ length (sheet_report sheet.now)) × (result.len ≤ page_size) }
+    ensures bytes_value { result.bytes ≡ sheet_report sheet.now ++ replicate (page_size - result.len) 0 }
 {
     report_of(sheet_run::run(Caller::Server, sheet, 10921))
 }

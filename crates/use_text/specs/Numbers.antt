@@ -5,9 +5,9 @@ use Rattle.base.specs.Bools.{cond_cases}
 use Rattle.model_report.specs.Report.{digits, field}
 
 -- A text with numbers behind it, a space before each.
-abbrev pub withFields : List ℕ → List ℕ → List ℕ
-withFields text [] = text
-withFields text (v ∷ vs) = withFields (text ++ field v) vs
+abbrev pub with_fields : List ℕ → List ℕ → List ℕ
+with_fields text [] = text
+with_fields text (v ∷ vs) = with_fields (text ++ field v) vs
 
 -- ---- digits
 
@@ -17,12 +17,12 @@ unfolding digits
 digits_low k v h = rw (lt-ltb v 10 h)
 
 -- At most as many digits as told.
-pub digits-length : (k v : ℕ) → length (digits k v) ≤ k
+pub digits_length : (k v : ℕ) → length (digits k v) ≤ k
 unfolding digits
-digits-length zero v = omega arith
-digits-length (suc k) v =
+digits_length zero v = omega arith
+digits_length (suc k) v =
     cond_cases (λ (d : List ℕ). length d ≤ suc k) (ltb v 10) (λ e. omega arith)
-    (λ e. rw length-append (omega (arith, digits-length k (v / 10))))
+    (λ e. rw length-append (omega (arith, digits_length k (v / 10))))
 
 -- One digit more than enough changes nothing.
 enough : (k v : ℕ) → v < 10 ^ suc k → digits (suc (suc k)) v ≡ digits (suc k) v
@@ -39,6 +39,6 @@ digits_last k v h l =
 
 -- ---- fields
 
-pub last-field : (t vs : List ℕ) (v : ℕ) → withFields t (vs ++ (v ∷ [])) ≡ withFields t vs ++ field v
-last-field t [] v = refl
-last-field t (x ∷ vs) v = last-field (t ++ field x) vs v
+pub last_field : (t vs : List ℕ) (v : ℕ) → with_fields t (vs ++ (v ∷ [])) ≡ with_fields t vs ++ field v
+last_field t [] v = refl
+last_field t (x ∷ vs) v = last_field (t ++ field x) vs v

@@ -4,8 +4,8 @@ use Rattle.base.specs.Prelude.{add-one, arith, ◌≡◌, refl, sym, ap, ◌∙�
 use Rattle.base.specs.Prelude.{length, set, drop, replicate, length-replicate, sets, sets-eq, ltb, lt-ltb}
 
 -- How many bytes a page has.
-abbrev pub pageSize : ℕ
-pageSize = 5120
+abbrev pub page_size : ℕ
+page_size = 5120
 
 -- A page's bytes, and the place of the next one.
 pub record Page : Type 0 where
@@ -16,13 +16,13 @@ abbrev pub page : List ℕ → ℕ → Page
 page bytes next = record { bytes = bytes; next = next }
 
 -- With one byte more, which is cut off where the page is full.
-unfoldable pub putByte : Page → ℕ → Page
-putByte p b = cond (ltb p.next pageSize) (page (set p.bytes p.next b) (p.next + 1)) p
+unfoldable pub put_byte : Page → ℕ → Page
+put_byte p b = cond (ltb p.next page_size) (page (set p.bytes p.next b) (p.next + 1)) p
 
 -- With a text.
 unfoldable pub put_all : Page → List ℕ → Page
 put_all p [] = p
-put_all p (b ∷ text) = put_all (putByte p b) text
+put_all p (b ∷ text) = put_all (put_byte p b) text
 
 -- What a function that puts a text does: to the bytes, and to the place that it returns.
 pub record Put (entry : List ℕ) (at : ℕ) (text exit : List ℕ) (next : ℕ) : Type 0 where
@@ -33,7 +33,7 @@ pub record Put (entry : List ℕ) (at : ℕ) (text exit : List ℕ) (next : ℕ)
 append : (p : Page) (t u : List ℕ) → put_all p (t ++ u) ≡ put_all (put_all p t) u
 unfolding put_all
 append p [] u = refl
-append p (b ∷ t) u = append (putByte p b) t u
+append p (b ∷ t) u = append (put_byte p b) t u
 
 -- One text behind another.
 pub after : {a b r : ℕ} {e t x u y : List ℕ} → Put e a t x b → Put x b u y r → Put e a (t ++ u) y r
@@ -45,8 +45,8 @@ pub same : {a r : ℕ} {e t u x : List ℕ} → t ≡ u → Put e a t x r → Pu
 same h p = rw (← h) p
 
 -- One text behind another, the second of two parts.
-pub after-parts : {a b r : ℕ} {e t x y : List ℕ} (u v : List ℕ) → Put e a t x b → Put x b (u ++ v) y r → Put e a (t ++ u ++ v) y r
-after-parts {t = t} u v p q = same (sym (append_assoc t u v)) (after p q)
+pub after_parts : {a b r : ℕ} {e t x y : List ℕ} (u v : List ℕ) → Put e a t x b → Put x b (u ++ v) y r → Put e a (t ++ u ++ v) y r
+after_parts {t = t} u v p q = same (sym (append_assoc t u v)) (after p q)
 
 -- No text.
 pub nothing : (e : List ℕ) (a : ℕ) → Put e a [] e a
@@ -54,24 +54,24 @@ unfolding put_all
 nothing e a = record { puts = refl }
 
 -- A text that fits is put whole.
-fits : (e : List ℕ) (a : ℕ) (t : List ℕ) → a + length t ≤ pageSize → put_all (page e a) t ≡ page (sets e a t) (a + length t)
-unfolding put_all putByte
+fits : (e : List ℕ) (a : ℕ) (t : List ℕ) → a + length t ≤ page_size → put_all (page e a) t ≡ page (sets e a t) (a + length t)
+unfolding put_all put_byte
 fits e a [] h = rw add-zero
 fits e a (b ∷ t) h =
-    rw (lt-ltb a pageSize (omega arith), add-one, add-suc, ← suc-add) (fits (set e a b) (suc a) t (omega arith))
+    rw (lt-ltb a page_size (omega arith), add-one, add-suc, ← suc-add) (fits (set e a b) (suc a) t (omega arith))
 
-drop-replicate : (n k v : ℕ) → drop k (replicate n v) ≡ replicate (n - k) v
-drop-replicate n zero v = rw sub-zero
-drop-replicate zero (suc k) v = rw zero-sub
-drop-replicate (suc n) (suc k) v = rw suc-sub-suc (drop-replicate n k v)
+drop_replicate : (n k v : ℕ) → drop k (replicate n v) ≡ replicate (n - k) v
+drop_replicate n zero v = rw sub-zero
+drop_replicate zero (suc k) v = rw zero-sub
+drop_replicate (suc n) (suc k) v = rw suc-sub-suc (drop_replicate n k v)
 
 -- So on a blank page it stands alone, with zeros behind it.
-pub on-blank : {x : List ℕ} {r : ℕ} (t : List ℕ) → length t ≤ pageSize → Put (replicate pageSize 0) 0 t x r
-    → (r ≡ length t) × (x ≡ t ++ replicate (pageSize - r) 0)
-on-blank {x} {r} t h p =
-    let q : page x r ≡ page (sets (replicate pageSize 0) 0 t) (0 + length t) = p.puts ∙ fits _ 0 t (omega arith) in
+pub on_blank : {x : List ℕ} {r : ℕ} (t : List ℕ) → length t ≤ page_size → Put (replicate page_size 0) 0 t x r
+    → (r ≡ length t) × (x ≡ t ++ replicate (page_size - r) 0)
+on_blank {x} {r} t h p =
+    let q : page x r ≡ page (sets (replicate page_size 0) 0 t) (0 + length t) = p.puts ∙ fits _ 0 t (omega arith) in
     let n : r ≡ length t = ap (λ s. s.next) q ∙ zero-add _ in (
       n,
       ap (λ s. s.bytes) q
-          ∙ rw (n, sets-eq t (replicate pageSize 0) 0 (rw (length-replicate, zero-add) h), zero-add, drop-replicate),
+          ∙ rw (n, sets-eq t (replicate page_size 0) 0 (rw (length-replicate, zero-add) h), zero-add, drop_replicate),
     )

@@ -3,7 +3,7 @@
 ghost use Rattle.std.specs.Prelude.{[], ◌∷◌, ◌++◌};
 ghost use Rattle.model_report.specs.Report.{decimal, newline};
 ghost use Rattle.use_text.specs.Page.{Put};
-ghost use Rattle.use_text.specs.Numbers.{withFields};
+ghost use Rattle.use_text.specs.Numbers.{with_fields};
 
 // How many bytes a page has: the longest report fits (`use_report_laws`).
 pub const SIZE: usize = 5120;
@@ -46,7 +46,7 @@ fn put_number(out: &mut Bytes, at: usize, v: usize) -> usize
 
 // Words and numbers, a space before each number.
 pub fn put_fields(out: &mut Bytes, at: usize, words: &[u8], fields: &[usize]) -> usize
-    ensures { Put out.old at (withFields words.now fields.now) out.new result }
+    ensures { Put out.old at (with_fields words.now fields.now) out.new result }
 {
     let mut next = put_words(out, at, words);
     for i in 0..fields.len() {
@@ -58,7 +58,7 @@ pub fn put_fields(out: &mut Bytes, at: usize, words: &[u8], fields: &[usize]) ->
 
 // Words and numbers on a line of their own.
 pub fn put_line(out: &mut Bytes, at: usize, words: &[u8], fields: &[usize]) -> usize
-    ensures { Put out.old at (withFields words.now fields.now ++ newline) out.new result }
+    ensures { Put out.old at (with_fields words.now fields.now ++ newline) out.new result }
 {
     let end = put_fields(out, at, words, fields);
     put_byte(out, end, b'\n')

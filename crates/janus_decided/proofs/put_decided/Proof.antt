@@ -2,22 +2,22 @@
 -- Assumes nothing.
 use Rattle.base.specs.Prelude.{◌-◌, ◌≤◌, ◌≡◌, refl, ◌∙◌, ⊎_elim, arith, length, get_or, take, take_all, sets, needs}
 use lib.Seq.{length-sets}
-use Rattle.base.specs.Arrays.{length-mapped}
+use Rattle.base.specs.Arrays.{length_mapped}
 use Rattle.model.specs.Board.{idle}
-use Rattle.model.specs.Export.{decidedValue, decidedBytes}
-use Rattle.janus_decided.specs.Bytes.{undecided, decided-more}
+use Rattle.model.specs.Export.{decided_value, decided_bytes}
+use Rattle.janus_decided.specs.Bytes.{undecided, decided_more}
 use Rattle.janus_decided.proofs.put_decided.Statement.{statement}
 use Rattle.janus_decided.proofs.put_decided.Tie as tie
 
 abbrev invariant-loop : tie.invariant-loop
-invariant-loop buffer₀ s p₀ buffer p = (p ≤ 64) × (buffer ≡ sets buffer₀ 0 (decidedBytes (take p s.processes)))
+invariant-loop buffer₀ s p₀ buffer p = (p ≤ 64) × (buffer ≡ sets buffer₀ 0 (decided_bytes (take p s.processes)))
 
 abbrev decreases-loop : tie.decreases-loop
 decreases-loop buffer₀ s p₀ buffer p = 64 - p
 
 -- The records are 64, as the session's own type has it.
 long : (c : tie.Start invariant-loop decreases-loop) → length c.args.t1.processes ≡ 64
-long c = search (needs, length-mapped)
+long c = search (needs, length_mapped)
 
 loop-again : tie.Need-loop-preserved invariant-loop decreases-loop
 loop-again c =
@@ -27,10 +27,10 @@ loop-again c =
     let a = l.before.before in
     let qs = a.args.t1.processes in
     let q = get_or qs l.loop.p idle in
-    let value : m.match.value ≡ decidedValue q.phase q.estimate =
+    let value : m.match.value ≡ decided_value q.phase q.estimate =
     ⊎_elim (λ w. w.2 ∙ rw w.1.given.1) (λ w. w.1 ∙ undecided q.phase q.estimate w.0.keys2) m.match.branch in (
       omega arith,
-      call.put32.ensures ∙ rw (value, l.loop.invariant.1) (decided-more a.args.buffer.now qs l.loop.p idle (omega (arith, long a))),
+      call.put32.ensures ∙ rw (value, l.loop.invariant.1) (decided_more a.args.buffer.now qs l.loop.p idle (omega (arith, long a))),
     )
 
 returns : tie.Need-returns invariant-loop decreases-loop

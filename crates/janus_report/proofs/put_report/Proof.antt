@@ -1,8 +1,8 @@
 -- `janus_report::put_report` meets its contract: by whether the buffer is shorter than the text. Assumes nothing.
 use Rattle.base.specs.Prelude.{◌-◌, ◌∙◌, replicate, lt-leb, needs}
-use Rattle.model_report.specs.Report.{reportOf}
-use Rattle.use_text.specs.Page.{pageSize}
-use Rattle.janus_report.specs.Written.{text-written}
+use Rattle.model_report.specs.Report.{report_of}
+use Rattle.use_text.specs.Page.{page_size}
+use Rattle.janus_report.specs.Written.{text_written}
 use Rattle.janus_report.proofs.put_report.Statement.{statement}
 use Rattle.janus_report.proofs.put_report.Tie as tie
 
@@ -14,8 +14,8 @@ returns-2 c =
     let done = c.before.before in
     let e = done.before.before.before.before.before in
     let t = e.before.report-of.ensures in
-    let text = reportOf e.before.before.before.args.ran in
-    let w = text-written text _ (replicate (pageSize - e.before.report-of.result.len) 0) t.0.0 t.1 e.if1.false in
+    let text = report_of e.before.before.before.args.ran in
+    let w = text_written text _ (replicate (page_size - e.before.report-of.result.len) 0) t.0.0 t.1 e.if1.false in
     (w.0, done.copy.ensures ∙ w.1)
 
 pub put-report-spec : {M : Type 1} → statement M

@@ -2,14 +2,14 @@
 use Rattle.base.specs.Prelude.{◌≡◌, refl, ap, needs}
 use Rattle.model.specs.declared.Phase.{Phase}
 use Rattle.model.specs.declared.Access.{Access}
-use Rattle.model.specs.Step.{access, phaseAccess}
+use Rattle.model.specs.Step.{access, phase_access}
 use Rattle.model.specs.declared.Access.TheVariants.{ReadValue, ReadMark, SetMark}
 use Rattle.part_access.proofs.access.Statement.{statement}
 use Rattle.part_access.proofs.access.Tie as tie
 
 -- In the order of the code: of each arm what it is told of the phase and what its callee asks, then the answers.
 pub access-spec : {M : Type 1} → statement M
-unfolding access phaseAccess
+unfolding access phase_access
 access-spec =
     tie.close
     (tie.spec
@@ -30,7 +30,7 @@ access-spec =
         (s : tie.Start) {φ : Phase} {x : Access} →
         let a = s.args in
         a.q.phase ≡ φ →
-        x ≡ phaseAccess a.limit a.q.round φ a.leader →
+        x ≡ phase_access a.limit a.q.round φ a.leader →
         x ≡ access a.limit a.q a.leader
     answer s told e = rw told e
 

@@ -1,14 +1,14 @@
 -- `part_bytes_put::put32` meets its contract: the four stores are those of the four bytes. Assumes nothing.
 use Rattle.base.specs.Prelude.{sym, add-one, add-two, add-three, needs}
 use Rattle.model.specs.Bytes.{bytes32}
-use Rattle.base.specs.Arrays.{sets-beyond}
+use Rattle.base.specs.Arrays.{sets_beyond}
 use Rattle.part_bytes_put.proofs.put32.Statement.{statement}
 use Rattle.part_bytes_put.proofs.put32.Tie as tie
 
 returns : tie.Need-returns
 returns c =
     let a = c.before.before.args in
-    sym (sets-beyond _ a.at (bytes32 a.v) c.if1.true)
+    sym (sets_beyond _ a.at (bytes32 a.v) c.if1.true)
 
 returns-2 : tie.Need-returns-2
 returns-2 c =

@@ -1,6 +1,6 @@
 -- `part_next::go_on` meets its contract. Assumes nothing.
 use Rattle.base.specs.Prelude.{◌≡◌, refl, sym, ◌∙◌, ◌+◌, ◌<◌, min, ltb, arith, needs, ltb-true, le-leb, lt-leb}
-use Rattle.model.specs.Step.{goOn}
+use Rattle.model.specs.Step.{go_on}
 use Rattle.part_next.proofs.go_on.Statement.{statement}
 use Rattle.part_next.proofs.go_on.Tie as tie
 
@@ -16,7 +16,7 @@ below : (c : tie.Then1) → let a = c.before.before.before.args in a.i + 1 < min
 below c = ltb-true _ _ (answer c.before ∙ c.if1.true)
 
 pub go-on-spec : {M : Type 1} → statement M
-unfolding goOn
+unfolding go_on
 go-on-spec = tie.close (tie.spec (search needs) (search needs) (λ c. omega (arith, below c)) compare check wait)
   where
     compare : tie.Need-returns

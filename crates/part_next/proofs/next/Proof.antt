@@ -2,13 +2,13 @@
 use Rattle.base.specs.Prelude.{ℕ, ◌≡◌, refl, needs}
 use Rattle.model.specs.declared.Phase.{Phase}
 use Rattle.model.specs.declared.Process.{Process}
-use Rattle.model.specs.Step.{process, next, phaseNext}
+use Rattle.model.specs.Step.{process, next, phase_next}
 use Rattle.part_next.proofs.next.Statement.{statement}
 use Rattle.part_next.proofs.next.Tie as tie
 
 -- In the order of the code: of each arm what it is told of the phase and what its callees ask, then the answers.
 pub next-spec : {M : Type 1} → statement M
-unfolding next phaseNext
+unfolding next phase_next
 next-spec =
     tie.close
     (tie.spec
@@ -37,7 +37,7 @@ next-spec =
         (s : tie.Start) {φ : Phase} {p : Process} →
         let a = s.args in
         a.q.phase ≡ φ →
-        p ≡ phaseNext a.window a.limit a.q.round a.q.estimate φ a.leader a.x →
+        p ≡ phase_next a.window a.limit a.q.round a.q.estimate φ a.leader a.x →
         p ≡ next a.window a.limit a.q a.leader a.x
     answer s told e = rw told e
 

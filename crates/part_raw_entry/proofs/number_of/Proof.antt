@@ -1,13 +1,13 @@
 -- `part_raw_entry::number_of` meets its contract: the entry is not among the numbers below e. Assumes nothing.
 use Rattle.base.specs.Prelude.{ℕ, ◌+◌, ◌*◌, ◌-◌, ◌≤◌, ◌≡◌, refl, sym, ◌∙◌, drop, add-one, arith, needs}
 use Rattle.model_short.specs.Short.{choices}
-use Rattle.model_short_laws.specs.Entries.{indexIn}
-use Rattle.model_short_laws.specs.Numbered.{index-end, index-here, index-next}
+use Rattle.model_short_laws.specs.Entries.{index_in}
+use Rattle.model_short_laws.specs.Numbered.{index_end, index_here, index_next}
 use Rattle.part_raw_entry.proofs.number_of.Statement.{statement}
 use Rattle.part_raw_entry.proofs.number_of.Tie as tie
 
 abbrev invariant-loop : tie.invariant-loop
-invariant-loop n x end e₀ e = (e ≤ end) × (end ≡ 5 * n) × (indexIn x (choices n) ≡ e + indexIn x (drop e (choices n)))
+invariant-loop n x end e₀ e = (e ≤ end) × (end ≡ 5 * n) × (index_in x (choices n) ≡ e + index_in x (drop e (choices n)))
 
 abbrev decreases-loop : tie.decreases-loop
 decreases-loop n x end e₀ e = end - e
@@ -20,7 +20,7 @@ returns c =
     let loop = c.before.before.before.before.loop in
     let a = c.before.before.before.before.before.args in
     let q = sym c.before.same.ensures ∙ c.if1.true in
-    let here = index-here a.n loop.e a.x (omega arith) (rw c.before.before.choice.ensures at q) in
+    let here = index_here a.n loop.e a.x (omega arith) (rw c.before.before.choice.ensures at q) in
     (omega (arith, here, loop.invariant.2), omega arith)
 
 loop-again : tie.Need-loop-preserved invariant-loop decreases-loop
@@ -28,14 +28,14 @@ loop-again c =
     let loop = c.before.before.before.before.loop in
     let a = c.before.before.before.before.before.args in
     let q = sym c.before.same.ensures ∙ c.if1.false in
-    let next = index-next a.n loop.e a.x (omega arith) (rw c.before.before.choice.ensures at q) in
+    let next = index_next a.n loop.e a.x (omega arith) (rw c.before.before.choice.ensures at q) in
     (omega arith, refl, rw add-one (omega (arith, next, loop.invariant.2)))
 
 returns-2 : tie.Need-returns-2 invariant-loop decreases-loop
 returns-2 c =
     let loop = c.before.loop in
     let a = c.before.before.args in
-    let none = index-end a.n loop.e a.x (omega arith) in
+    let none = index_end a.n loop.e a.x (omega arith) in
     (omega (arith, none, loop.invariant.2), omega arith)
 
 pub number-of-spec : {M : Type 1} → statement M

@@ -1,8 +1,8 @@
 -- `part_raw_entry::put_raw` meets its contract: kind and process as one number, then the value. Assumes nothing.
 use Rattle.base.specs.Prelude.{ℕ, ◌+◌, ◌*◌, ◌/◌, ◌%◌, ◌<◌, ◌≡◌, refl, sym, ap, ◌∙◌, List, [], ◌∷◌, sets, mod-eq_of_lt, arith, needs}
-use Rattle.base.specs.Arrays.{sets-append, sets-beyond}
+use Rattle.base.specs.Arrays.{sets_append, sets_beyond}
 use Rattle.model.specs.Bytes.{bytes16, bytes32}
-use Rattle.model_short.specs.Calls.{rawBytes}
+use Rattle.model_short.specs.Calls.{raw_bytes}
 use Rattle.part_raw_entry.proofs.put_raw.Statement.{statement}
 use Rattle.part_raw_entry.proofs.put_raw.Tie as tie
 
@@ -16,10 +16,10 @@ two_bytes k p h l =
 entry-stored : (b : List ℕ) (i k p v : ℕ) → k < 256 → p < 256
     → sets (sets b i (bytes16 (k + 256 * p))) (i + 2) (bytes32 v) ≡ sets b i (k ∷ p ∷ bytes32 v)
 entry-stored b i k p v h l =
-    ap (λ (ws : List ℕ). sets (sets b i ws) (i + 2) (bytes32 v)) (two_bytes k p h l) ∙ sym (sets-append b i (k ∷ p ∷ []) (bytes32 v))
+    ap (λ (ws : List ℕ). sets (sets b i ws) (i + 2) (bytes32 v)) (two_bytes k p h l) ∙ sym (sets_append b i (k ∷ p ∷ []) (bytes32 v))
 
 returns : tie.Need-returns
-returns c = let a = c.before.before.args in sym (sets-beyond _ _ (rawBytes a.x) c.if1.true)
+returns c = let a = c.before.before.args in sym (sets_beyond _ _ (raw_bytes a.x) c.if1.true)
 
 returns-2 : tie.Need-returns-2
 returns-2 c =

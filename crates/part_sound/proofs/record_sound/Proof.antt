@@ -1,13 +1,13 @@
 -- `part_sound::record_sound` meets its contract: in each arm the phase is known, and the clause is what was computed. Assumes nothing.
 use Rattle.base.specs.Prelude.{refl, ◌∙◌, needs}
-use Rattle.model.specs.Sound.{soundPhaseAs}
+use Rattle.model.specs.Sound.{sound_phase_as}
 use Rattle.model_laws.specs.SoundRecords.{near, out, one, free, two, three}
 use Rattle.part_sound.proofs.record_sound.Statement.{statement}
 use Rattle.part_sound.proofs.record_sound.Tie as tie
 
 -- In the order of the code: what each arm is told of the phase and what `held` asks there, then the answers.
 pub record-sound-spec : {M : Type 1} → statement M
-unfolding soundPhaseAs
+unfolding sound_phase_as
 record-sound-spec =
     tie.close
     (tie.spec

@@ -2,23 +2,23 @@
 use Rattle.base.specs.Prelude.{◌≡◌, refl, ℕ, zero, suc, needs}
 use Rattle.model.specs.declared.Caller.{Caller}
 use Rattle.model.specs.declared.Session.{Session}
-use Rattle.model.specs.Board.{limitsOf, opened}
-use Rattle.model.specs.Refusal.{refusal, openTests}
-use Rattle.model.specs.Machine.{openingFor, opening}
+use Rattle.model.specs.Board.{limits_of, opened}
+use Rattle.model.specs.Refusal.{refusal, open_tests}
+use Rattle.model.specs.Machine.{opening_for, opening}
 use Rattle.session_open.proofs.open.Statement.{statement}
 use Rattle.session_open.proofs.open.Tie as tie
 
 -- The answer, where the number is not 0 and where it is.
 module _ (caller : Caller) (n L : ℕ) {t : Session} where
-  refused : (k : ℕ) → k ≡ refusal (openTests (limitsOf caller) n L) → (k ≡ 0 → ⊥) → t ≡ opened 0 0 →
+  refused : (k : ℕ) → k ≡ refusal (open_tests (limits_of caller) n L) → (k ≡ 0 → ⊥) → t ≡ opened 0 0 →
       record { code = k; session = t } ≡ opening caller n L
-  unfolding openingFor
+  unfolding opening_for
   refused zero e some same = absurd (some refl)
   refused (suc k) e some same = rw (← e, same)
 
-  accepted : {k : ℕ} → k ≡ refusal (openTests (limitsOf caller) n L) → k ≡ 0 → t ≡ opened n L →
+  accepted : {k : ℕ} → k ≡ refusal (open_tests (limits_of caller) n L) → k ≡ 0 → t ≡ opened n L →
       record { code = k; session = t } ≡ opening caller n L
-  unfolding openingFor
+  unfolding opening_for
   accepted e none same = rw (← e, none, same)
 
 returns : tie.Need-returns

@@ -3,13 +3,13 @@ use Rattle.base.specs.Prelude.{ℕ, ◌≤◌, ◌≡◌, refl, Bool, true, fals
 use Rattle.base.specs.Bools.{and_right}
 use Rattle.model.specs.declared.Caller.{Caller}
 use Rattle.model.specs.declared.Limits.{Limits}
-use Rattle.model.specs.Board.{limitsOf}
+use Rattle.model.specs.Board.{limits_of}
 use Rattle.model.specs.Window.{window}
-use Rattle.model.specs.Refusal.{refusal, openTests}
+use Rattle.model.specs.Refusal.{refusal, open_tests}
 use Rattle.session_open.proofs.open_refusal.Statement.{statement}
 use Rattle.session_open.proofs.open_refusal.Tie as tie
 
-module _ {most : Limits} (caller : Caller) (n L : ℕ) (same : most ≡ limitsOf caller) where
+module _ {most : Limits} (caller : Caller) (n L : ℕ) (same : most ≡ limits_of caller) where
   abbrev processes : Bool
   processes = leb 1 n && leb n most.processes
 
@@ -18,7 +18,7 @@ module _ {most : Limits} (caller : Caller) (n L : ℕ) (same : most ≡ limitsOf
 
   -- The number, by the answers of the two tests.
   number : {W : ℕ} (x y : Bool) → W ≡ window n → not processes ≡ x → not (leb W L && leb L most.rounds) ≡ y →
-      cond x 1 (cond y 2 0) ≡ refusal (openTests (limitsOf caller) n L)
+      cond x 1 (cond y 2 0) ≡ refusal (open_tests (limits_of caller) n L)
   number x y w p q = rw (← same, p, ← w, q)
 
 returns : tie.Need-returns

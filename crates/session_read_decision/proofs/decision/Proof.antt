@@ -2,12 +2,12 @@
 use Rattle.base.specs.Prelude.{◌≡◌, Bool, true, false, cond, not, needs}
 use Rattle.model_laws.specs.Types.{Session}
 use Rattle.model.specs.Sound.{sound}
-use Rattle.model.specs.ReadOut.{decision, decisionAnswer}
+use Rattle.model.specs.ReadOut.{decision, decision_answer}
 use Rattle.session_read_decision.proofs.decision.Statement.{statement}
 use Rattle.session_read_decision.proofs.decision.Tie as tie
 
 -- The answer, by the session's test.
-answered : (s : Session) {b : Bool} → b ≡ sound s → (x : Bool) → b ≡ x → decisionAnswer (cond (not x) 3 0) s.decision ≡ decision s
+answered : (s : Session) {b : Bool} → b ≡ sound s → (x : Bool) → b ≡ x → decision_answer (cond (not x) 3 0) s.decision ≡ decision s
 unfolding decision
 answered s told x p = rw (← told, p)
 

@@ -2,10 +2,10 @@
 use Rattle.base.specs.Prelude.{ℕ, ◌≤◌, ◌≡◌, refl, sym, ◌∙◌, Bool, true, false, cond, not, ◌&&◌, arith, leb, needs, leb-true, not-false}
 use Rattle.base.specs.Bools.{and_left, and_right}
 use Rattle.model_laws.specs.Types.{Session}
-use Rattle.model.specs.Board.{value_at, markAt}
+use Rattle.model.specs.Board.{value_at, mark_at}
 use Rattle.model.specs.Sound.{sound}
-use Rattle.model.specs.ReadOut.{register, registerAnswer}
-use Rattle.model_laws.specs.Sounds.{sound-low}
+use Rattle.model.specs.ReadOut.{register, register_answer}
+use Rattle.model_laws.specs.Sounds.{sound_low}
 use Rattle.session_read_register.proofs.register.Statement.{statement}
 use Rattle.session_read_register.proofs.register.Tie as tie
 
@@ -14,13 +14,13 @@ module _ (s : Session) (r : ℕ) {b : Bool} (told : b ≡ sound s) where
   round = leb 1 r && leb r s.limit
 
   -- The answer, by the session's test and the round's.
-  answered : (x y : Bool) → not b ≡ x → not round ≡ y → registerAnswer (cond x 3 (cond y 14 0)) (value_at s r) (markAt s r) ≡ register s r
+  answered : (x y : Bool) → not b ≡ x → not round ≡ y → register_answer (cond x 3 (cond y 14 0)) (value_at s r) (mark_at s r) ≡ register s r
   unfolding register
   answered x y p q = rw (← told, p, q)
 
   -- Past both tests the round is 1 to L, which is at most 256.
   bounds : not b ≡ false → not round ≡ false → (1 ≤ r) × (r ≤ s.limit) × (s.limit ≤ 256)
-  bounds p q = let t = not-false round q in let u = sound-low false s (sym told ∙ not-false b p) in search (and_left, and_right, leb-true)
+  bounds p q = let t = not-false round q in let u = sound_low false s (sym told ∙ not-false b p) in search (and_left, and_right, leb-true)
 
 told : tie.Need-returns-3
 told c =

@@ -1,7 +1,7 @@
 -- `session_sound::blank_from` meets its contract. The loop's invariant: the test of the places from `from` on is that of those from `i`
 -- on. Assumes nothing.
 use Rattle.base.specs.Prelude.{ℕ, ◌-◌, ◌≡◌, refl, Bool, false, not, needs, eqb}
-use Rattle.model_laws.specs.Passes.{both, both-more, both-stop, both_ends}
+use Rattle.model_laws.specs.Passes.{both, both_more, both_stop, both_ends}
 use Rattle.session_sound.proofs.blank_from.Statement.{statement}
 use Rattle.session_sound.proofs.blank_from.Tie as tie
 
@@ -18,13 +18,13 @@ returns : tie.Need-returns invariant-loop decreases-loop
 returns c =
     let head = c.before.before.before.before in
     let size = head.before.requires in
-    both-stop blank not _ _ size.0 size.1 _ head.loop.invariant 0 false c.before.before.before.loop-test.true c.if1.true
+    both_stop blank not _ _ size.0 size.1 _ head.loop.invariant 0 false c.before.before.before.loop-test.true c.if1.true
 
 loop-again : tie.Need-loop-preserved invariant-loop decreases-loop
 loop-again c =
     let head = c.before.before.before.before in
     let size = head.before.requires in
-    both-more blank not _ _ size.0 size.1 _ head.loop.invariant 0 false c.before.before.before.loop-test.true c.if1.false
+    both_more blank not _ _ size.0 size.1 _ head.loop.invariant 0 false c.before.before.before.loop-test.true c.if1.false
 
 returns-2 : tie.Need-returns-2 invariant-loop decreases-loop
 returns-2 c =

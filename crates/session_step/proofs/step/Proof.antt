@@ -5,13 +5,13 @@ use Rattle.model_laws.specs.Types.{Operation, Step}
 use Rattle.model.specs.Window.{window}
 use Rattle.model.specs.Step.{counted}
 use Rattle.model.specs.Refusal.{full}
-use Rattle.model.specs.Sound.{soundAs}
-use Rattle.model.specs.Machine.{accessOf}
+use Rattle.model.specs.Sound.{sound_as}
+use Rattle.model.specs.Machine.{access_of}
 use Rattle.model.specs.Public
-use Rattle.model_laws.specs.Answers.{code_of, code_is, operate-refused, operate-accepted, index_of, known}
-use Rattle.model_laws.specs.Operations.{access-in-arrays}
-use Rattle.model_laws.specs.Sounds.{sound-few}
-use Rattle.model_laws.specs.Registers.{counted_is, worked-is}
+use Rattle.model_laws.specs.Answers.{code_of, code_is, operate_refused, operate_accepted, index_of, known}
+use Rattle.model_laws.specs.Operations.{access_in_arrays}
+use Rattle.model_laws.specs.Sounds.{sound_few}
+use Rattle.model_laws.specs.Registers.{counted_is, worked_is}
 use Rattle.session_step.proofs.step.Statement.{statement}
 use Rattle.session_step.proofs.step.Tie as tie
 
@@ -23,7 +23,7 @@ code : (c : tie.After-first-refusal) →
     let start = c.before.before.before.before in c.first-refusal.result ≡ code_of start.args.t1 start.args.c (operation start)
 code c =
     code_is false _ _ (operation c.before.before.before.before)
-    c.before.sound.ensures c.before.before.step-refusal.ensures c.first-refusal.ensures
+    c.before.sound.ensures c.before.before.step_refusal.ensures c.first-refusal.ensures
 
 -- Where the number is 0, from the place where the decision register is known.
 abbrev taken : tie.After-decision → tie.Then1
@@ -34,11 +34,11 @@ cast-window : tie.Need-overflow-cast-window
 cast-window c =
     let start = taken c in
     let o = operation start.before.before.before.before.before in
-    omega (arith, sound-few false _ (known false _ _ o (code start.before) start.if1.taken).0)
+    omega (arith, sound_few false _ (known false _ _ o (code start.before) start.if1.taken).0)
 
 -- Accepted, and refused.
 returns : tie.Need-returns
-unfolding Public.stepFor accessOf soundAs
+unfolding Public.step_for access_of sound_as
 returns c =
     let written = c.before.before.before in
     let marked = written.before in
@@ -53,9 +53,9 @@ returns c =
     let counts :
     c.counted.result ≡ cond (full args.c) args.c (counted accessed.access.result marked.mark.result args.c) =
     c.counted.ensures in
-    let ranged = access-in-arrays _ _ o (known false _ _ o (code first) none).0 in
-    operate-accepted false _ _ o (code first) none
-    (worked-is _ _ _ ranged i
+    let ranged = access_in_arrays _ _ o (known false _ _ o (code first) none).0 in
+    operate_accepted false _ _ o (code first) none
+    (worked_is _ _ _ ranged i
     accessed.access.ensures
     valued.value.ensures.0
     marked.mark.ensures.0
@@ -70,8 +70,8 @@ returns c =
     marked.mark.ensures.0 args.c))
 
 returns-2 : tie.Need-returns-2
-unfolding Public.stepFor
-returns-2 c = operate-refused false _ _ (operation c.before.before.before.before.before) (code c.before) c.if1.false
+unfolding Public.step_for
+returns-2 c = operate_refused false _ _ (operation c.before.before.before.before.before) (code c.before) c.if1.false
 
 -- The answers in the order of the code: the record's address and index, the tests, the turn's calls with the cast of n among them,
 -- the new record's address and index, the counts.

@@ -6,7 +6,7 @@ use Rattle.base_walk.proofs.Walk.{proved}
 use Rattle.model.specs.Public
 use Rattle.session_step.proofs.step.Symbol as callee
 use Rattle.session_step.proofs.step.Met as callee-thm
-use Rattle.session_lent_laws.proofs.Thin.{takes-three, lent-three, walk-three}
+use Rattle.session_lent_laws.proofs.Thin.{takes_three, lent_three, walk_three}
 use Rattle.session_lent_laws.proofs.Counted.{sessions}
 use Rattle.session_step_lent.specs.contracts.step as step
 use Rattle.session_step_lent.specs.contracts.step.Key
@@ -16,7 +16,7 @@ use Rattle.session_step_lent.proofs.step.Code as code
 pub step_spec : {M : Type 1} → stated.statement M
 unfolding code.routine
 step_spec 𝓤 𝓛 𝓜 𝓡 =
-    proved 𝓛 𝓜 𝓡 code.env Key.name code.function (code.unfolded 𝓤 𝓛.H 𝓜 𝓡) (lent-three sessions Public.step)
+    proved 𝓛 𝓜 𝓡 code.env Key.name code.function (code.unfolded 𝓤 𝓛.H 𝓜 𝓡) (lent_three sessions Public.step)
     (step.clauses 𝓛 𝓜.mem 𝓡.run) (λ κs a g. fact_i 𝓤 _ (emp 𝓤) refl) callee.name callee.routine
-    code.calls-session-step::step (takes-three sessions Public.step) _ (λ κs a r ws e. e) (callee-thm.met 𝓤 𝓛 𝓜 𝓡)
-    (walk-three sessions Public.step callee.name 𝓛)
+    code.calls-session-step::step (takes_three sessions Public.step) _ (λ κs a r ws e. e) (callee-thm.met 𝓤 𝓛 𝓜 𝓡)
+    (walk_three sessions Public.step callee.name 𝓛)

@@ -4,8 +4,8 @@ use Rattle.base.specs.Prelude.{false, ℕ, ◌≤◌, min, ◌≡◌, sym, ◌�
 use Rattle.base.specs.Prelude.{drop, replicate, length-append}
 use Rattle.model.specs.declared.Session.{Session}
 use Rattle.model.specs.Sound.{sound}
-use Rattle.model.specs.ReadOut.{standingValues}
-use Rattle.model_laws.specs.Sounds.{sound-low}
+use Rattle.model.specs.ReadOut.{standing_values}
+use Rattle.model_laws.specs.Sounds.{sound_low}
 use Rattle.session_values.proofs.Standing.{unsound, short, list_written}
 use Rattle.session_values.proofs.standing_values.Statement.{statement}
 use Rattle.session_values.proofs.standing_values.Tie as tie
@@ -23,10 +23,10 @@ past-test c = c.before.before
 
 module _ (c : tie.After-list) where
   abbrev Vs : List ℕ
-  Vs = standingValues (S (past-test c))
+  Vs = standing_values (S (past-test c))
 
   rounds : min (S (past-test c)).limit 256 ≡ (S (past-test c)).limit
-  rounds = omega (arith, sound-low false _ (is-sound (past-test c)))
+  rounds = omega (arith, sound_low false _ (is-sound (past-test c)))
 
   size : length Vs ≡ c.list.result.count
   size = sym (rw rounds at c.list.ensures.0)

@@ -3,8 +3,8 @@
 use lib.ListN.{take-append-drop}
 use Rattle.base.specs.Prelude.{ℕ, ◌+◌, ◌-◌, ◌≤◌, min, ◌≡◌, refl, sym, ◌∙◌, ap, ap₂, false, List, ◌++◌, arith, needs, length, get_or, take}
 use Rattle.base.specs.Prelude.{drop, replicate, length-set, length-take-le, drop-drop, drop-set-lt}
-use Rattle.model.specs.ReadOut.{holds, valuesTo}
-use Rattle.model_laws.specs.ListedRounds.{round-blank, round-earlier, not_earlier, round-new}
+use Rattle.model.specs.ReadOut.{holds, values_to}
+use Rattle.model_laws.specs.ListedRounds.{round_blank, round_earlier, not_earlier, round_new}
 use Rattle.session_values_list.proofs.list.Statement.{statement}
 use Rattle.session_values_list.proofs.list.Tie as tie
 
@@ -19,7 +19,7 @@ invariant-rounds limit registers last values₀ count₀ r₀ values count r =
     (r ≤ last)
     × (count ≤ r)
     × (length values ≡ 256)
-    × (take count values ≡ valuesTo registers r)
+    × (take count values ≡ values_to registers r)
     × (drop count values ≡ drop count (replicate 256 0))
 
 abbrev decreases-rounds : tie.decreases-rounds
@@ -45,7 +45,7 @@ places : (a : Head) → length (T a) ≡ 256
 places a = search needs
 
 rounds-holds : tie.Need-rounds-init invariant-loop decreases-loop invariant-rounds decreases-rounds
-unfolding valuesTo
+unfolding values_to
 rounds-holds c = (omega arith, omega arith, refl, refl, refl)
 
 -- A blank round.
@@ -53,7 +53,7 @@ rounds-again : tie.Need-rounds-preserved invariant-loop decreases-loop invariant
 rounds-again c =
     let a = c.before.before in
     let h = a.rounds.invariant in
-    (omega arith, omega arith, h.2, round-blank (T a) _ (R a) c.if1.true h.3, h.4)
+    (omega arith, omega arith, h.2, round_blank (T a) _ (R a) c.if1.true h.3, h.4)
 
 -- A value that an earlier round holds.
 rounds-again-2 : tie.Need-rounds-preserved-2 invariant-loop decreases-loop invariant-rounds decreases-rounds
@@ -64,7 +64,7 @@ rounds-again-2 c =
       omega arith,
       omega arith,
       h.2,
-      rw l.loop.invariant.0 (round-earlier (T a) _ (R a) l.loop.e (omega arith) (omega (arith, places a)) c.if2.true h.3),
+      rw l.loop.invariant.0 (round_earlier (T a) _ (R a) l.loop.e (omega arith) (omega (arith, places a)) c.if2.true h.3),
       h.4,
     )
 
@@ -88,7 +88,7 @@ rounds-again-3 c =
       omega arith,
       simp length-set h.2,
       rw l.loop.invariant.0
-          (round-new (T a) (W a) (R a) (N a) (omega arith) l.before.if1.false (rw last at l.loop.invariant.2) h.3),
+          (round_new (T a) (W a) (R a) (N a) (omega arith) l.before.if1.false (rw last at l.loop.invariant.2) h.3),
       drop-set-lt (N a + 1) (W a) (N a) _ (omega arith) ∙ sym (drop-drop 1 (N a) (W a)) ∙ ap (drop 1) h.4 ∙ drop-drop 1 (N a) _,
     )
 

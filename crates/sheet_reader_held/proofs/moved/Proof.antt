@@ -11,7 +11,7 @@ use denote.Struct.Rest.{own_put}
 use Rattle.base_walk.proofs.Walk.{Walk, passes_on, copied, gone, asks, proved}
 use Rattle.sheet_place.proofs.advance.Symbol as callee
 use Rattle.sheet_place.proofs.advance.Met as callee-thm
-use Rattle.sheet_laws.specs.Reading.{movedOn}
+use Rattle.sheet_laws.specs.Reading.{moved_on}
 use Rattle.sheet_laws.proofs.Reader.TheLaws as T'
 use Rattle.sheet_laws.proofs.Rows.{reader, advances, moves, parts, apart, D, L}
 use Rattle.sheet_reader_held.specs.contracts.moved as moved
@@ -42,7 +42,7 @@ walk 𝓛 C Λ callee κs qs a ty Q out =
     returns ! (look ! 14 refl) $ gone ! 14 refl refl $ gone ! 12 refl refl $ gone ! 10 refl refl $ gone ! 8 refl refl $ gone ! 6 refl refl $
     gone ! 4 refl refl $ free0 ! $
     move ! (3 ∷ []) $ fsplit ! $ move ! (0 ∷ 2 ∷ []) $ use2 𝓛
-    (‵ ((reader.row κs).own (movedOn a.0) (reader.val κs (movedOn a.0) ∷ []))) (own_put 𝓛 (D κs) (L κs) 1 (parts a.0) _ _) $
+    (‵ ((reader.row κs).own (moved_on a.0) (reader.val κs (moved_on a.0) ∷ []))) (own_put 𝓛 (D κs) (L κs) 1 (parts a.0) _ _) $
     nothing ! $ nothing ! $ fjoin ! $ keep ! (0 ∷ 1 ∷ 3 ∷ []) $ by ! (out _ refl))))))))
 
 pub moved-spec : {M : Type 1} → stated.statement M

@@ -1,9 +1,9 @@
 -- `sheet_refusal::refusal` meets its contract: each part is tested in its turn (`by_parts`). Assumes nothing.
 use Rattle.base.specs.Prelude.{◌≡◌, true, cond, eqb, le-leb, lt-leb, eq-eqb, ne_eqb, needs}
-use Rattle.model.specs.Board.{limitsOf}
+use Rattle.model.specs.Board.{limits_of}
 use Rattle.model.specs.Refusal.{refusal}
-use Rattle.model.specs.Sheet.{hasHeader, sheetRefusal}
-use Rattle.sheet_refusal.specs.RunTests.{runTests}
+use Rattle.model.specs.Sheet.{has_header, sheet_refusal}
+use Rattle.sheet_refusal.specs.RunTests.{run_tests}
 use Rattle.sheet_refusal.specs.Parts.{by_parts}
 use Rattle.sheet_refusal.proofs.refusal.Statement.{statement}
 use Rattle.sheet_refusal.proofs.refusal.Tie as tie
@@ -14,11 +14,11 @@ ruleset parts = (by_parts, le-leb, lt-leb)
 -- With a header the opening decides, and the runs where it is accepted.
 past-header : (c : tie.After-open-refusal)
     → let a = c.before.before.before.before.before.before.before.before.before.args in
-    sheetRefusal (limitsOf a.caller) a.s.now
-    ≡ cond (eqb c.open-refusal.result 0) (refusal (runTests a.s.now)) c.open-refusal.result
+    sheet_refusal (limits_of a.caller) a.s.now
+    ≡ cond (eqb c.open-refusal.result 0) (refusal (run_tests a.s.now)) c.open-refusal.result
 past-header c =
     let count = c.before.before.before.before.before in
-    let header : hasHeader count.before.before.before.before.args.s.now ≡ true = search (le-leb, ← count.byte.ensures) in
+    let header : has_header count.before.before.before.before.args.s.now ≡ true = search (le-leb, ← count.byte.ensures) in
     rw (c.open-refusal.ensures, c.before.word16.ensures, c.before.before.byte2.ensures, by_parts, header)
 
 returns-5 : tie.Need-returns-5

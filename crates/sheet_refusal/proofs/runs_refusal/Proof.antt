@@ -3,15 +3,15 @@
 use Rattle.base.specs.Prelude.{◌-◌, ◌%◌, sub-zero, add-one, ⊎_elim, ◌≡◌, ◌∙◌, sym, length, le-leb, lt-leb, eq-eqb, ne_eqb, needs}
 use Rattle.base.specs.Bools.{cond_same}
 use Rattle.model.specs.Refusal.{refusal}
-use Rattle.model.specs.Sheet.{runsFrom}
-use Rattle.sheet_layout.specs.Runs.{runs_none, left-next}
-use Rattle.sheet_refusal.specs.RunTests.{runTests, leftRefusal}
+use Rattle.model.specs.Sheet.{runs_from}
+use Rattle.sheet_layout.specs.Runs.{runs_none, left_next}
+use Rattle.sheet_refusal.specs.RunTests.{run_tests, left_refusal}
 use Rattle.sheet_refusal.proofs.runs_refusal.Statement.{statement}
 use Rattle.sheet_refusal.proofs.runs_refusal.Tie as tie
 
 abbrev invariant-loop : tie.invariant-loop
 invariant-loop s count from₀ code₀ i₀ from code i =
-    refusal (runTests s) ≡ leftRefusal from (length s) code (runsFrom s i (count - i))
+    refusal (run_tests s) ≡ left_refusal from (length s) code (runs_from s i (count - i))
 
 abbrev decreases-loop : tie.decreases-loop
 decreases-loop s count from₀ code₀ i₀ from code i = count - i
@@ -25,8 +25,8 @@ returns c =
     let at = c.before.before in
     rw (
       at.before.before.loop.invariant,
-      left-next _ _ at.before.loop-test.true,
-      ← at.run_at.ensures.offset-is,
+      left_next _ _ at.before.loop-test.true,
+      ← at.run_at.ensures.offset_is,
       lt-leb _ _ c.if1.true,
     )
 
@@ -34,7 +34,7 @@ returns-2 : tie.Need-returns-2 invariant-loop decreases-loop
 returns-2 c =
     let at = c.before.before.before.before in
     let run = at.run_at.ensures in
-    rw (at.before.before.loop.invariant, left-next _ _ at.before.loop-test.true, ← run.offset-is, ← run.size_is)
+    rw (at.before.before.loop.invariant, left_next _ _ at.before.loop-test.true, ← run.offset_is, ← run.size_is)
     (rw (le-leb _ _ c.before.before.if1.false, lt-leb _ _ c.if2.true))
 
 loop-again : tie.Need-loop-preserved invariant-loop decreases-loop
@@ -42,7 +42,7 @@ loop-again c =
     let in-sheet = c.before.before in
     let at = in-sheet.before.before.before.before in
     let run = at.run_at.ensures in
-    rw (at.before.before.loop.invariant, left-next _ _ at.before.loop-test.true, ← run.offset-is, ← run.size_is)
+    rw (at.before.before.loop.invariant, left_next _ _ at.before.loop-test.true, ← run.offset_is, ← run.size_is)
     (rw (le-leb _ _ in-sheet.before.before.if1.false, le-leb _ _ in-sheet.if2.false, add-one)
     (⊎_elim (λ w. rw (w.1, ne_eqb (_ % 6) 0 w.0.taken, cond_same)) (λ w. rw (w.1, eq-eqb (_ % 6) 0 w.0.left)) c.if3.branch))
 

@@ -10,10 +10,10 @@ use Rattle.model.specs.Runner.{run_from}
 use Rattle.model.specs.Sheet.{entries}
 use Rattle.sheet_laws.specs.declared.Handed.TheVariants.{Next}
 use Rattle.sheet_laws.specs.Places.{handed, rest}
-use Rattle.sheet_laws.specs.PlaceLaws.{begin-rest, begin-proper}
-use Rattle.sheet_laws.specs.Entries.{isStep, step-refusal, step-leaves, step_counts, other-changes, other-stays, other-counts}
-use Rattle.sheet_laws.specs.Carried.{Carrying, Entered, entered-none, tallied}
-use Rattle.sheet_laws.specs.Carried.{ends, row_low, shorter, malformed, close-spent, closes, halted, due, refused, goes_on}
+use Rattle.sheet_laws.specs.PlaceLaws.{begin_rest, begin_proper}
+use Rattle.sheet_laws.specs.Entries.{is_step, step_refusal, step_leaves, step_counts, other_changes, other_stays, other_counts}
+use Rattle.sheet_laws.specs.Carried.{Carrying, Entered, entered_none, tallied}
+use Rattle.sheet_laws.specs.Carried.{ends, row_low, shorter, malformed, close_spent, closes, halted, due, refused, goes_on}
 use Rattle.sheet_run.proofs.carry.Statement.{statement}
 use Rattle.sheet_run.proofs.carry.Tie as tie
 
@@ -66,20 +66,20 @@ low c = row_low (loop-of c).loop.invariant (due-of c).1
 -- A work turn.
 step-entered : (c : tie.After-step-refusal invariant-loop decreases-loop) →
     let h = c.before.before.before.before.before in
-    Entered (loop-of h).loop.s (loop-of h).loop.c (operation-of h.before.before) (process-of h) c.step-refusal.result
+    Entered (loop-of h).loop.s (loop-of h).loop.c (operation-of h.before.before) (process-of h) c.step_refusal.result
 step-entered c =
     let h = c.before.before.before.before.before in
     record {
       named = h.before.before.process-of.ensures;
       below = (due-of h).1;
-      code = c.step-refusal.ensures ∙ step-refusal _ _ _ c.before.before.o.given.1;
+      code = c.step_refusal.ensures ∙ step_refusal _ _ _ c.before.before.o.given.1;
     }
 
 abbrev stored_at : tie.After-next invariant-loop decreases-loop → Here
 stored_at c = c.before.before.before.before.before.before.before.before.before.before.before.before.before
 
 -- Any other operation.
-other_tag : (o : Operation) → OneOf (0 ∷ 2 ∷ 3 ∷ []) (Declared.tag_of Operations.the_type o) → isStep o ≡ false
+other_tag : (o : Operation) → OneOf (0 ∷ 2 ∷ 3 ∷ []) (Declared.tag_of Operations.the_type o) → is_step o ≡ false
 other_tag (Propose p v) h = refl
 other_tag (Step p leader) h = absurd (⊎_elim (λ z. omega arith) (⊎_elim (λ z. omega arith) (λ z. omega arith)) h)
 other_tag (Learn p) h = refl
@@ -113,8 +113,8 @@ malformed-tag Malformed h k = refl
 loop-holds : tie.Need-loop-init invariant-loop decreases-loop
 loop-holds c =
     record {
-      same = rw (c.first-place.ensures, sub-zero, begin-rest _ c.before.before.requires.inside);
-      proper = rw c.first-place.ensures (begin-proper _ c.before.before.requires.inside);
+      same = rw (c.first-place.ensures, sub-zero, begin_rest _ c.before.before.requires.inside);
+      proper = rw c.first-place.ensures (begin_proper _ c.before.before.requires.inside);
       within = omega arith;
       opened = c.before.before.requires.opened;
     }
@@ -164,7 +164,7 @@ returns-6 : tie.Need-returns-6 invariant-loop decreases-loop
 returns-6 c =
     let t = c.before in
     let l = t.before.before.before.before.before.before.before.before in
-    c.ran6.ensures ∙ sym (close-spent l.loop.invariant (close_of t.before) t.if5.true)
+    c.ran6.ensures ∙ sym (close_spent l.loop.invariant (close_of t.before) t.if5.true)
 
 -- ---- carried out
 
@@ -206,19 +206,19 @@ loop-again c =
       if1 = w.5;
     } in
     let told = w.8.given.1 in
-    let f = entered-none
+    let f = entered_none
     (step-entered
     (record {
       before = record {
         before = record { before = record { before = record { before = h; q = w.6 }; match3 = w.7 }; o = w.8 };
         known-told3 = w.9;
       };
-      step-refusal = w.10;
+      step_refusal = w.10;
     }))
     w.11.left in
     goes_on l.invariant (next_of h.before.before) (due-of h).0 f
     (w.21
-    ∙ step-leaves W l.s (process-of h) _ l.invariant.opened.sound told f.named w.12.ensures w.14.ensures.0 w.16.ensures.0
+    ∙ step_leaves W l.s (process-of h) _ l.invariant.opened.sound told f.named w.12.ensures w.14.ensures.0 w.16.ensures.0
     w.14.ensures.1 w.16.ensures.1 w.17.ensures w.18.ensures)
     (w.20
     ∙ tallied f (step_counts W l.s (process-of h) _ l.c l.invariant.opened.sound told f.named w.12.ensures w.14.ensures.0
@@ -239,15 +239,15 @@ loop-again c =
     } in
     let o = operation-of h.before.before in
     let other = other_tag o w.7.keys2 in
-    let f = entered-none (other-entered (record { before = record { before = record { before = h; q = w.6 }; match3 = w.7 }; refusal-of = w.8 }))
+    let f = entered_none (other-entered (record { before = record { before = record { before = h; q = w.6 }; match3 = w.7 }; refusal-of = w.8 }))
     w.9.left in
     goes_on l.invariant (next_of h.before.before) (due-of h).0 f
     (w.15
     ∙ ⊎_elim
-    (λ v. v.2 ∙ other-changes W l.s (process-of h) o other f.named (sym w.10.ensures ∙ v.0.taken) v.1.ensures)
-    (λ v. v.1 ∙ other-stays W l.s (process-of h) o other (sym w.10.ensures ∙ v.0.left))
+    (λ v. v.2 ∙ other_changes W l.s (process-of h) o other f.named (sym w.10.ensures ∙ v.0.taken) v.1.ensures)
+    (λ v. v.1 ∙ other_stays W l.s (process-of h) o other (sym w.10.ensures ∙ v.0.left))
     w.11.came)
-    (w.14 ∙ tallied f (rw w.12.ensures (other-counts l.s l.c o _ other)) w.13.ensures)
+    (w.14 ∙ tallied f (rw w.12.ensures (other_counts l.s l.c o _ other)) w.13.ensures)
     c.place_after.ensures)
     (λ w.
     let e : tie.After-enum-told2 invariant-loop decreases-loop =

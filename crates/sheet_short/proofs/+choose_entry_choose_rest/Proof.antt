@@ -1,10 +1,10 @@
 -- `sheet_short::choose_entry` and `sheet_short::choose_rest` meet their contracts: each way out is a law of the lists chosen among
 -- (`Cycle`); 16 left + (10 - e), and 16 left + 15, fall. Assumes nothing.
 use Rattle.base.specs.Prelude.{arith, needs, ◌*◌, ◌+◌, ◌-◌}
-use Rattle.model_short.specs.Calls.{rawsAt}
-use Rattle.model_short_laws.specs.Machine.{applied, met-after}
-use Rattle.model_short_laws.specs.Numbers.{one-or-two}
-use Rattle.sheet_short.specs.Cycle.{entry-end, entry-refused, entry_found, entry-passed, rest_end, rest-loose, rest-tight}
+use Rattle.model_short.specs.Calls.{raws_at}
+use Rattle.model_short_laws.specs.Machine.{applied, met_after}
+use Rattle.model_short_laws.specs.Numbers.{one_or_two}
+use Rattle.sheet_short.specs.Cycle.{entry_end, entry_refused, entry_found, entry_passed, rest_end, rest_loose, rest_tight}
 use Prim.Native.Nat.{ℕ, ◌<◌}
 use borrow.Fn.Kinds.{In}
 use borrow.Fn.PlainCycle.{Measures, is, falls, and}
@@ -60,7 +60,7 @@ pub +choose-entry-choose-rest-spec : {M : Type 1} → statement M
     (λ c. omega arith)
     (λ c.
     let a = c.before.before.args in
-    entry-end a.n (a.left - 1) a.e a.tight (rawsAt a.buffer.now (a.at + 6) (a.left - 1)) a.s a.c a.buffer.now
+    entry_end a.n (a.left - 1) a.e a.tight (raws_at a.buffer.now (a.at + 6) (a.left - 1)) a.s a.c a.buffer.now
     a.at c.if1.true)
     (λ c κs. search needs)
     (λ c κs. search needs)
@@ -74,7 +74,7 @@ pub +choose-entry-choose-rest-spec : {M : Type 1} → statement M
     let x = answered.before.choice in
     let start = answered.before.before.before.before in
     let a = start.args in
-    entry-refused a.n (a.left - 1) a.e a.tight (rawsAt a.buffer.now (a.at + 6) (a.left - 1)) a.s a.c
+    entry_refused a.n (a.left - 1) a.e a.tight (raws_at a.buffer.now (a.at + 6) (a.left - 1)) a.s a.c
     a.buffer.now a.at (omega arith) _ x.ensures _
     (applied _ _ start.requires.1.0.met _ x.result answered.apply.ensures)
     refused.if2.true _ _ _ c.before.before.choose-entry.ensures)
@@ -90,7 +90,7 @@ pub +choose-entry-choose-rest-spec : {M : Type 1} → statement M
         one = pre.0.one;
         two = pre.0.two;
         room = omega (arith, pre.0.room, pre.1);
-        met = rw done (met-after _ _ pre.0.met _ (one-or-two _ pre.0.one pre.0.two) x);
+        met = rw done (met_after _ _ pre.0.met _ (one_or_two _ pre.0.one pre.0.two) x);
       },
     ))
     (λ c κs. search needs)
@@ -105,7 +105,7 @@ pub +choose-entry-choose-rest-spec : {M : Type 1} → statement M
     let some = answered.before.before in
     let start = some.before.before in
     let a = start.args in
-    entry_found a.n (a.left - 1) a.e a.tight (rawsAt a.buffer.now (a.at + 6) (a.left - 1)) a.s a.c
+    entry_found a.n (a.left - 1) a.e a.tight (raws_at a.buffer.now (a.at + 6) (a.left - 1)) a.s a.c
     a.buffer.now a.at (omega (arith, some.if1.false)) _ x.ensures _
     (applied _ _ start.requires.1.0.met _ x.result answered.apply.ensures)
     goes_on.if2.false _ _ (rest .choose-rest .ensures) tried.if3.true _ c.before.before.put-raw.ensures)
@@ -125,7 +125,7 @@ pub +choose-entry-choose-rest-spec : {M : Type 1} → statement M
     let some = answered.before.before in
     let start = some.before.before in
     let a = start.args in
-    entry-passed a.n (a.left - 1) a.e a.tight (rawsAt a.buffer.now (a.at + 6) (a.left - 1)) a.s a.c
+    entry_passed a.n (a.left - 1) a.e a.tight (raws_at a.buffer.now (a.at + 6) (a.left - 1)) a.s a.c
     a.buffer.now a.at (omega (arith, some.if1.false)) _ x.ensures _
     (applied _ _ start.requires.1.0.met _ x.result answered.apply.ensures)
     goes_on.if2.false _ _ (rest .choose-rest .ensures) tried.if3.false _ _ _ c.before.before.choose-entry2.ensures))
@@ -154,7 +154,7 @@ pub +choose-entry-choose-rest-spec : {M : Type 1} → statement M
     let tight = raw.before.before in
     let a = tight.before.before.before.args in
     rw tight.if2.true
-    (rest-tight a.n a.left a.s a.c a.buffer.now a.at (omega arith) _ _ _ raw.raw_at.ensures _
+    (rest_tight a.n a.left a.s a.c a.buffer.now a.at (omega arith) _ _ _ raw.raw_at.ensures _
     numbered.number_of_lem.ensures.0 c.before.before.choose-entry.ensures))
     -- of all lists
     (λ c κs. (omega arith, (c.before.before.before.before.requires.1, omega arith)))
@@ -162,4 +162,4 @@ pub +choose-entry-choose-rest-spec : {M : Type 1} → statement M
     (λ c.
     let a = c.before.before.before.before.before.before.before.args in
     rw c.before.before.before.before.if2.false
-    (rest-loose a.n a.left a.s a.c a.buffer.now a.at (omega arith) _ _ _ _ c.before.before.choose-entry2.ensures))
+    (rest_loose a.n a.left a.s a.c a.buffer.now a.at (omega arith) _ _ _ _ c.before.before.choose-entry2.ensures))

@@ -2,8 +2,8 @@
 use Rattle.base.specs.Prelude.{◌≡◌, refl, ◌∙◌, arith, needs}
 use Rattle.model.specs.Window.{window}
 use Rattle.model.specs.Board.{opened}
-use Rattle.model_short_laws.specs.Machine.{met-fresh}
-use Rattle.model_short_laws.specs.Numbers.{one-or-two}
+use Rattle.model_short_laws.specs.Machine.{met_fresh}
+use Rattle.model_short_laws.specs.Numbers.{one_or_two}
 use Rattle.sheet_short.proofs.choose.Statement.{statement}
 use Rattle.sheet_short.proofs.choose.Tie as tie
 
@@ -17,7 +17,7 @@ choose-rest-requires c κs =
       one = pre.0;
       two = pre.1;
       room = omega (arith, pre.2);
-      met = rw (fresh c.before) (met-fresh _ (one-or-two _ pre.0 pre.1));
+      met = rw (fresh c.before) (met_fresh _ (one_or_two _ pre.0 pre.1));
     }
 
 returns : tie.Need-returns

@@ -1,20 +1,20 @@
 -- `sheet_short::first` meets its contract: refused, nothing is written; else there is a first. Assumes nothing.
 use Rattle.base.specs.Prelude.{◌≡◌, sym, ◌∙◌, arith, needs}
 use Rattle.model.specs.Refusal.{refusal}
-use Rattle.model_short.specs.Calls.{firstTests, firstResult}
-use Rattle.model_short_laws.specs.Numbers.{CallFits, call_fits, result-refused}
+use Rattle.model_short.specs.Calls.{first_tests, first_result}
+use Rattle.model_short_laws.specs.Numbers.{CallFits, call_fits, result_refused}
 use Rattle.sheet_short.specs.Ends.{first_done}
 use Rattle.sheet_short.proofs.first.Statement.{statement}
 use Rattle.sheet_short.proofs.first.Tie as tie
 
 returns : tie.Need-returns
-unfolding firstResult
+unfolding first_result
 returns c =
     let a = c.before.before.before.before.args in
-    rw (← c.before.call-refusal.ensures) (result-refused _ c.if1.true _ a.buffer.now)
+    rw (← c.before.call-refusal.ensures) (result_refused _ c.if1.true _ a.buffer.now)
 
 accepted : (c : tie.Else1)
-    → let a = c.before.before.before.before.args in refusal (firstTests a.n a.length a.buffer.now) ≡ 0
+    → let a = c.before.before.before.before.args in refusal (first_tests a.n a.length a.buffer.now) ≡ 0
 accepted c = sym c.before.call-refusal.ensures ∙ c.if1.false
 
 known : (c : tie.Else1) → let a = c.before.before.before.before.args in CallFits a.n a.length a.buffer.now

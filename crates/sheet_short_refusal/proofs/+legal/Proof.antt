@@ -1,8 +1,8 @@
 -- `sheet_short_refusal::legal` meets its contract: one entry after the other; the number that is left falls. Assumes nothing.
 use Rattle.base.specs.Prelude.{arith, sym, ◌∙◌, needs}
-use Rattle.model_short_laws.specs.Machine.{applied, met-after}
-use Rattle.model_short_laws.specs.Numbers.{one-or-two}
-use Rattle.sheet_short_refusal.specs.Legal.{legal-end, legal-no-choice, legal-refused, legal-goes-on}
+use Rattle.model_short_laws.specs.Machine.{applied, met_after}
+use Rattle.model_short_laws.specs.Numbers.{one_or_two}
+use Rattle.sheet_short_refusal.specs.Legal.{legal_end, legal_no_choice, legal_refused, legal_goes_on}
 use Prim.Native.Nat.{ℕ, ◌<◌}
 use borrow.Fn.Kinds.{In}
 use borrow.Fn.PlainCycle.{Measures, is, falls, and}
@@ -38,18 +38,18 @@ pub +legal-spec : {M : Type 1} → statement M
 )
     (legal-at t)
     legal.Post
-    (λ c. legal-end _ _ _ _ _ _ c.if1.true)
+    (λ c. legal_end _ _ _ _ _ _ c.if1.true)
     (λ c κs. search needs)
     (λ c. omega arith)
     (λ c κs. search needs)
     (λ c.
-    legal-no-choice _ _ _ _ _ _ (omega arith) _ c.before.before.raw_at.ensures _ c.before.number_of_lem.ensures.0 c.if2.true)
+    legal_no_choice _ _ _ _ _ _ (omega arith) _ c.before.before.raw_at.ensures _ c.before.number_of_lem.ensures.0 c.if2.true)
     (λ c κs. search needs)
     (λ c.
     let numbered = c.before.before.before.before in
     let x = numbered.before.raw_at in
     let met = numbered.before.before.before.before.requires.1.met in
-    legal-refused _ _ _ _ _ _ (omega arith) _ x.ensures _ numbered.number_of_lem.ensures.0 (omega arith) _
+    legal_refused _ _ _ _ _ _ (omega arith) _ x.ensures _ numbered.number_of_lem.ensures.0 (omega arith) _
     (applied _ _ met _ x.result c.before.before.apply.ensures) c.if3.true)
     (λ c. omega arith)
     (λ c. omega arith)
@@ -62,7 +62,7 @@ pub +legal-spec : {M : Type 1} → statement M
         one = pre.one;
         two = pre.two;
         room = omega (arith, pre.room);
-        met = rw done (met-after _ _ pre.met _ (one-or-two _ pre.one pre.two) x);
+        met = rw done (met_after _ _ pre.met _ (one_or_two _ pre.one pre.two) x);
       },
     ))
     (λ c.
@@ -71,5 +71,5 @@ pub +legal-spec : {M : Type 1} → statement M
     let x = numbered.before.raw_at in
     let met = numbered.before.before.before.before.requires.1.met in
     c.legal.ensures
-    ∙ legal-goes-on _ _ _ _ _ _ (omega arith) _ x.ensures _ numbered.number_of_lem.ensures.0 (omega arith) _
+    ∙ legal_goes_on _ _ _ _ _ _ (omega arith) _ x.ensures _ numbered.number_of_lem.ensures.0 (omega arith) _
     (applied _ _ met _ x.result goes_on.before.before.apply.ensures) goes_on.if3.false)

@@ -3,17 +3,17 @@ use Rattle.base.specs.Prelude.{◌≡◌, refl, sym, ◌∙◌, arith, needs}
 use Rattle.model.specs.Window.{window}
 use Rattle.model.specs.Board.{opened}
 use Rattle.model.specs.Refusal.{refusal}
-use Rattle.model_short.specs.Calls.{firstTests}
-use Rattle.model_short_laws.specs.Machine.{met-fresh}
-use Rattle.model_short_laws.specs.Numbers.{call_fits, one-or-two, given-refused}
-use Rattle.sheet_short_refusal.specs.Legal.{given_yes, given-no}
+use Rattle.model_short.specs.Calls.{first_tests}
+use Rattle.model_short_laws.specs.Machine.{met_fresh}
+use Rattle.model_short_laws.specs.Numbers.{call_fits, one_or_two, given_refused}
+use Rattle.sheet_short_refusal.specs.Legal.{given_yes, given_no}
 use Rattle.sheet_short_refusal.proofs.given_refusal.Statement.{statement}
 use Rattle.sheet_short_refusal.proofs.given_refusal.Tie as tie
 
 returns : tie.Need-returns
 returns c =
     let a = c.before.before.before.args in
-    given-refused a.n a.length a.buffer.now c.before.call-refusal.ensures c.if1.true
+    given_refused a.n a.length a.buffer.now c.before.call-refusal.ensures c.if1.true
 
 cast-few : tie.Need-overflow-cast-few
 cast-few c =
@@ -26,7 +26,7 @@ fresh : (c : tie.After-opened) → let n = c.before.before.before.before.before.
 fresh c = c.opened.ensures ∙ rw c.before.window.ensures refl
 
 accepted : (c : tie.After-opened)
-    → let a = c.before.before.before.before.before.args in refusal (firstTests a.n a.length a.buffer.now) ≡ 0
+    → let a = c.before.before.before.before.before.args in refusal (first_tests a.n a.length a.buffer.now) ≡ 0
 accepted c = sym c.before.before.before.call-refusal.ensures ∙ c.before.before.if1.false
 
 legal-requires : tie.Need-legal-requires
@@ -37,7 +37,7 @@ legal-requires c κs =
       one = f.one;
       two = f.two;
       room = omega (arith, f.short);
-      met = rw (fresh c) (met-fresh _ (one-or-two _ f.one f.two));
+      met = rw (fresh c) (met_fresh _ (one_or_two _ f.one f.two));
     }
 
 returns-2 : tie.Need-returns-2
@@ -49,7 +49,7 @@ returns-2 c =
 returns-3 : tie.Need-returns-3
 returns-3 c =
     let a = c.before.before.before.before.before.before.before.args in
-    given-no a.n a.length a.buffer.now (accepted c.before.before) _ (fresh c.before.before)
+    given_no a.n a.length a.buffer.now (accepted c.before.before) _ (fresh c.before.before)
     (sym c.if2.false ∙ c.before.legal.ensures)
 
 pub given-refusal-spec : {M : Type 1} → statement M

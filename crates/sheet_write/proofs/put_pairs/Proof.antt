@@ -2,8 +2,8 @@
 -- end. Assumes nothing.
 use Rattle.base.specs.Prelude.{◌+◌, ◌-◌, ◌*◌, ◌≤◌, ◌<◌, arith, ◌≡◌, refl, ◌∙◌, length, get_or, take, take_all, sets, needs}
 use lib.Seq.{length-sets}
-use Rattle.model_write.specs.Write.{laidOut, pairBytes, total}
-use Rattle.model_write_laws.specs.Laid.{total-taken, total-part, pairs-more}
+use Rattle.model_write.specs.Write.{laid_out, pair_bytes, total}
+use Rattle.model_write_laws.specs.Laid.{total_taken, total_part, pairs_more}
 use Rattle.sheet_write.proofs.put_pairs.Statement.{statement}
 use Rattle.sheet_write.proofs.put_pairs.Tie as tie
 
@@ -11,7 +11,7 @@ abbrev invariant-loop : tie.invariant-loop
 invariant-loop lengths sheet₀ from₀ i₀ sheet from i =
     (i ≤ length lengths)
     × (from ≡ 4 + 4 * length lengths + 6 * total (take i lengths))
-    × (sheet ≡ sets sheet₀ 4 (pairBytes (laidOut (4 + 4 * length lengths) (take i lengths))))
+    × (sheet ≡ sets sheet₀ 4 (pair_bytes (laid_out (4 + 4 * length lengths) (take i lengths))))
 
 abbrev decreases-loop : tie.decreases-loop
 decreases-loop lengths sheet₀ from₀ i₀ sheet from i = length lengths - i
@@ -25,7 +25,7 @@ low : (c : tie.In-loop invariant-loop decreases-loop) →
 low c =
     let ms = (start_of c.before).args.lengths.now in
     let i = c.before.loop.i in
-    omega (arith, total-taken ms i (omega arith), total-part ms (i + 1))
+    omega (arith, total_taken ms i (omega arith), total_part ms (i + 1))
 
 loop-holds : tie.Need-loop-init invariant-loop decreases-loop
 loop-holds c = (omega arith, omega arith, refl)
@@ -39,9 +39,9 @@ loop-again c =
     let ms = a.lengths.now in
     let i = l.loop.i in (
       omega arith,
-      omega (arith, total-taken ms i (omega arith)),
+      omega (arith, total_taken ms i (omega arith)),
       rw (second.put162.ensures, first.put16.ensures, l.loop.invariant.2, l.loop.invariant.1)
-          (pairs-more ms i (omega arith) a.sheet.now (4 + 4 * length ms)),
+          (pairs_more ms i (omega arith) a.sheet.now (4 + 4 * length ms)),
     )
 
 returns : tie.Need-returns invariant-loop decreases-loop

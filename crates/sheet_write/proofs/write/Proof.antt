@@ -3,12 +3,12 @@
 use Rattle.base.specs.Prelude.{◌+◌, ◌*◌, ◌≤◌, ◌<◌, arith, ◌≡◌, sym, ◌∙◌, length, length-set, leb-true, not-false, needs}
 use lib.Seq.{length-sets}
 use Rattle.base.specs.Bools.{and_right}
-use Rattle.model.specs.Board.{limitsOf}
-use Rattle.model_laws.specs.Callers.{caller-limits}
-use Rattle.model_write.specs.Write.{wrote, writeResult}
-use Rattle.model_write_laws.specs.Sizes.{length-sheetOf}
-use Rattle.model_write_laws.specs.Facts.{WriteFacts, write-facts}
-use Rattle.model_write_laws.specs.Stored.{sheet-stored, written-refused, written-accepted}
+use Rattle.model.specs.Board.{limits_of}
+use Rattle.model_laws.specs.Callers.{caller_limits}
+use Rattle.model_write.specs.Write.{wrote, write_result}
+use Rattle.model_write_laws.specs.Sizes.{length_sheet_of}
+use Rattle.model_write_laws.specs.Facts.{WriteFacts, write_facts}
+use Rattle.model_write_laws.specs.Stored.{sheet_stored, written_refused, written_accepted}
 use Rattle.sheet_write.proofs.write.Statement.{statement}
 use Rattle.sheet_write.proofs.write.Tie as tie
 
@@ -18,10 +18,10 @@ start_of c = c.before.before.before.before.before
 -- The call is accepted, and so this is known of it.
 facts : (c : tie.Else1) →
     let a = (start_of c).args in
-    WriteFacts (limitsOf a.caller) a.n a.limit a.entries.now a.lengths.now (length a.sheet.now)
+    WriteFacts (limits_of a.caller) a.n a.limit a.entries.now a.lengths.now (length a.sheet.now)
 facts c =
     let a = (start_of c).args in
-    write-facts (limitsOf a.caller) a.n a.limit a.entries.now a.lengths.now _
+    write_facts (limits_of a.caller) a.n a.limit a.entries.now a.lengths.now _
     (sym c.before.write-refusal.ensures ∙ c.if1.false)
 
 -- The sheet's size, which is 65,535 at most, fits in.
@@ -31,26 +31,26 @@ size : (c : tie.Else1) →
     (n ≤ 65535) × (n ≤ length a.sheet.now)
 size c =
     let a = (start_of c).args in
-    let n = length-sheetOf a.n a.limit a.entries.now a.lengths.now in
+    let n = length_sheet_of a.n a.limit a.entries.now a.lengths.now in
     (omega (arith, (facts c).few), omega (arith, (facts c).ranges))
 
 -- The processes have 8 bits, and the round limit 16.
 processes-low : (c : tie.Else1) → (start_of c).args.n < 256
 processes-low c =
     let f = (facts c).opens in
-    let few : (start_of c).args.n ≤ (limitsOf (start_of c).args.caller).processes = search (and_right, leb-true, not-false) in
-    omega (arith, (caller-limits (start_of c).args.caller).processes)
+    let few : (start_of c).args.n ≤ (limits_of (start_of c).args.caller).processes = search (and_right, leb-true, not-false) in
+    omega (arith, (caller_limits (start_of c).args.caller).processes)
 
 rounds-low : (c : tie.Else1) → (start_of c).args.limit < 65536
 rounds-low c =
     let f = (facts c).opens in
-    let few : (start_of c).args.limit ≤ (limitsOf (start_of c).args.caller).rounds = search (and_right, leb-true, not-false) in
-    omega (arith, (caller-limits (start_of c).args.caller).rounds)
+    let few : (start_of c).args.limit ≤ (limits_of (start_of c).args.caller).rounds = search (and_right, leb-true, not-false) in
+    omega (arith, (caller_limits (start_of c).args.caller).rounds)
 
 returns : tie.Need-returns
 returns c =
     let a = c.before.before.before.before.before.args in
-    written-refused (limitsOf a.caller) a.n a.limit a.entries.now a.lengths.now a.sheet.now _
+    written_refused (limits_of a.caller) a.n a.limit a.entries.now a.lengths.now a.sheet.now _
     c.before.write-refusal.ensures c.if1.true
 
 put-pairs-requires : tie.Need-put-pairs-requires
@@ -82,12 +82,12 @@ returns-2 c =
     let es = a.entries.now in
     let ms = a.lengths.now in
     let accepted : wrote (record { code = 0; count = 4 + 4 * length ms + length es }) entries.put_entries.new.1.1.0
-    ≡ writeResult (limitsOf a.caller) a.n a.limit es ms a.sheet.now =
-    written-accepted (limitsOf a.caller) a.n a.limit es ms a.sheet.now
+    ≡ write_result (limits_of a.caller) a.n a.limit es ms a.sheet.now =
+    written_accepted (limits_of a.caller) a.n a.limit es ms a.sheet.now
     (sym e.before.write-refusal.ensures ∙ e.if1.false)
-    (sym (length-sheetOf a.n a.limit es ms))
+    (sym (length_sheet_of a.n a.limit es ms))
     (entries.put_entries.ensures ∙ rw (pairs.put-pairs.ensures, header.put16.ensures)
-    (sheet-stored a.n a.limit es ms a.sheet.now (facts e).ranges))
+    (sheet_stored a.n a.limit es ms a.sheet.now (facts e).ranges))
     in accepted
 
 pub write_spec : {M : Type 1} → statement M

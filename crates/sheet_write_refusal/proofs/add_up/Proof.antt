@@ -3,7 +3,7 @@
 use Rattle.base.specs.Prelude.{ℕ, ◌+◌, ◌-◌, ◌≤◌, ◌<◌, arith, ℕ_discrete, ◌≡◌, sym, ◌∙◌, length, get_or, take, take_all, eqb, eq-eqb, ne_eqb}
 use Rattle.base.specs.Prelude.{needs}
 use Rattle.model_write.specs.Write.{total}
-use Rattle.model_write_laws.specs.Laid.{total-taken, total-part}
+use Rattle.model_write_laws.specs.Laid.{total_taken, total_part}
 use Rattle.sheet_write_refusal.proofs.add_up.Statement.{statement}
 use Rattle.sheet_write_refusal.proofs.add_up.Tie as tie
 
@@ -28,12 +28,12 @@ returns c =
     let ms = l.before.args.lengths.now in
     let above : l.loop.left < get_or ms l.loop.i 0 = c.if1.true in
     sym (ne_eqb (total ms) l.before.args.entries (λ e. omega
-    (arith, total-taken ms l.loop.i (omega arith), total-part ms (l.loop.i + 1))))
+    (arith, total_taken ms l.loop.i (omega arith), total_part ms (l.loop.i + 1))))
 
 loop-again : tie.Need-loop-preserved invariant-loop decreases-loop
 loop-again c =
     let l = c.before.before.before in
-    (omega arith, omega (arith, c.if1.false, total-taken l.before.args.lengths.now l.loop.i (omega arith)))
+    (omega arith, omega (arith, c.if1.false, total_taken l.before.args.lengths.now l.loop.i (omega arith)))
 
 returns-2 : tie.Need-returns-2 invariant-loop decreases-loop
 returns-2 c =

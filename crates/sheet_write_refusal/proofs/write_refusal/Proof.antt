@@ -3,32 +3,32 @@ use Rattle.base.specs.Prelude.{ℕ, ◌+◌, ◌*◌, ◌/◌, ◌%◌, min, ari
 use Rattle.base.specs.Prelude.{le-ltb, lt-ltb, leb-true, not-false, not-true, needs}
 use Rattle.base.specs.Bools.{and_left, and_right}
 use Rattle.model_laws.specs.Types.{Limits}
-use Rattle.model.specs.Board.{limitsOf}
-use Rattle.model.specs.Refusal.{refusal, openTests}
-use Rattle.model_laws.specs.Accepted.{refusal-append}
-use Rattle.model_write.specs.Write.{sheetOf, wholeBuffer, writable, wellFormed, bufferEntries, writeRefusal}
-use Rattle.model_write_laws.specs.Sizes.{length-sheetOf}
+use Rattle.model.specs.Board.{limits_of}
+use Rattle.model.specs.Refusal.{refusal, open_tests}
+use Rattle.model_laws.specs.Accepted.{refusal_append}
+use Rattle.model_write.specs.Write.{sheet_of, whole_buffer, writable, well_formed, buffer_entries, write_refusal}
+use Rattle.model_write_laws.specs.Sizes.{length_sheet_of}
 use Rattle.sheet_write_refusal.proofs.write_refusal.Statement.{statement}
 use Rattle.sheet_write_refusal.proofs.write_refusal.Tie as tie
 
-module _ (most : Limits) (n L : ℕ) (es ms : List ℕ) (room : ℕ) {k : ℕ} (opening : k ≡ refusal (openTests most n L)) where
+module _ (most : Limits) (n L : ℕ) (es ms : List ℕ) (room : ℕ) {k : ℕ} (opening : k ≡ refusal (open_tests most n L)) where
   -- A refused opening decides.
-  opening-refused : (k ≡ 0 → ⊥) → k ≡ writeRefusal most n L es ms room
-  unfolding writeRefusal
-  opening-refused some = rw (refusal-append (openTests most n L) _ (omega arith), ← opening, ne_eqb k 0 some)
+  opening-refused : (k ≡ 0 → ⊥) → k ≡ write_refusal most n L es ms room
+  unfolding write_refusal
+  opening-refused some = rw (refusal_append (open_tests most n L) _ (omega arith), ← opening, ne_eqb k 0 some)
 
   -- Else the writer's own tests do.
-  own-tests : k ≡ 0 → writeRefusal most n L es ms room ≡
-      cond (not (wholeBuffer es)) 12
+  own-tests : k ≡ 0 → write_refusal most n L es ms room ≡
+      cond (not (whole_buffer es)) 12
       (cond (not (writable n L es ms)) 17
-      (cond (not (wellFormed (bufferEntries es))) 13 (cond (ltb room (length (sheetOf n L es ms))) 15 0)))
-  unfolding writeRefusal
-  own-tests none = rw (refusal-append (openTests most n L) _ (omega arith), ← opening, none)
+      (cond (not (well_formed (buffer_entries es))) 13 (cond (ltb room (length (sheet_of n L es ms))) 15 0)))
+  unfolding write_refusal
+  own-tests none = rw (refusal_append (open_tests most n L) _ (omega arith), ← opening, none)
 
 returns : tie.Need-returns
 returns c =
     let a = c.before.before.before.before.args in
-    opening-refused (limitsOf a.caller) a.n a.limit a.entries.now a.lengths.now a.room
+    opening-refused (limits_of a.caller) a.n a.limit a.entries.now a.lengths.now a.room
     c.before.open-refusal.ensures c.if1.true
 
 -- Past the opening.
@@ -36,13 +36,13 @@ own : (c : tie.Else1) →
     let a = c.before.before.before.before.args in
     let es = a.entries.now in
     let ms = a.lengths.now in
-    writeRefusal (limitsOf a.caller) a.n a.limit es ms a.room ≡
-    cond (not (wholeBuffer es)) 12
+    write_refusal (limits_of a.caller) a.n a.limit es ms a.room ≡
+    cond (not (whole_buffer es)) 12
     (cond (not (writable a.n a.limit es ms)) 17
-    (cond (not (wellFormed (bufferEntries es))) 13 (cond (ltb a.room (length (sheetOf a.n a.limit es ms))) 15 0)))
+    (cond (not (well_formed (buffer_entries es))) 13 (cond (ltb a.room (length (sheet_of a.n a.limit es ms))) 15 0)))
 own c =
     let a = c.before.before.before.before.args in
-    own-tests (limitsOf a.caller) a.n a.limit a.entries.now a.lengths.now a.room c.before.open-refusal.ensures
+    own-tests (limits_of a.caller) a.n a.limit a.entries.now a.lengths.now a.room c.before.open-refusal.ensures
     c.if1.false
 
 -- An entry buffer of no whole entries.
@@ -55,7 +55,7 @@ told : (c : tie.After-writable) →
     c.writable.result ≡ writable a.n a.limit a.entries.now a.lengths.now
 told c =
     let a = c.before.before.before.before.before.before.args in
-    rw (length-sheetOf a.n a.limit a.entries.now a.lengths.now) c.writable.ensures
+    rw (length_sheet_of a.n a.limit a.entries.now a.lengths.now) c.writable.ensures
 
 -- It can not.
 returns-3 : tie.Need-returns-3
@@ -68,16 +68,16 @@ returns-3 c =
 past-writable : (c : tie.Else3) →
     let a = c.before.before.before.before.before.before.before.before.args in
     let es = a.entries.now in
-    writeRefusal (limitsOf a.caller) a.n a.limit es a.lengths.now a.room ≡
-    cond (not (wellFormed (bufferEntries es))) 13 (cond (ltb a.room (4 + 4 * length a.lengths.now + length es)) 15 0)
+    write_refusal (limits_of a.caller) a.n a.limit es a.lengths.now a.room ≡
+    cond (not (well_formed (buffer_entries es))) 13 (cond (ltb a.room (4 + 4 * length a.lengths.now + length es)) 15 0)
 past-writable c =
     let w = c.before.before in
     let fits = not-false w.writable.result c.if3.false in
-    own w.before.before ∙ rw (eq-eqb (_ % 6) 0 w.before.if2.false, ← told w, fits, length-sheetOf)
+    own w.before.before ∙ rw (eq-eqb (_ % 6) 0 w.before.if2.false, ← told w, fits, length_sheet_of)
 
 -- There are so few entries that all of them were looked at.
 all-formed : (c : tie.Else3) →
-    c.before.well-formed-2.result ≡ wellFormed (bufferEntries
+    c.before.well-formed-2.result ≡ well_formed (buffer_entries
     c.before.before.before.before.before.before.before.before.args.entries.now)
 all-formed c =
     let w = c.before.before in

@@ -1,12 +1,12 @@
 -- `system_house_board_sound::estimates_low` meets its contract. The loop's invariant: the test holds of the first `i` records. Assumes
 -- nothing.
 use Rattle.base.specs.Prelude.{ℕ, ◌-◌, ◌≤◌, ◌≡◌, refl, sym, ◌∙◌, Bool, true, needs, arith, get_or, leb, length, List}
-use Rattle.base.specs.Arrays.{length-mapped}
+use Rattle.base.specs.Arrays.{length_mapped}
 use Rattle.model.specs.declared.Process.{Process}
 use Rattle.model.specs.Board.{idle}
 use Rattle.model.specs.Sound.{every}
 use Rattle.model_house.specs.House.{all_below}
-use Rattle.model_house_laws.specs.Below.{below_more, below-stop, below-ends, every-all}
+use Rattle.model_house_laws.specs.Below.{below_more, below_stop, below_ends, every_all}
 use Rattle.system_house_board_sound.proofs.estimates_low.Statement.{statement}
 use Rattle.system_house_board_sound.proofs.estimates_low.Tie as tie
 
@@ -24,17 +24,17 @@ decreases-loop c s i₀ i = 64 - i
 
 -- The records are 64, as the session's own type has it.
 long : (c : tie.Start invariant-loop decreases-loop) → length c.args.t1.processes ≡ 64
-long c = search (needs, length-mapped)
+long c = search (needs, length_mapped)
 
 all : (c : tie.Start invariant-loop decreases-loop) →
     let a = c.args in all_below 64 (test a.t1.processes a.c) ≡ every (low a.c) a.t1.processes
-all c = let a = c.args in sym (every-all (low a.c) a.t1.processes idle (long c))
+all c = let a = c.args in sym (every_all (low a.c) a.t1.processes idle (long c))
 
 returns : tie.Need-returns invariant-loop decreases-loop
 returns c =
     let head = c.before.before.before.before in
     let a = head.before.args in
-    below-stop (test a.t1.processes a.c) 64 head.loop.i c.before.before.before.loop-test.true
+    below_stop (test a.t1.processes a.c) 64 head.loop.i c.before.before.before.loop-test.true
     c.before.small.ensures c.if1.true
     ∙ all head.before
 
@@ -51,7 +51,7 @@ returns-2 : tie.Need-returns-2 invariant-loop decreases-loop
 returns-2 c =
     let a = c.before.before.args in
     let l = c.before.loop in
-    below-ends (test a.t1.processes a.c) 64 l.i l.invariant.1 l.invariant.0 c.loop-test.false ∙ all c.before.before
+    below_ends (test a.t1.processes a.c) 64 l.i l.invariant.1 l.invariant.0 c.loop-test.false ∙ all c.before.before
 
 pub estimates-low-spec : {M : Type 1} → statement M
 estimates-low-spec =

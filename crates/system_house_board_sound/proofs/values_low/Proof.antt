@@ -2,7 +2,7 @@
 -- nothing.
 use Rattle.base.specs.Prelude.{ℕ, ◌-◌, ◌≤◌, ◌≡◌, refl, sym, ◌∙◌, Bool, true, needs, arith, get_or, leb, List}
 use Rattle.model_house.specs.House.{all_below}
-use Rattle.model_house_laws.specs.Below.{below_more, below-stop, below-ends, every-all}
+use Rattle.model_house_laws.specs.Below.{below_more, below_stop, below_ends, every_all}
 use Rattle.system_house_board_sound.proofs.values_low.Statement.{statement}
 use Rattle.system_house_board_sound.proofs.values_low.Tie as tie
 
@@ -22,9 +22,9 @@ returns : tie.Need-returns invariant-loop decreases-loop
 returns c =
     let head = c.before.before.before.before in
     let a = head.before.args in
-    below-stop (test a.values.now a.c) 256 head.loop.i c.before.before.before.loop-test.true
+    below_stop (test a.values.now a.c) 256 head.loop.i c.before.before.before.loop-test.true
     c.before.small.ensures c.if1.true
-    ∙ sym (every-all (low a.c) a.values.now 0 head.before.requires)
+    ∙ sym (every_all (low a.c) a.values.now 0 head.before.requires)
 
 loop-again : tie.Need-loop-preserved invariant-loop decreases-loop
 loop-again c =
@@ -36,8 +36,8 @@ returns-2 : tie.Need-returns-2 invariant-loop decreases-loop
 returns-2 c =
     let a = c.before.before.args in
     let l = c.before.loop in
-    below-ends (test a.values.now a.c) 256 l.i l.invariant.1 l.invariant.0 c.loop-test.false
-    ∙ sym (every-all (low a.c) a.values.now 0 c.before.before.requires)
+    below_ends (test a.values.now a.c) 256 l.i l.invariant.1 l.invariant.0 c.loop-test.false
+    ∙ sym (every_all (low a.c) a.values.now 0 c.before.before.requires)
 
 pub values-low-spec : {M : Type 1} → statement M
 values-low-spec =

@@ -2,20 +2,20 @@
 use Rattle.base.specs.Prelude.{ℕ, leb, ◌≡◌, refl, needs, Bool, true, false, not, ◌&&◌, eqb, not-true, not-false}
 use Rattle.model.specs.declared.Session.{Session}
 use Rattle.model.specs.declared.Process.{Process}
-use Rattle.model.specs.Sound.{every, soundAs, soundPoll}
-use Rattle.model_house.specs.Sound.{soundVote, soundNumbers}
+use Rattle.model.specs.Sound.{every, sound_as, sound_poll}
+use Rattle.model_house.specs.Sound.{sound_vote, sound_numbers}
 use Rattle.system_house_board_sound.proofs.vote_sound.Statement.{statement}
 use Rattle.system_house_board_sound.proofs.vote_sound.Tie as tie
 
-module _ (n c : ℕ) (s : Session) {b : Bool} (told : b ≡ soundAs true s) where
-  refused : not (eqb s.n n && b) ≡ true → false ≡ soundVote n c s
-  unfolding soundVote
-  refused e = let f : (eqb s.n n && soundPoll s) ≡ false = rw (← told) (not-true _ e) in rw f refl
+module _ (n c : ℕ) (s : Session) {b : Bool} (told : b ≡ sound_as true s) where
+  refused : not (eqb s.n n && b) ≡ true → false ≡ sound_vote n c s
+  unfolding sound_vote
+  refused e = let f : (eqb s.n n && sound_poll s) ≡ false = rw (← told) (not-true _ e) in rw f refl
 
   tested : {x y : Bool} → not (eqb s.n n && b) ≡ false → x ≡ every (λ v. leb v c) s.values →
-      y ≡ every (λ (q : Process). leb q.estimate c) s.processes → (x && y) ≡ soundVote n c s
-  unfolding soundVote soundNumbers
-  tested e p q = let f : (eqb s.n n && soundPoll s) ≡ true = rw (← told) (not-false _ e) in rw (f, p, q) refl
+      y ≡ every (λ (q : Process). leb q.estimate c) s.processes → (x && y) ≡ sound_vote n c s
+  unfolding sound_vote sound_numbers
+  tested e p q = let f : (eqb s.n n && sound_poll s) ≡ true = rw (← told) (not-false _ e) in rw (f, p, q) refl
 
 returns : tie.Need-returns
 returns c = let a = c.before.before.args in refused a.n a.c a.t3 c.before.sound-as.ensures c.if1.true

@@ -1,10 +1,10 @@
 -- `system_house_change::crash` meets its contract: by the number of its first refusal, and by the record that it stores. Assumes nothing.
 use Rattle.base.specs.Prelude.{◌≡◌, ◌∙◌, ap, needs}
-use Rattle.model.specs.Board.{noCounts}
-use Rattle.model.specs.Refusal.{refusal, crashTests}
+use Rattle.model.specs.Board.{no_counts}
+use Rattle.model.specs.Refusal.{refusal, crash_tests}
 use Rattle.model_house.specs.Machine.{HouseOperation, crashes}
-use Rattle.model_house.specs.Public.{houseCrash}
-use Rattle.model_house_laws.specs.Accepted.{houseCode, house-code, house-index, uncounted-refused, uncounted-left, crashed-is}
+use Rattle.model_house.specs.Public.{house_crash}
+use Rattle.model_house_laws.specs.Accepted.{house_code, house_code_law, house_index, uncounted_refused, uncounted_left, crashed_is}
 use Rattle.system_house_change.proofs.crash.Statement.{statement}
 use Rattle.system_house_change.proofs.crash.Tie as tie
 
@@ -16,24 +16,24 @@ operation c = crashes c.args.p
 
 -- The number of the first refusal.
 code : (c : tie.After-first-refusal) →
-    let a = (start c).args in c.first-refusal.result ≡ houseCode a.t1 noCounts (operation (start c))
+    let a = (start c).args in c.first-refusal.result ≡ house_code a.t1 no_counts (operation (start c))
 code c =
     let a = (start c).args in
-    house-code a.t1 noCounts (operation (start c)) c.before.sound.ensures
-    (c.before.before.crash-refusal.ensures ∙ ap (λ φ. refusal (crashTests φ)) c.before.before.before.phase-of.ensures)
+    house_code_law a.t1 no_counts (operation (start c)) c.before.sound.ensures
+    (c.before.before.crash-refusal.ensures ∙ ap (λ φ. refusal (crash_tests φ)) c.before.before.before.phase-of.ensures)
     c.first-refusal.ensures
 
 returns : tie.Need-returns
-unfolding houseCrash
+unfolding house_crash
 returns c =
     let a = (start c.before).args in
     let o = operation (start c.before) in
-    uncounted-left a.t1 o (code c.before) c.if1.true
-    (crashed-is a.t1 a.p (house-index a.t1 noCounts o (code c.before) c.if1.true) noCounts)
+    uncounted_left a.t1 o (code c.before) c.if1.true
+    (crashed_is a.t1 a.p (house_index a.t1 no_counts o (code c.before) c.if1.true) no_counts)
 
 returns-2 : tie.Need-returns-2
-unfolding houseCrash
-returns-2 c = uncounted-refused _ (operation (start c.before)) (code c.before) c.if1.false
+unfolding house_crash
+returns-2 c = uncounted_refused _ (operation (start c.before)) (code c.before) c.if1.false
 
 pub crash-spec : {M : Type 1} → statement M
 crash-spec =

@@ -3,10 +3,10 @@
 use Rattle.base.specs.Prelude.{refl}
 use Rattle.base.specs.Walks.{emp, fact_i}
 use Rattle.base_walk.proofs.Walk.{proved}
-use Rattle.model_house.specs.Public.{houseTurn}
+use Rattle.model_house.specs.Public.{house_turn}
 use Rattle.system_house_turn.proofs.turn.Symbol as callee
 use Rattle.system_house_turn.proofs.turn.Met as callee-thm
-use Rattle.session_lent_laws.proofs.Thin.{takes-three, lent-three, walk-three}
+use Rattle.session_lent_laws.proofs.Thin.{takes_three, lent_three, walk_three}
 use Rattle.system_house_lent.proofs.Houses.{houses}
 use Rattle.system_house_lent.specs.contracts.turn as turn
 use Rattle.system_house_lent.specs.contracts.turn.Key
@@ -16,7 +16,7 @@ use Rattle.system_house_lent.proofs.turn.Code as code
 pub turn_spec : {M : Type 1} → stated.statement M
 unfolding code.routine
 turn_spec 𝓤 𝓛 𝓜 𝓡 =
-    proved 𝓛 𝓜 𝓡 code.env Key.name code.function (code.unfolded 𝓤 𝓛.H 𝓜 𝓡) (lent-three houses houseTurn)
+    proved 𝓛 𝓜 𝓡 code.env Key.name code.function (code.unfolded 𝓤 𝓛.H 𝓜 𝓡) (lent_three houses house_turn)
     (turn.clauses 𝓛 𝓜.mem 𝓡.run) (λ κs a g. fact_i 𝓤 _ (emp 𝓤) refl) callee.name callee.routine
-    code.calls-system-house-turn::turn (takes-three houses houseTurn) _ (λ κs a r ws e. e) (callee-thm.met 𝓤 𝓛 𝓜 𝓡)
-    (walk-three houses houseTurn callee.name 𝓛)
+    code.calls-system-house-turn::turn (takes_three houses house_turn) _ (λ κs a r ws e. e) (callee-thm.met 𝓤 𝓛 𝓜 𝓡)
+    (walk_three houses house_turn callee.name 𝓛)

@@ -2,7 +2,7 @@
 use Rattle.base.specs.Prelude.{ℕ, ◌-◌, ◌≤◌, ◌<◌, ◌≡◌, refl, sym, ◌∙◌, ap, needs, arith, Bool, true, false, not, cond, ◌&&◌, List, ◌++◌}
 use Rattle.base.specs.Prelude.{length, replicate, take, take-append_seam, leb, le-leb, lt-leb, and-false}
 use Rattle.model.specs.Refusal.{refusal}
-use Rattle.model_house.specs.House.{allowed, houseOpenTests}
+use Rattle.model_house.specs.House.{allowed, house_open_tests}
 use Rattle.system_house_open.proofs.open_refusal.Statement.{statement}
 use Rattle.system_house_open.proofs.open_refusal.Tie as tie
 
@@ -12,7 +12,7 @@ module _ (c : ℕ) (wards : List ℕ) where
 
   -- The number, by the answers of the two tests.
   number : (x y : Bool) → not (leb 1 n && leb n 64) ≡ x → not (allowed c wards) ≡ y →
-      cond x 1 (cond y 19 0) ≡ refusal (houseOpenTests c wards)
+      cond x 1 (cond y 19 0) ≡ refusal (house_open_tests c wards)
   number x y p q = rw (p, q)
 
   too_many : 16 < n → allowed c wards ≡ false

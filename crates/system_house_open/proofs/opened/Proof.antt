@@ -4,12 +4,12 @@ use Rattle.model.specs.declared.Session.{Session}
 use Rattle.model.specs.Window.{window}
 use Rattle.model.specs.Board.{opened}
 use Rattle.model_house.specs.declared.Stance.TheVariants.{Idle}
-use Rattle.model_house.specs.House.{wardSeats, worker, openedHouse}
+use Rattle.model_house.specs.House.{ward_seats, worker, opened_house}
 use Rattle.system_house_open.proofs.opened.Statement.{statement}
 use Rattle.system_house_open.proofs.opened.Tie as tie
 
 made : (c : ℕ) (wards : List ℕ) {all : List ℕ} {s b : Session} → let n = length wards in all ≡ wards ++ replicate (16 - n) 0 →
-    s ≡ opened (wardSeats n c) 64 → b ≡ opened n (window n) →
+    s ≡ opened (ward_seats n c) 64 → b ≡ opened n (window n) →
     record {
       n = n;
       c = c;
@@ -20,8 +20,8 @@ made : (c : ℕ) (wards : List ℕ) {all : List ℕ} {s b : Session} → let n =
       table = record { rows = replicate 8 (record { entries = replicate 4 0 }) };
       decision = 0;
     }
-    ≡ openedHouse c wards
-unfolding openedHouse
+    ≡ opened_house c wards
+unfolding opened_house
 made c wards ea es eb = rw (ea, es, eb)
 
 returns : tie.Need-returns

@@ -14,10 +14,10 @@ invariant-loop wards all₀ i₀ all i = Copied wards (length wards) blank all i
 abbrev decreases-loop : tie.decreases-loop
 decreases-loop wards all₀ i₀ all i = length wards - i
 
-drop-replicate : (n k : ℕ) → drop {A = ℕ} n (replicate k 0) ≡ replicate (k - n) 0
-drop-replicate zero k = rw (sub-zero k)
-drop-replicate (suc n) zero = rw (zero-sub (suc n)) refl
-drop-replicate (suc n) (suc k) = rw (suc-sub-suc k n) (drop-replicate n k)
+drop_replicate : (n k : ℕ) → drop {A = ℕ} n (replicate k 0) ≡ replicate (k - n) 0
+drop_replicate zero k = rw (sub-zero k)
+drop_replicate (suc n) zero = rw (zero-sub (suc n)) refl
+drop_replicate (suc n) (suc k) = rw (suc-sub-suc k n) (drop_replicate n k)
 
 loop-again : tie.Need-loop-preserved invariant-loop decreases-loop
 loop-again c =
@@ -31,7 +31,7 @@ returns c =
     let wards = c.before.before.args.wards.now in
     let n = length wards in
     copied_all wards n blank c.before.loop.all c.before.loop.i c.before.loop.invariant c.loop-test.false
-    ∙ ap₂ ◌++◌ (take_all n wards (le_refl _)) (drop-replicate n 16)
+    ∙ ap₂ ◌++◌ (take_all n wards (le_refl _)) (drop_replicate n 16)
 
 pub padded-spec : {M : Type 1} → statement M
 padded-spec =

@@ -1,11 +1,11 @@
 -- `system_house_parts::place_fits` meets its contract: each arm is told the place. Assumes nothing.
 use Rattle.base.specs.Prelude.{needs}
-use Rattle.model_house.specs.Sound.{seatsFit}
+use Rattle.model_house.specs.Sound.{seats_fit}
 use Rattle.system_house_parts.proofs.place_fits.Statement.{statement}
 use Rattle.system_house_parts.proofs.place_fits.Tie as tie
 
 pub place-fits-spec : {M : Type 1} → statement M
-unfolding seatsFit
+unfolding seats_fit
 place-fits-spec =
     tie.close
     (tie.spec (λ c. search needs) (λ c κs. search needs) (λ c. search needs) (λ c κs. search needs) (λ c. search needs)

@@ -1,11 +1,11 @@
 -- `system_house_parts::seats_fit` meets its contract: each arm is told the stance. Assumes nothing.
 use Rattle.base.specs.Prelude.{refl, needs}
-use Rattle.model_house.specs.Sound.{seatsFit}
+use Rattle.model_house.specs.Sound.{seats_fit}
 use Rattle.system_house_parts.proofs.seats_fit.Statement.{statement}
 use Rattle.system_house_parts.proofs.seats_fit.Tie as tie
 
 pub seats-fit-spec : {M : Type 1} → statement M
-unfolding seatsFit
+unfolding seats_fit
 seats-fit-spec =
     tie.close
     (tie.spec (λ c. search needs) (λ c. search needs) (λ c κs. search needs) (λ c. search needs) (λ c. search needs) (λ c. search needs)

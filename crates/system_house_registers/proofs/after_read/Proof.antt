@@ -3,7 +3,7 @@ use Rattle.base.specs.Prelude.{refl, sym, ◌∙◌, ap, needs}
 use Rattle.model_house.specs.declared.Stance.TheVariants.{Working}
 use Rattle.model_house.specs.declared.Place.TheVariants.{WriteHouse}
 use Rattle.model_house.specs.House.{worker}
-use Rattle.model_house.specs.Turn.{roundOver}
+use Rattle.model_house.specs.Turn.{round_over}
 use Rattle.system_house_registers.proofs.after_read.Statement.{statement}
 use Rattle.system_house_registers.proofs.after_read.Tie as tie
 
@@ -23,7 +23,7 @@ returns-3 c =
     let known = last.before.before in
     let start = known.before.before.before in
     rw (sym known.before.before.answer.ensures ∙ known.u2.given.1)
-    (c.round-over.ensures ∙ ap (roundOver start.args.q.outer) last.value-read2.ensures)
+    (c.round-over.ensures ∙ ap (round_over start.args.q.outer) last.value-read2.ensures)
 
 pub after-read-spec : {M : Type 1} → statement M
 after-read-spec =

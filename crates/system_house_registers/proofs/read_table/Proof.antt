@@ -1,7 +1,7 @@
 -- `system_house_registers::read_table` meets its contract. Assumes nothing.
 use Rattle.base.specs.Prelude.{◌≡◌, sym, ◌∙◌, false, needs}
 use Rattle.model.specs.Refusal.{full}
-use Rattle.model_house.specs.Turn.{turnAt}
+use Rattle.model_house.specs.Turn.{turn_at}
 use Rattle.system_house_registers.proofs.read_table.Statement.{statement}
 use Rattle.system_house_registers.proofs.read_table.Tie as tie
 
@@ -13,7 +13,7 @@ returns : tie.Need-returns
 returns c w s hint = rw (sym c.before.full.ensures ∙ c.if1.true)
 
 returns-2 : tie.Need-returns-2
-unfolding turnAt
+unfolding turn_at
 returns-2 c w s hint =
     let read = c.before in
     let start = read.before.before.before.before.before in

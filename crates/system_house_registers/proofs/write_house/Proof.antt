@@ -1,7 +1,7 @@
 -- `system_house_registers::write_house` meets its contract. Assumes nothing.
 use Rattle.base.specs.Prelude.{◌≡◌, refl, sym, ◌∙◌, false, needs}
 use Rattle.model.specs.Refusal.{full}
-use Rattle.model_house.specs.Turn.{turnAt}
+use Rattle.model_house.specs.Turn.{turn_at}
 use Rattle.system_house_registers.proofs.write_house.Statement.{statement}
 use Rattle.system_house_registers.proofs.write_house.Tie as tie
 
@@ -13,7 +13,7 @@ returns : tie.Need-returns
 returns c p w s hint = rw (sym c.before.full.ensures ∙ c.if1.true)
 
 returns-2 : tie.Need-returns-2
-unfolding turnAt
+unfolding turn_at
 returns-2 c p w s hint = rw (c.counted.ensures, room c.before.before.before, c.before.round-over.ensures) refl
 
 pub write-house-spec : {M : Type 1} → statement M

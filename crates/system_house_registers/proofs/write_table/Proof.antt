@@ -3,25 +3,25 @@ use Rattle.base.specs.Prelude.{ℕ, Bool, ◌≡◌, sym, ◌∙◌, false, cond
 use Rattle.model.specs.declared.Access.TheVariants.{WriteDecision}
 use Rattle.model.specs.declared.Counts.{Counts}
 use Rattle.model.specs.declared.Process.{Process}
-use Rattle.model.specs.Board.{processAt}
+use Rattle.model.specs.Board.{process_at}
 use Rattle.model.specs.Refusal.{full}
 use Rattle.model.specs.Step.{counted}
 use Rattle.model_house.specs.declared.Place.TheVariants.{ProposePoll, WriteTable}
 use Rattle.model_house.specs.declared.Stance.TheVariants.{Working}
 use Rattle.model_house.specs.declared.Table.{Table}
 use Rattle.model_house.specs.declared.View.{View}
-use Rattle.model_house.specs.House.{withEntry}
-use Rattle.model_house.specs.Turn.{view, standing, turnAt}
+use Rattle.model_house.specs.House.{with_entry}
+use Rattle.model_house.specs.Turn.{view, standing, turn_at}
 use Rattle.system_house_registers.proofs.write_table.Statement.{statement}
 use Rattle.system_house_registers.proofs.write_table.Tie as tie
 
 -- What is left where the tally is not full.
 left : (v : View) (p w s : ℕ) (hint : Bool) {q : Process} {t : Table} {d : Counts} → full v.counts ≡ false →
-    q ≡ processAt v.session s → t ≡ withEntry v.table v.worker.outer w q.estimate →
+    q ≡ process_at v.session s → t ≡ with_entry v.table v.worker.outer w q.estimate →
     d ≡ cond (full v.counts) v.counts (counted WriteDecision 0 v.counts) →
     view v.session v.poll t v.decision (standing (Working ProposePoll) v.worker) d
-    ≡ cond (full v.counts) v (turnAt p w s hint WriteTable v)
-unfolding turnAt
+    ≡ cond (full v.counts) v (turn_at p w s hint WriteTable v)
+unfolding turn_at
 left v p w s hint room eq et ed = rw (ed, room, et, eq)
 
 returns : tie.Need-returns

@@ -1,14 +1,14 @@
 -- `system_house_sound::polls_sound` meets its contract. The loop's invariant: the first `i` polls are sound. Assumes nothing.
 use Rattle.base.specs.Prelude.{ℕ, ◌-◌, ◌≤◌, ◌≡◌, refl, Bool, true, needs, arith, get_or, List}
 use Rattle.model.specs.declared.Session.{Session}
-use Rattle.model_house.specs.House.{all_below, noSession}
-use Rattle.model_house.specs.Sound.{soundVote}
-use Rattle.model_house_laws.specs.Below.{below_more, below-stop, below-ends}
+use Rattle.model_house.specs.House.{all_below, no_session}
+use Rattle.model_house.specs.Sound.{sound_vote}
+use Rattle.model_house_laws.specs.Below.{below_more, below_stop, below_ends}
 use Rattle.system_house_sound.proofs.polls_sound.Statement.{statement}
 use Rattle.system_house_sound.proofs.polls_sound.Tie as tie
 
 abbrev test : (n c : ℕ) → List Session → ℕ → Bool
-test n c polls i = soundVote n c (get_or polls i noSession)
+test n c polls i = sound_vote n c (get_or polls i no_session)
 
 abbrev invariant-loop : tie.invariant-loop
 invariant-loop n c polls i₀ i = (i ≤ 8) × (all_below i (test n c polls) ≡ true)
@@ -20,7 +20,7 @@ returns : tie.Need-returns invariant-loop decreases-loop
 returns c =
     let head = c.before.before.before.before in
     let a = head.before.args in
-    below-stop (test a.n a.c a.t3) 8 head.loop.i c.before.before.before.loop-test.true c.before.vote-sound.ensures
+    below_stop (test a.n a.c a.t3) 8 head.loop.i c.before.before.before.loop-test.true c.before.vote_sound.ensures
     c.if1.true
 
 loop-again : tie.Need-loop-preserved invariant-loop decreases-loop
@@ -28,13 +28,13 @@ loop-again c =
     let head = c.before.before.before.before in
     let a = head.before.args in
     let l = head.loop in
-    (omega arith, below_more (test a.n a.c a.t3) l.i l.invariant.1 c.before.vote-sound.ensures c.if1.false)
+    (omega arith, below_more (test a.n a.c a.t3) l.i l.invariant.1 c.before.vote_sound.ensures c.if1.false)
 
 returns-2 : tie.Need-returns-2 invariant-loop decreases-loop
 returns-2 c =
     let a = c.before.before.args in
     let l = c.before.loop in
-    below-ends (test a.n a.c a.t3) 8 l.i l.invariant.1 l.invariant.0 c.loop-test.false
+    below_ends (test a.n a.c a.t3) 8 l.i l.invariant.1 l.invariant.0 c.loop-test.false
 
 pub polls-sound-spec : {M : Type 1} → statement M
 polls-sound-spec =

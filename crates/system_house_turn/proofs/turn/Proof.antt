@@ -1,11 +1,11 @@
 -- `system_house_turn::turn` meets its contract: by the number of its first refusal, and by the view that the turn leaves. Assumes nothing.
 use Rattle.base.specs.Prelude.{◌%◌, ◌≡◌, ◌∙◌, ap, needs, arith}
-use Rattle.base.specs.Arrays.{length-mapped}
-use Rattle.model.specs.Refusal.{refusal, stepTests}
-use Rattle.model_house.specs.Machine.{turns, view_of, withView, turned}
-use Rattle.model_house.specs.Public.{houseTurn}
-use Rattle.model_house_laws.specs.Accepted.{houseCode, house-code, house-refused, house-known, house-index, house-left}
-use Rattle.model_house_laws.specs.Turns.{Known, known_at, turned-is, turned-house, turned-counts}
+use Rattle.base.specs.Arrays.{length_mapped}
+use Rattle.model.specs.Refusal.{refusal, step_tests}
+use Rattle.model_house.specs.Machine.{turns, view_of, with_view, turned}
+use Rattle.model_house.specs.Public.{house_turn}
+use Rattle.model_house_laws.specs.Accepted.{house_code, house_code_law, house_refused, house_known, house_index, house_left}
+use Rattle.model_house_laws.specs.Turns.{Known, known_at, turned_is, turned_house, turned_counts}
 use Rattle.system_house_turn.proofs.turn.Statement.{statement}
 use Rattle.system_house_turn.proofs.turn.Tie as tie
 
@@ -29,28 +29,28 @@ abbrev done : tie.After-counts → tie.Else1
 done c = seated (viewed (turned-at c).before)
 
 -- The number of the first refusal.
-code : (c : tie.After-first-refusal) → let a = (first c).args in c.first-refusal.result ≡ houseCode a.t1 a.c (turns a.p a.hint)
+code : (c : tie.After-first-refusal) → let a = (first c).args in c.first-refusal.result ≡ house_code a.t1 a.c (turns a.p a.hint)
 code c =
     let a = (first c).args in
-    house-code a.t1 a.c (turns a.p a.hint) c.before.sound.ensures
-    (c.before.before.step-refusal.ensures ∙ ap (λ φ. refusal (stepTests φ a.c)) c.before.before.before.phase-of.ensures)
+    house_code_law a.t1 a.c (turns a.p a.hint) c.before.sound.ensures
+    (c.before.before.step_refusal.ensures ∙ ap (λ φ. refusal (step_tests φ a.c)) c.before.before.before.phase-of.ensures)
     c.first-refusal.ensures
 
 returns : tie.Need-returns
-unfolding houseTurn
+unfolding house_turn
 returns c =
     let a = (first c.before).args in
-    house-refused a.t1 a.c (turns a.p a.hint) (code c.before) c.if1.true
+    house_refused a.t1 a.c (turns a.p a.hint) (code c.before) c.if1.true
 
 -- Accepted: the index that the code uses is the worker's number; its ward and its outer round are in range.
 same : (c : tie.Else1) → (begin c).args.p % 16 ≡ (begin c).args.p
-same c = let a = (begin c).args in house-index a.t1 a.c (turns a.p a.hint) (code c.before) c.if1.false
+same c = let a = (begin c).args in house_index a.t1 a.c (turns a.p a.hint) (code c.before) c.if1.false
 
 known : (c : tie.Else1) → let a = (begin c).args in Known a.t1 a.c (a.p % 16) a.hint
 known c =
     let a = (begin c).args in
-    known_at a.t1 a.c a.p a.hint (same c) (search (needs, length-mapped))
-    (house-known a.t1 a.c (turns a.p a.hint) (code c.before) c.if1.false)
+    known_at a.t1 a.c a.p a.hint (same c) (search (needs, length_mapped))
+    (house_known a.t1 a.c (turns a.p a.hint) (code c.before) c.if1.false)
 
 left_is : (c : tie.After-turn-view) → let a = (begin (seated (viewed c.before))).args in
     c.turn-view.result ≡ turned a.t1 a.c (a.p % 16) a.hint
@@ -58,16 +58,16 @@ unfolding view_of
 left_is c =
     let v = viewed c.before in
     let a = (begin (seated v)).args in
-    turned-is a.t1 a.c (a.p % 16) a.hint (known (seated v)) v.seat-of.ensures c.turn-view.ensures
+    turned_is a.t1 a.c (a.p % 16) a.hint (known (seated v)) v.seat-of.ensures c.turn-view.ensures
 
 returns-2 : tie.Need-returns-2
-unfolding withView houseTurn
+unfolding with_view house_turn
 returns-2 c =
     let e = done c in
     let a = (begin e).args in
     let left = left_is (turned-at c) in
-    house-left a.t1 a.c (turns a.p a.hint) (code e.before) e.if1.left
-    (turned-house a.t1 a.c a.p a.hint (same e) left) (turned-counts a.t1 a.c a.p a.hint (same e) left)
+    house_left a.t1 a.c (turns a.p a.hint) (code e.before) e.if1.left
+    (turned_house a.t1 a.c a.p a.hint (same e) left) (turned_counts a.t1 a.c a.p a.hint (same e) left)
 
 -- In the order of the code: the worker's record and the tests; the ward, the seat and the places of the boards; the turn; the places
 -- again, for what it leaves.

@@ -1,7 +1,7 @@
 -- `system_house_wards::filled` meets its contract. The loop's invariant: the test holds of the first `i` wards. Assumes nothing.
 use Rattle.base.specs.Prelude.{ℕ, ◌+◌, ◌-◌, ◌≤◌, ◌≡◌, refl, ap, Bool, true, needs, arith, leb, take, List}
 use Rattle.model_house.specs.House.{all_below, members}
-use Rattle.model_house_laws.specs.Below.{below_more, below-stop, below-ends}
+use Rattle.model_house_laws.specs.Below.{below_more, below_stop, below_ends}
 use Rattle.system_house_wards.proofs.filled.Statement.{statement}
 use Rattle.system_house_wards.proofs.filled.Tie as tie
 
@@ -18,7 +18,7 @@ returns : tie.Need-returns invariant-loop decreases-loop
 returns c =
     let head = c.before.before.before in
     let a = head.before.args in
-    below-stop (some a.wards.now a.n) a.c head.loop.i c.before.before.loop-test.true
+    below_stop (some a.wards.now a.n) a.c head.loop.i c.before.before.loop-test.true
     (ap (leb 1) c.before.members.ensures) c.if1.true
 
 loop-again : tie.Need-loop-preserved invariant-loop decreases-loop
@@ -31,7 +31,7 @@ returns-2 : tie.Need-returns-2 invariant-loop decreases-loop
 returns-2 c =
     let a = c.before.before.args in
     let l = c.before.loop in
-    below-ends (some a.wards.now a.n) a.c l.i l.invariant.1 l.invariant.0 c.loop-test.false
+    below_ends (some a.wards.now a.n) a.c l.i l.invariant.1 l.invariant.0 c.loop-test.false
 
 pub filled-spec : {M : Type 1} → statement M
 filled-spec =

@@ -1,7 +1,7 @@
 -- `system_house_wards::in_range` meets its contract. The loop's invariant: the test holds of the first `i` workers. Assumes nothing.
 use Rattle.base.specs.Prelude.{ℕ, ◌-◌, ◌≤◌, ◌≡◌, refl, sym, ◌∙◌, ap, Bool, true, ◌&&◌, needs, arith, get_or, leb, List}
 use Rattle.model_house.specs.House.{all_below}
-use Rattle.model_house_laws.specs.Below.{below_more, below-stop, below-ends, every-below}
+use Rattle.model_house_laws.specs.Below.{below_more, below_stop, below_ends, every_below}
 use Rattle.system_house_wards.proofs.in_range.Statement.{statement}
 use Rattle.system_house_wards.proofs.in_range.Tie as tie
 
@@ -21,9 +21,9 @@ returns : tie.Need-returns invariant-loop decreases-loop
 returns c =
     let head = c.before.before.before.before in
     let a = head.before.args in
-    below-stop (test a.wards.now a.c) a.n head.loop.i c.before.before.before.loop-test.true
+    below_stop (test a.wards.now a.c) a.n head.loop.i c.before.before.before.loop-test.true
     (ap (fits a.c) c.before.wide.ensures) c.if1.true
-    ∙ sym (every-below (fits a.c) a.wards.now 0 a.n (omega (arith, head.before.requires)))
+    ∙ sym (every_below (fits a.c) a.wards.now 0 a.n (omega (arith, head.before.requires)))
 
 loop-again : tie.Need-loop-preserved invariant-loop decreases-loop
 loop-again c =
@@ -38,8 +38,8 @@ returns-2 : tie.Need-returns-2 invariant-loop decreases-loop
 returns-2 c =
     let a = c.before.before.args in
     let l = c.before.loop in
-    below-ends (test a.wards.now a.c) a.n l.i l.invariant.1 l.invariant.0 c.loop-test.false
-    ∙ sym (every-below (fits a.c) a.wards.now 0 a.n (omega (arith, c.before.before.requires)))
+    below_ends (test a.wards.now a.c) a.n l.i l.invariant.1 l.invariant.0 c.loop-test.false
+    ∙ sym (every_below (fits a.c) a.wards.now 0 a.n (omega (arith, c.before.before.requires)))
 
 pub in-range-spec : {M : Type 1} → statement M
 in-range-spec =

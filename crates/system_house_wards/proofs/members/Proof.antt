@@ -2,7 +2,7 @@
 use Rattle.base.specs.Prelude.{ℕ, ◌+◌, ◌-◌, ◌≤◌, ◌<◌, ◌≡◌, refl, sym, ◌∙◌, ap₂, needs, arith, take, length, Bool, true, false, cond, eqb}
 use Rattle.base.specs.Prelude.{get_or}
 use Rattle.model_house.specs.House.{members}
-use Rattle.model_house_laws.specs.Below.{members-next}
+use Rattle.model_house_laws.specs.Below.{members_next}
 use Rattle.system_house_wards.proofs.members.Statement.{statement}
 use Rattle.system_house_wards.proofs.members.Tie as tie
 
@@ -26,7 +26,7 @@ loop-again : tie.Need-loop-preserved invariant-loop decreases-loop
 loop-again c =
     let head = c.before.before.before in
     let low : head.loop.i < length head.before.args.wards.now = omega (arith, head.before.requires) in
-    (omega arith, omega (arith, most c), ap₂ ◌+◌ head.loop.invariant.2 c.one-if.ensures ∙ sym (members-next _ _ _ low))
+    (omega arith, omega (arith, most c), ap₂ ◌+◌ head.loop.invariant.2 c.one-if.ensures ∙ sym (members_next _ _ _ low))
 
 returns : tie.Need-returns invariant-loop decreases-loop
 returns c = let e : c.before.loop.i ≡ c.before.before.args.k = omega arith in c.before.loop.invariant.2 ∙ rw e

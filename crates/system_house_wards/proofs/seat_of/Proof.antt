@@ -1,11 +1,11 @@
 -- `system_house_wards::seat_of` meets its contract. Assumes nothing.
 use Rattle.base.specs.Prelude.{◌≡◌, ◌%◌, ◌∙◌, ap, needs, take}
-use Rattle.model_house.specs.House.{members, seatOf}
+use Rattle.model_house.specs.House.{members, seat_of}
 use Rattle.system_house_wards.proofs.seat_of.Statement.{statement}
 use Rattle.system_house_wards.proofs.seat_of.Tie as tie
 
 returns : tie.Need-returns
-unfolding seatOf
+unfolding seat_of
 returns c =
     let a = c.before.before.before.args in
     let w = c.before.before.wide.result in

@@ -7,10 +7,10 @@ use Rattle.base.specs.Walks.{join, fsplit, fjoin, fjoin3, look, init, stop, from
 use Rattle.base.specs.Walks.{returns, alloc1, alloc0, params1}
 use Rattle.base.specs.Walks.{pass1, pass0, free1, free0, Is, owned, nothing, Lfts}
 use denote.Struct.Laws as LL
-use Rattle.base_walk.proofs.Promise.{uint, truth, Promise, Args, own-all, on-entry}
+use Rattle.base_walk.proofs.Promise.{uint, truth, Promise, Args, own_all, on_entry_of}
 use Rattle.base_walk.proofs.Walk.{Walk, gone, asks, proved}
 use Rattle.model.specs.Public
-use Rattle.model.specs.Public.{withoutCounts}
+use Rattle.model.specs.Public.{without_counts}
 use Rattle.model.specs.contracts.Counts as Ct
 use Rattle.model.proofs.Counts.TheLaws as Ct'
 use Rattle.model.specs.contracts.Changed as Ch
@@ -20,7 +20,7 @@ use Rattle.model.proofs.Session.TheLaws as Se'
 use Rattle.session_step_lent.proofs.step.Symbol as callee
 use Rattle.session_step_lent.proofs.step.Met as callee-thm
 use Rattle.session_lent_laws.proofs.Lent.{reads, lent_out, taken_back}
-use Rattle.session_lent_laws.proofs.Counted.{session, counts, steps-lent}
+use Rattle.session_lent_laws.proofs.Counted.{session, counts, steps_lent}
 use Rattle.test_bench.specs.contracts.step as step
 use Rattle.test_bench.specs.contracts.step.Key
 use Rattle.test_bench.proofs.step.Statement as stated
@@ -35,24 +35,24 @@ goes_on = record {
   ends = λ κs a. (tt, (tt, (tt, (tt, tt))));
 }
 
-walk : {M : Type 1} {𝓤 : Ura M} (𝓛 : Logic 𝓤) → Walk 𝓛 code.function goes_on callee.name steps-lent
+walk : {M : Type 1} {𝓤 : Ura M} (𝓛 : Logic 𝓤) → Walk 𝓛 code.function goes_on callee.name steps_lent
 walk {𝓤 = 𝓤} 𝓛 C Λ callee κs qs a ty Q out =
-    let x = withoutCounts (Public.step a.0 a.1.0 a.1.1.0 a.1.1.1.0) in
+    let x = without_counts (Public.step a.0 a.1.0 a.1.1.0 a.1.1.1.0) in
     alloc1 ! (λ l₀. alloc1 ! (λ l₁. alloc1 ! (λ l₂. alloc1 !
     (λ l₃. alloc1 ! (λ l₄. alloc1 ! (λ l₅. alloc1 ! (λ l₆. alloc1 ! (λ l₇. alloc0 ! $ params1 ! $
     pass1 ! (init ! 12 refl ty.0) $ pass1 ! (init ! 10 refl ty.1.0) $ pass1 ! (init ! 8 refl ty.1.1.0) $ pass1 !
     (init ! 6 refl ty.1.1.1.0) $ pass0 ! $
     assigns ! (of_opd ! (load ! (from ! (stop !)) (look ! 6 refl))) (from ! (stop !)) (init ! 4 refl ty.1.1.1.0) $ assigns !
     (addr ! (from ! (stop !))) (from ! (stop !)) (init ! 0 refl (tt, tt)) $
-    move ! (16 ∷ []) $ use1 𝓛 (‵ ftrue ⊛ ‵ (own-all goes_on κs a)) (id⊢ 𝓤 _) $ split ! $ move ! (1 ∷ []) $ fsplit ! $ move !
+    move ! (16 ∷ []) $ use1 𝓛 (‵ ftrue ⊛ ‵ (own_all goes_on κs a)) (id⊢ 𝓤 _) $ split ! $ move ! (1 ∷ []) $ fsplit ! $ move !
     (1 ∷ []) $ fsplit ! $ move ! (1 ∷ []) $ fsplit ! $ move ! (1 ∷ []) $ fsplit ! $ move ! (10 ∷ 0 ∷ []) $
     lent_out Ct.the_type Ct'.the_laws ! tt a.1.1.1.0 l₅ (λ α γ.
     let κs' : Lfts 1 = (α ∷ [], tt) in
-    let e : Args steps-lent κs' = (a.0, (a.1.0, (a.1.1.0, (record { ref_ptr = (l₅, zero); ghost_name = γ; now = a.1.1.1.0 }, tt)))) in
+    let e : Args steps_lent κs' = (a.0, (a.1.0, (a.1.1.0, (record { ref_ptr = (l₅, zero); ghost_name = γ; now = a.1.1.1.0 }, tt)))) in
     -- [the reference; what it leaves; the token; …; what leader, p and s own; …; _7; …; room for _6; …; what frees _5; _4; …; _3; …; _2; …;
     -- _1; …; room for _0; …]
     move ! (0 ∷ 3 ∷ []) $ fjoin ! $ move ! (3 ∷ 0 ∷ []) $ fjoin ! $ move ! (3 ∷ 0 ∷ []) $ fjoin ! $ move ! (3 ∷ 0 ∷ []) $ fjoin ! $ move !
-    (2 ∷ 3 ∷ 0 ∷ []) $ join ! $ use2 𝓛 (raw (on-entry steps-lent 𝓛 κs' (full_share, tt) e)) (id⊢ 𝓤 _) $
+    (2 ∷ 3 ∷ 0 ∷ []) $ join ! $ use2 𝓛 (raw (on_entry_of steps_lent 𝓛 κs' (full_share, tt) e)) (id⊢ 𝓤 _) $
     -- [what the callee is handed; what the reference leaves; _7; …; room for _6; …; what frees _5; _4; …; _3; …; _2; …; _1; …; room for _0;
     -- …]
     asks ! callee κs' (full_share, tt) e (and_then ! (load ! (from ! (stop !)) (look ! 13 refl))
@@ -79,5 +79,5 @@ unfolding code.routine
 step_spec 𝓤 𝓛 𝓜 𝓡 =
     proved 𝓛 𝓜 𝓡 code.env Key.name code.function (code.unfolded 𝓤 𝓛.H 𝓜 𝓡) goes_on (step.clauses 𝓛 𝓜.mem 𝓡.run)
     (λ κs a g. fact_i 𝓤 _ (emp 𝓤) refl)
-    callee.name callee.routine code.calls-session-step-lent::step steps-lent _ (λ κs a r ws e. ap withoutCounts e)
+    callee.name callee.routine code.calls-session-step-lent::step steps_lent _ (λ κs a r ws e. ap without_counts e)
     (callee-thm.met 𝓤 𝓛 𝓜 𝓡) (walk 𝓛)

@@ -3,11 +3,11 @@ use borrow.Author.Rules.{rules}
 use Rattle.base.specs.Prelude.{◌≡◌, ap}
 use Rattle.model.specs.declared.Changed.{Changed}
 use Rattle.model.specs.Machine.{opening}
-use Rattle.test_caller_byte.specs.Named.{callerOf}
+use Rattle.test_caller_byte.specs.Named.{caller_of}
 use Rattle.test_callers.proofs.caller_open.Statement.{statement}
 use Rattle.test_callers.proofs.caller_open.Tie as tie
 
-opened : (c : tie.After-open) → let a = c.before.before.args in c.open.result ≡ opening (callerOf a.caller) a.n a.limit
+opened : (c : tie.After-open) → let a = c.before.before.args in c.open.result ≡ opening (caller_of a.caller) a.n a.limit
 opened c = rw c.before.caller-of.ensures at c.open.ensures
 
 pub caller-open-spec : {M : Type 1} → statement M

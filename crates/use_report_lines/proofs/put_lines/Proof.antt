@@ -2,7 +2,7 @@
 -- Assumes nothing.
 use borrow.Author.Rules.{rules}
 use Rattle.use_text.specs.Page.{after, same, nothing}
-use Rattle.use_report_laws.specs.Cases.{more-lines}
+use Rattle.use_report_laws.specs.Cases.{more_lines_law}
 use Rattle.use_report_lines.proofs.put_lines.Statement.{statement}
 use Rattle.use_report_lines.proofs.put_lines.Tie as tie
 
@@ -17,7 +17,7 @@ returns-2 c =
     let outcome = m.before in
     let ran = outcome.before.before.args.ran in
     let three = after (after tally.put-tally.ensures board.put-board.ensures) c.put-seats.ensures in
-    after outcome.put-outcome.ensures (same (more-lines ran.ending ran.session ran.counts m.match.keys2) three)
+    after outcome.put-outcome.ensures (same (more_lines_law ran.ending ran.session ran.counts m.match.keys2) three)
 
 pub put-lines-spec : {M : Type 1} → statement M
 put-lines-spec =

@@ -1,7 +1,7 @@
 -- `use_report_lines::put_outcome` meets its contract: each arm is told the ending. Assumes nothing.
 use borrow.Author.Rules.{rules}
 use Rattle.use_text.specs.Page.{same}
-use Rattle.use_report_laws.specs.Cases.{outcome-finished}
+use Rattle.use_report_laws.specs.Cases.{outcome_finished}
 use Rattle.use_report_lines.proofs.put_outcome.Statement.{statement}
 use Rattle.use_report_lines.proofs.put_outcome.Tie as tie
 
@@ -15,7 +15,7 @@ rejected c = rw c.before.before.before.before.before.ending2.given.1 c.put-line2
 finished : tie.Need-returns-3
 finished c =
     let arm = c.before.before.before.before in
-    same (outcome-finished arm.before.args.ending _ arm.match.keys3) c.put-line3.ensures
+    same (outcome_finished arm.before.args.ending _ arm.match.keys3) c.put-line3.ensures
 
 pub put-outcome-spec : {M : Type 1} → statement M
 put-outcome-spec =

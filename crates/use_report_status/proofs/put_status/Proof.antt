@@ -1,7 +1,7 @@
 -- `use_report_status::put_status` meets its contract: each arm is told the phase. Assumes nothing.
 use borrow.Author.Rules.{rules}
 use Rattle.use_text.specs.Page.{same}
-use Rattle.use_report_laws.specs.Cases.{status-working}
+use Rattle.use_report_laws.specs.Cases.{status_working}
 use Rattle.use_report_status.proofs.put_status.Statement.{statement}
 use Rattle.use_report_status.proofs.put_status.Tie as tie
 
@@ -23,7 +23,7 @@ working c =
     let arm = c.before.before.before.before in
     let q = arm.before.before.args.q in
     let line = c.put-line3 in
-    same {r = line.result} {x = line.new.0} (status-working q.phase q.round q.estimate arm.match.keys5) line.ensures
+    same {r = line.result} {x = line.new.0} (status_working q.phase q.round q.estimate arm.match.keys5) line.ensures
 
 pub put-status-spec : {M : Type 1} → statement M
 put-status-spec =

@@ -1,7 +1,7 @@
 -- `use_text::put_fields` meets its contract. The loop's invariant: behind any text the first i numbers are put. Assumes nothing.
 use Rattle.base.specs.Prelude.{ℕ, ◌-◌, ◌≤◌, arith, ◌≡◌, refl, List, needs, length, take, add-one, take-suc, take_all}
 use Rattle.use_text.specs.Page.{Put, after}
-use Rattle.use_text.specs.Numbers.{withFields, last-field}
+use Rattle.use_text.specs.Numbers.{with_fields, last_field}
 use Rattle.use_text.proofs.put_fields.Statement.{statement}
 use Rattle.use_text.proofs.put_fields.Tie as tie
 
@@ -9,7 +9,7 @@ abbrev invariant-loop : tie.invariant-loop
 invariant-loop out₀ at words fields next₀ i₀ i-end out next i =
     (i-end ≡ length fields)
     × (i ≤ length fields)
-    × ((e : List ℕ) (a : ℕ) (t : List ℕ) → Put e a t out₀ next₀ → Put e a (withFields t (take i fields)) out next)
+    × ((e : List ℕ) (a : ℕ) (t : List ℕ) → Put e a t out₀ next₀ → Put e a (with_fields t (take i fields)) out next)
 
 abbrev decreases-loop : tie.decreases-loop
 decreases-loop out₀ at words fields next₀ i₀ i-end out next i = length fields - i
@@ -25,7 +25,7 @@ loop-again c =
       refl,
       omega arith,
       λ e a t p.
-          rw (add-one, take-suc fields head.loop.i 0 (omega arith), last-field)
+          rw (add-one, take-suc fields head.loop.i 0 (omega arith), last_field)
           (after (head.loop.invariant.2 e a t p) (after byte.put_byte.ensures c.put-number.ensures)),
     )
 

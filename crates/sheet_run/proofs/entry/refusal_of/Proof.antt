@@ -9,6 +9,6 @@ refusal-of-spec =
     (tie.spec (λ c. search rules) (λ c κs. search rules) (λ c. search rules) (λ c κs. search rules) (λ c. search rules)
     (λ c κs. search rules)
     (λ c. search rules) (λ c κs. search rules) (λ c. rw c.before.before.o.given.1 c.propose-refusal.ensures)
-    (λ c. rw c.before.enum_told.given.1 c.step-refusal.ensures)
+    (λ c. rw c.before.enum_told.given.1 c.step_refusal.ensures)
     (λ c. rw c.before.enum-told2.given.1 c.learn-refusal.ensures)
     (λ c. rw c.before.enum-told3.given.1 c.crash-refusal.ensures))

@@ -11,15 +11,15 @@ use types.Logic.{Logic}
 use contract.Monad.{Fun}
 use Rattle.std.specs.Borrow.{Bor}
 use Rattle.model_laws.specs.Types.{Caller, CountAnswer}
-use Rattle.model.specs.Board.{limitsOf}
+use Rattle.model.specs.Board.{limits_of}
 use Rattle.model.specs.Bytes.{byte_at, word16}
-use Rattle.model.specs.Sheet.{sheetRefusal}
-use Rattle.model_write.specs.Write.{wrote, writeResult}
+use Rattle.model.specs.Sheet.{sheet_refusal}
+use Rattle.model_write.specs.Write.{wrote, write_result}
 use Rattle.sheet_layout.specs.declared.Span.{Span}
 use Rattle.sheet_layout.specs.Runs.{IsRun}
 use Rattle.sheet_laws.specs.declared.Handed.{Handed}
 use Rattle.sheet_laws.specs.Places.{begin, handed, advanced}
-use Rattle.theory_functions.specs.Contracts.{ensures}
+use Rattle.theory_functions.specs.FunctionContracts.{ensures}
 use Rattle.sheet_write.specs.contracts.write as write
 use Rattle.sheet_refusal.specs.contracts.refusal as refusal
 use Rattle.sheet_reader.specs.contracts.first_place as first-place
@@ -32,10 +32,10 @@ use Rattle.part_bytes.specs.contracts.word16 as word
 -- ---- what is promised of a call: its answer, and of the writer what the output holds after it
 
 abbrev pub Writes : Caller → (n L : ℕ) (es ms out : List ℕ) → CountAnswer → (after : List ℕ) → Type 0
-Writes caller n L es ms out answer after = wrote answer after ≡ writeResult (limitsOf caller) n L es ms out
+Writes caller n L es ms out answer after = wrote answer after ≡ write_result (limits_of caller) n L es ms out
 
 abbrev pub Refuses : Caller → (sheet : List ℕ) (code : ℕ) → Type 0
-Refuses caller sheet code = code ≡ sheetRefusal (limitsOf caller) sheet
+Refuses caller sheet code = code ≡ sheet_refusal (limits_of caller) sheet
 
 abbrev pub FirstPlace : (sheet : List ℕ) (place : ℕ) → Type 0
 FirstPlace sheet place = place ≡ begin sheet
@@ -59,32 +59,32 @@ RunAt sheet i x = IsRun sheet i x.offset x.size
 
 module _ {M : Type 1} {𝓤 : Ura M} (𝓛 : Logic 𝓤) (mem : Memory → SProp 𝓤) (run : Routine → Fun 𝓤) where
   -- The writer is lent the output: e has it as it stands at exit.
-  pub write-contract : (κ κ₁ κ₂ : Lft) (caller : Caller) (n L : ℕ) (es ms out : Bor (List ℕ)) →
+  pub write_contract : (κ κ₁ κ₂ : Lft) (caller : Caller) (n L : ℕ) (es ms out : Bor (List ℕ)) →
       write.clauses 𝓛 mem run (κ, (κ₁, (κ₂, tt))) (caller, (n, (L, (es, (ms, (out, tt))))))
       ≡ ensures 𝓤 (λ r e. Writes caller n L es.now ms.now out.now r e.1.1.1.1.1.0.now)
-  write-contract κ κ₁ κ₂ caller n L es ms out = refl
+  write_contract κ κ₁ κ₂ caller n L es ms out = refl
 
   module _ (κ : Lft) (sheet : Bor (List ℕ)) where
-    pub refusal-contract : (caller : Caller) →
+    pub refusal_contract : (caller : Caller) →
         refusal.clauses 𝓛 mem run (κ, tt) (caller, (sheet, tt)) ≡ ensures 𝓤 (λ r e. Refuses caller sheet.now r)
-    refusal-contract caller = refl
+    refusal_contract caller = refl
 
-    pub first-place-contract : first-place.clauses 𝓛 mem run (κ, tt) (sheet, tt) ≡ ensures 𝓤 (λ r e. FirstPlace sheet.now r)
-    first-place-contract = refl
+    pub first_place_contract : first-place.clauses 𝓛 mem run (κ, tt) (sheet, tt) ≡ ensures 𝓤 (λ r e. FirstPlace sheet.now r)
+    first_place_contract = refl
 
-    pub entry-at-contract : (place : ℕ) →
+    pub entry_at_contract : (place : ℕ) →
         entry_at.clauses 𝓛 mem run (κ, tt) (sheet, (place, tt)) ≡ ensures 𝓤 (λ r e. EntryAt sheet.now place r)
-    entry-at-contract place = refl
+    entry_at_contract place = refl
 
-    pub place-after-contract : (place : ℕ) →
+    pub place_after_contract : (place : ℕ) →
         place_after.clauses 𝓛 mem run (κ, tt) (sheet, (place, tt)) ≡ ensures 𝓤 (λ r e. PlaceAfter sheet.now place r)
-    place-after-contract place = refl
+    place_after_contract place = refl
 
-    pub byte-contract : (i : ℕ) → byte.clauses 𝓛 mem run (κ, tt) (sheet, (i, tt)) ≡ ensures 𝓤 (λ r e. ByteAt sheet.now i r)
-    byte-contract i = refl
+    pub byte_contract : (i : ℕ) → byte.clauses 𝓛 mem run (κ, tt) (sheet, (i, tt)) ≡ ensures 𝓤 (λ r e. ByteAt sheet.now i r)
+    byte_contract i = refl
 
-    pub word16-contract : (i : ℕ) → word.clauses 𝓛 mem run (κ, tt) (sheet, (i, tt)) ≡ ensures 𝓤 (λ r e. Word16At sheet.now i r)
-    word16-contract i = refl
+    pub word16_contract : (i : ℕ) → word.clauses 𝓛 mem run (κ, tt) (sheet, (i, tt)) ≡ ensures 𝓤 (λ r e. Word16At sheet.now i r)
+    word16_contract i = refl
 
-    pub run-at-contract : (i : ℕ) → run_at.clauses 𝓛 mem run (κ, tt) (sheet, (i, tt)) ≡ ensures 𝓤 (λ r e. RunAt sheet.now i r)
-    run-at-contract i = refl
+    pub run_at_contract : (i : ℕ) → run_at.clauses 𝓛 mem run (κ, tt) (sheet, (i, tt)) ≡ ensures 𝓤 (λ r e. RunAt sheet.now i r)
+    run_at_contract i = refl

@@ -1,4 +1,4 @@
--- The contracts of the two functions, read off them: what the theorem of short lists takes for the two calls (`firstResult`, `nextResult`)
+-- The contracts of the two functions, read off them: what the theorem of short lists takes for the two calls (`first_result`, `next_result`)
 -- is what they ensure, and they require nothing.
 use Rattle.base.specs.Prelude.{◌≡◌, refl, ℕ, List}
 use seplogic.Ra.Ura.{Ura}
@@ -9,20 +9,20 @@ use prog.Routine.{Routine}
 use types.Logic.{Logic}
 use contract.Monad.{Fun}
 use Rattle.std.specs.Borrow.{Bor}
-use Rattle.model_short.specs.Calls.{listed, firstResult, nextResult}
+use Rattle.model_short.specs.Calls.{listed, first_result, next_result}
 use Rattle.sheet_short.specs.contracts.first as first
 use Rattle.sheet_short.specs.contracts.next as next
-use Rattle.theory_functions.specs.Contracts.{ensures}
+use Rattle.theory_functions.specs.FunctionContracts.{ensures}
 
 -- The buffer is lent: e has it as it stands at exit.
 module _ {M : Type 1} {𝓤 : Ura M} (𝓛 : Logic 𝓤) (mem : Memory → SProp 𝓤) (run : Routine → Fun 𝓤) where
   module _ (κ : Lft) (n m : ℕ) (buffer : Bor (List ℕ)) where
-    pub short-first-contract :
+    pub short_first_contract :
         first.clauses 𝓛 mem run (κ, tt) (n, (m, (buffer, tt)))
-        ≡ ensures 𝓤 (λ r e. listed r e.1.1.0.now ≡ firstResult n m buffer.now)
-    short-first-contract = refl
+        ≡ ensures 𝓤 (λ r e. listed r e.1.1.0.now ≡ first_result n m buffer.now)
+    short_first_contract = refl
 
-    pub short-next-contract :
+    pub short_next_contract :
         next.clauses 𝓛 mem run (κ, tt) (n, (m, (buffer, tt)))
-        ≡ ensures 𝓤 (λ r e. listed r e.1.1.0.now ≡ nextResult n m buffer.now)
-    short-next-contract = refl
+        ≡ ensures 𝓤 (λ r e. listed r e.1.1.0.now ≡ next_result n m buffer.now)
+    short_next_contract = refl
