@@ -3,7 +3,7 @@
 pub use seplogic.Ra.TreeShare.{full_share}
 pub use seplogic.Ra.Ura.{Ura}
 pub use mir.Fields.{get_v}
-pub use mir.Syntax.{Body as Code, Fn, Name, Opd as Operand, Place, Ty, Width, call, copy, field, named, place, seq, ty_bool, w64}
+pub use mir.Syntax.{Body as Code, Fn, Symbol as Name, Opd as Operand, Place, Ty, Width, call, copy, field, named, place, seq, ty_bool, w64}
 pub use mir.Val.{Val, of_list, vbool, vint, vptr}
 pub use base.Fml.{Fml, GName, Share, fat, fauth, fdies, flent, flft, fobor, fobs, fres, froom, fsep, ftrue}
 pub use base.Logic.{SProp, emp, ent, ex, fst∗, id⊢, mono_r, sep, via}
@@ -11,13 +11,13 @@ pub use prog.Memory.{field_at}
 pub use prog.Model.{Model}
 pub use prog.Routine.{Env as Names, Routine}
 pub use prog.Wp.{Calls, Closed, Env, Heap, Loops, Spot, WpFn, spot_of}
-pub use ghost.Atoms.{Atoms, sem}
+pub use ghost.Atoms.{Atoms}
 pub use contract.Lifetimes.{Lfts, Shares}
 pub use contract.Monad.{fact, fact_i}
-pub use contract.Running.{GhostRules, Running, given_of, tables}
+pub use contract.Running.{Running, tables}
 unfoldable pub use contract.Running.{tables_of}
 pub use sound.WpLaws.{FmC, WpFn-mono, fm_of}
-pub use types.Kit.{ !, Given, Go, Goal, Item, Post, Seq, Soaks, Step, ◌$◌, ◌∵◌, ◌⊛◌, allocs, at_ret, await, by, del, done, drop, feq_i, fjoin}
+pub use types.Kit.{ !, Go, Goal, Item, Post, Seq, Soaks, Step, ◌$◌, ◌∵◌, ◌⊛◌, allocs, at_ret, await, by, del, done, drop, feq_i, fjoin}
 pub use types.Kit.{fjoin3, fpack, fpick, frees, fsplit, fsplit3, given, group, join, keep, lands, later, learn, move, nth, params', pick}
 pub use types.Kit.{qed, raw, runs, some as someone, split, step, suffices, use0, use1, use2, use3, ‵, ⋆}
 pub use types.Part.{Part, agg, look_in, sub, whole}
