@@ -4,7 +4,7 @@ pub mod numbers;
 
 // Where a process stands in its walk (document 01: the stance of a seat; 01's word for each is behind it).
 // k is a round that it reads on the way up, i a distance below its own round.
-#[derive(Drop)]
+#[derive(Clone, Copy)]
 pub enum Phase {
     Idle, // out: has not proposed
     Waiting, // gate: between two rounds, moves on when it is told to lead
@@ -25,7 +25,7 @@ pub enum Phase {
 
 // What the refusals know of a phase: not yet proposed (01: out), working (01: gate to commit), spent, or gone: crashed, decided or
 // (02, wish 6) answered.
-#[derive(Drop)]
+#[derive(Clone, Copy)]
 pub enum Status {
     Outside,
     Active,
@@ -34,7 +34,7 @@ pub enum Status {
 }
 
 // One process (01: a seat's record): its phase, its round (0 before the first) and its estimate (01: the own value).
-#[derive(Drop)]
+#[derive(Clone, Copy)]
 pub struct Process {
     pub phase: Phase,
     pub round: usize,
@@ -44,7 +44,7 @@ pub struct Process {
 // One agreement (01: a session, the board and the seats). The value register T[r] of round r is values[r - 1], the mark
 // C[r] is marks[r - 1], the decision register D is decision; 0 is blank. n processes take part, in rounds 1 to limit (01: L).
 // closed is the closed mark (02, wish 10): no proposal is accepted any more.
-#[derive(Drop)]
+#[derive(Clone, Copy)]
 pub struct Session {
     pub n: usize,
     pub limit: usize,
@@ -56,7 +56,7 @@ pub struct Session {
 }
 
 // Counts of register operations (01: the tally).
-#[derive(Drop)]
+#[derive(Clone, Copy)]
 pub struct Counts {
     pub reads: u32,
     pub writes: u32,
@@ -64,7 +64,7 @@ pub struct Counts {
 }
 
 // The one register operation of a turn, with the round of its register.
-#[derive(Drop)]
+#[derive(Clone, Copy)]
 pub enum Access {
     Nothing,
     ReadValue(usize),
@@ -76,7 +76,7 @@ pub enum Access {
 }
 
 // One operation of a process, with its number or hint (01: a proposal, a work turn, a look, a crash).
-#[derive(Drop)]
+#[derive(Clone, Copy)]
 pub enum Operation {
     Propose(usize, u32),
     Step(usize, bool),
@@ -85,7 +85,7 @@ pub enum Operation {
 }
 
 // What the six bytes of a sheet's entry say: an operation, a close (02, wish 10), which names no process, or nothing that 01 and 02 know.
-#[derive(Drop)]
+#[derive(Clone, Copy)]
 pub enum Entry {
     Acts(Operation),
     Closes,
@@ -94,14 +94,14 @@ pub enum Entry {
 
 // Who calls (02, wish 9: "one pair for each of the two callers; a call names only which of the two it is"): the clinic's server, or the
 // bedside cart.
-#[derive(Drop)]
+#[derive(Clone, Copy)]
 pub enum Caller {
     Server,
     Cart,
 }
 
 // The most processes and rounds that a caller's sessions may have.
-#[derive(Drop)]
+#[derive(Clone, Copy)]
 pub struct Limits {
     pub processes: u8,
     pub rounds: u16,
@@ -109,14 +109,14 @@ pub struct Limits {
 
 // The answer of an operation that changes a session: 0 and the session after it, or the refusal's number (01, "Numbers
 // returned") and the session as it was.
-#[derive(Drop)]
+#[derive(Clone, Copy)]
 pub struct Changed {
     pub code: u32,
     pub session: Session,
 }
 
 // The answer of an operation that also counts its register operation.
-#[derive(Drop)]
+#[derive(Clone, Copy)]
 pub struct Stepped {
     pub code: u32,
     pub session: Session,
@@ -124,27 +124,27 @@ pub struct Stepped {
 }
 
 // The answers of the read-outs: 0 and what was asked for, or the refusal's number and blank data.
-#[derive(Drop)]
+#[derive(Clone, Copy)]
 pub struct RegisterAnswer {
     pub code: u32,
     pub value: u32,
     pub marked: bool,
 }
 
-#[derive(Drop)]
+#[derive(Clone, Copy)]
 pub struct ProcessAnswer {
     pub code: u32,
     pub process: Process,
 }
 
-#[derive(Drop)]
+#[derive(Clone, Copy)]
 pub struct DecisionAnswer {
     pub code: u32,
     pub value: u32,
 }
 
 // How many: values that are listed; of the sheet writer (02, wish 3), bytes that are written.
-#[derive(Drop)]
+#[derive(Clone, Copy)]
 pub struct CountAnswer {
     pub code: u32,
     pub count: usize,
@@ -152,7 +152,7 @@ pub struct CountAnswer {
 
 // How a run of a sheet ended (01: finished; the refusal and the entry's index; budget ended), or the refusal of the
 // sheet itself, in which case no session was made.
-#[derive(Drop)]
+#[derive(Clone, Copy)]
 pub enum Ending {
     Finished,
     Refused(u32, usize),
@@ -161,7 +161,7 @@ pub enum Ending {
 }
 
 // What a run of a sheet gives: how many entries were carried out, the session and the counts after them, and the ending.
-#[derive(Drop)]
+#[derive(Clone, Copy)]
 pub struct Ran {
     pub carried: usize,
     pub session: Session,

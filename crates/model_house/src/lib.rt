@@ -3,7 +3,7 @@
 use model::{Counts, Session};
 
 // What a working worker does at its next turn: the places of one outer round, in their order.
-#[derive(Drop)]
+#[derive(Clone, Copy)]
 pub enum Place {
     ProposeWard, // "the first turn of an outer round only proposes to the ward"
     StepWard, // "a worker's turns alternate, work first"
@@ -16,7 +16,7 @@ pub enum Place {
 }
 
 // Where a worker stands (02's words are those of 01 for a seat).
-#[derive(Drop)]
+#[derive(Clone, Copy)]
 pub enum Stance {
     Idle, // out: has not proposed
     Working(Place), // working
@@ -26,7 +26,7 @@ pub enum Stance {
 }
 
 // A worker's record: its stance, its outer round (1 to 8) and its value. (Its ward stands in the house.)
-#[derive(Drop)]
+#[derive(Clone, Copy)]
 pub struct Worker {
     pub stance: Stance,
     pub outer: usize,
@@ -35,12 +35,12 @@ pub struct Worker {
 
 // "The value table has one row for each outer round and one entry per ward"; 0 is blank. The functions pass it and return it by value as
 // [[u32; 4]; 8] (`system_house_table`); a struct cannot hold that, so that here its rows are structs.
-#[derive(Drop)]
+#[derive(Clone, Copy)]
 pub struct Row {
     pub entries: [u32; 4],
 }
 
-#[derive(Drop)]
+#[derive(Clone, Copy)]
 pub struct Table {
     pub rows: [Row; 8],
 }
@@ -48,7 +48,7 @@ pub struct Table {
 // A house of n workers in c wards. wards[p] is the ward of worker p, 1 to c. The session of outer round o and ward w is
 // sessions[8 * (w - 1) + o - 1], so that the first 8c are those of wards 1 to c; the poll of outer round o is polls[o - 1]. decision is
 // "the house's own decision register"; 0 is blank.
-#[derive(Drop)]
+#[derive(Clone, Copy)]
 pub struct House {
     pub n: usize,
     pub c: usize,
@@ -62,7 +62,7 @@ pub struct House {
 
 // What one turn of a worker can read and change: the session of its outer round and ward, the poll of its outer round, the table, the
 // house's decision register, its own record, and the counts.
-#[derive(Drop)]
+#[derive(Clone, Copy)]
 pub struct View {
     pub session: Session,
     pub poll: Session,
@@ -73,13 +73,13 @@ pub struct View {
 }
 
 // The answers: 0 and the house after, or the refusal's number and the house as it was; and the same with the counts.
-#[derive(Drop)]
+#[derive(Clone, Copy)]
 pub struct HouseChanged {
     pub code: u32,
     pub house: House,
 }
 
-#[derive(Drop)]
+#[derive(Clone, Copy)]
 pub struct HouseStepped {
     pub code: u32,
     pub house: House,

@@ -4,7 +4,7 @@
 use model::{Counts, Session};
 
 // What a turn gives its process (02, wish 6: it "answers committed with its value", it "answers adopted with its value").
-#[derive(Drop)]
+#[derive(Clone, Copy)]
 pub enum Answer {
     Pending, // none yet
     Commits(u32), // committed
@@ -13,7 +13,7 @@ pub enum Answer {
 
 // The answer of a turn that counts its register operation: the refusal's number or 0, the poll and the counts after it, and what the
 // process got.
-#[derive(Drop)]
+#[derive(Clone, Copy)]
 pub struct PollStepped {
     pub code: u32,
     pub session: Session,
@@ -22,7 +22,7 @@ pub struct PollStepped {
 }
 
 // The same of a turn that is lent the counts.
-#[derive(Drop)]
+#[derive(Clone, Copy)]
 pub struct Polled {
     pub code: u32,
     pub session: Session,

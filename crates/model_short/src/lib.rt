@@ -1,7 +1,7 @@
 // The data of short lists (document 02, wish 12: "Every short sheet there is"), with no function.
 
 // An entry as it stands in a sheet, three numbers (01, "Turn sheets": "kind, seat, 32-bit value"). What it says is `model::Entry`.
-#[derive(Drop)]
+#[derive(Clone, Copy)]
 pub struct RawEntry {
     pub kind: u8,
     pub process: u8,
