@@ -1,1 +1,2 @@
 // What the walks by hand of functions with references share: no code.
+#![tactic(auto)]

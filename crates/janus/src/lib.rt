@@ -1,5 +1,7 @@
 // The functions for callers in C, which include/janus.h declares: the runner (01, "Turn sheets", last paragraph) with a sheet, a
 // budget and a buffer of exactly 256 bytes, the board report, and the sheet writer (02, wish 3).
+#![tactic(auto)]
+
 ghost use Rattle.std.specs.Prelude.{◌≡◌};
 ghost use Rattle.model.specs.declared.Caller.TheVariants.{Server};
 ghost use Rattle.model.specs.Runner.{run as run_of};
@@ -21,6 +23,7 @@ fn run(sheet: &[u8], budget: usize) -> Ran
 // Runs a sheet. 15 is tested first; then 0 for finished, 100 for budget ended, or the refusal's number. Where no session was made the
 // buffer is as it was.
 #[unsafe(no_mangle)]
+#[tactic(auto, using(base::specs::Arrays::length_mapped, janus_decided::specs::Bytes::length_bytes), unfolding(model::specs::Export::export_code, model::specs::Export::export_buffer))]
 pub extern "C" fn janus_run(sheet: &[u8], budget: usize, buffer: &mut [u8]) -> u32
     ensures code { result ≡ export_code sheet.now budget buffer.old }
     ensures writes { buffer.new ≡ export_buffer sheet.now budget buffer.old }
@@ -43,6 +46,7 @@ pub extern "C" fn janus_run(sheet: &[u8], budget: usize, buffer: &mut [u8]) -> u
 // Runs a sheet and writes the board report's text to the buffer, from its first byte on: the text's size, which is 16 or more; or 15 and
 // nothing changed, where the buffer is shorter than the text.
 #[unsafe(no_mangle)]
+#[tactic(auto, using(use_report_laws::specs::Whole::report_of_run), unfolding(model_report::specs::ReportExport::report_code, model_report::specs::ReportExport::report_buffer))]
 pub extern "C" fn janus_report(sheet: &[u8], buffer: &mut [u8]) -> usize
     ensures code { result ≡ report_code sheet.now buffer.old }
     ensures writes { buffer.new ≡ report_buffer sheet.now buffer.old }

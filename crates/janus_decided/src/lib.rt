@@ -1,4 +1,6 @@
 // The decided values, stored as bytes for a caller in C (01, "Turn sheets", last paragraph). Past the end none is written.
+#![tactic(auto)]
+
 ghost use Rattle.std.specs.Prelude.{◌≡◌};
 ghost use Rattle.std.proofs.lemmas.List.Edits.{sets};
 ghost use Rattle.model.specs.Export.{decided_bytes};
@@ -6,6 +8,7 @@ ghost use Rattle.model.specs.Export.{decided_bytes};
 use model::{Phase, Session};
 
 // The bytes of the decided values, four to a process, for all 64; 0 where there is none.
+#[tactic(auto, using(base::specs::Arrays::length_mapped, crate::specs::Bytes::undecided, crate::specs::Bytes::decided_more))]
 pub fn put_decided(s: Session, buffer: &mut [u8])
     ensures { buffer.new ≡ sets buffer.old 0 (decided_bytes s.processes) }
 {

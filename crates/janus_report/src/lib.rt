@@ -1,4 +1,6 @@
 // The board report (01, "The board report"), written to a lent buffer.
+#![tactic(auto)]
+
 ghost use Rattle.std.specs.Prelude.{◌≡◌, ◌≤◌, length, take, drop, ◌++◌};
 ghost use Rattle.model_report.specs.Report.{report_of};
 ghost use Rattle.model_report.specs.ReportExport.{text_code, text_buffer};
@@ -7,6 +9,7 @@ use model::Ran;
 use model::numbers::BAD_BUFFER;
 
 // The first n of the given bytes, copied to the first n of a buffer.
+#[tactic(auto, using(base::specs::Arrays::copied_more, base::specs::Arrays::copied_all))]
 fn copy(from: &[u8], n: usize, buffer: &mut [u8])
     requires n_in_bounds { n ≤ length from.now }
     requires n_in_bounds_2 { n ≤ length buffer.old }
@@ -21,6 +24,7 @@ fn copy(from: &[u8], n: usize, buffer: &mut [u8])
 
 // The report's text of a run, written to the lent buffer from its first byte on; answers the text's size. 15 and nothing changed where the
 // buffer is shorter than the text.
+#[tactic(auto, using(crate::specs::Written::text_written))]
 pub fn put_report(ran: Ran, buffer: &mut [u8]) -> usize
     ensures code { result ≡ text_code (report_of ran) buffer.old }
     ensures writes { buffer.new ≡ text_buffer (report_of ran) buffer.old }

@@ -1,4 +1,6 @@
 // The sheet writer for callers in C (02, wish 3): the size goes to a lent number.
+#![tactic(auto)]
+
 ghost use Rattle.std.specs.Prelude.{◌≡◌};
 ghost use Rattle.model_write.specs.WriteExport.{export_of, write_export};
 
@@ -6,6 +8,7 @@ use model::Caller;
 
 // Writes a sheet of the entries, cut into runs of the given lengths in entries, to the lent buffer, within the caller's limits (02, wish
 // 9): 0, and its size to the lent number; or the refusal's number and nothing changed.
+#[tactic(auto, using(model_write_laws::specs::Stored::exported))]
 pub fn write(
     caller: Caller,
     n: usize,

@@ -1,5 +1,7 @@
 // The data of a Janus session and the numbers that are returned, with no function: what the definitions in specs/ and every other crate
 // speak of.
+#![tactic(auto)]
+
 pub mod numbers;
 
 // Where a process stands in its walk (document 01: the stance of a seat; 01's word for each is behind it).

@@ -1,5 +1,7 @@
 // The data of a house (document 02, wish 11: "Workers with ward names"), with no function: what the definitions in specs/ and every other
 // crate speak of.
+#![tactic(auto)]
+
 use model::{Counts, Session};
 
 // What a working worker does at its next turn: the places of one outer round, in their order.

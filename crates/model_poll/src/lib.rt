@@ -1,6 +1,8 @@
 // The data of a poll (document 02, wish 6), with no function: what the definitions in specs/ and every other crate speak of. A poll is an
 // adopt-commit object: a `model::Session` whose round limit is its window, in which each process that walks its rounds to the end gets an
 // answer. Its own data are the answers.
+#![tactic(auto)]
+
 use model::{Counts, Session};
 
 // What a turn gives its process (02, wish 6: it "answers committed with its value", it "answers adopted with its value").

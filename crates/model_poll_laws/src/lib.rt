@@ -1,1 +1,2 @@
 // Laws about the definitions of polls (`model_poll`): specs/. No code.
+#![tactic(auto)]

@@ -1,1 +1,2 @@
 // The board report as a definition: specs/. No code.
+#![tactic(auto)]

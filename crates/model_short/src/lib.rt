@@ -1,4 +1,5 @@
 // The data of short lists (document 02, wish 12: "Every short sheet there is"), with no function.
+#![tactic(auto)]
 
 // An entry as it stands in a sheet, three numbers (01, "Turn sheets": "kind, seat, 32-bit value"). What it says is `model::Entry`.
 #[derive(Clone, Copy)]

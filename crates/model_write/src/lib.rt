@@ -1,1 +1,2 @@
 // The sheet writer as a definition: specs/. No code.
+#![tactic(auto)]

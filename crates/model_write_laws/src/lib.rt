@@ -1,1 +1,2 @@
 // Laws of the sheet writer's definition: specs/. No code.
+#![tactic(auto)]

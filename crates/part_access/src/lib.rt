@@ -1,4 +1,6 @@
 // The one register operation of a step, as a function of one process' record.
+#![tactic(auto)]
+
 ghost use Rattle.std.specs.Prelude.{◌≡◌, ◌-◌};
 ghost use Rattle.model.specs.Step.{access as access_of, phase_access};
 
@@ -13,6 +15,7 @@ fn minus(a: usize, b: usize) -> usize
 
 // 01, "One turn at a time", gate: a process that is told to lead reads the register of the next round, if there is one. The limit is read
 // first, as in 02, wish 5; where no round is left, no register is read, whatever the hint.
+#[tactic(auto, unfolding(model::specs::Step::waiting_rule, model::specs::Step::phase_access))]
 fn waiting_access(limit: usize, round: usize, leader: bool) -> Access
     ensures { result ≡ phase_access limit round Phase.Waiting leader }
 {
@@ -25,6 +28,7 @@ fn waiting_access(limit: usize, round: usize, leader: bool) -> Access
 }
 
 // 01, "One turn at a time": the one register operation of a work turn.
+#[tactic(auto, unfolding(model::specs::Step::access, model::specs::Step::phase_access))]
 pub fn access(limit: usize, q: Process, leader: bool) -> Access
     ensures { result ≡ access_of limit q leader }
 {

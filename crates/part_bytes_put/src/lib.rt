@@ -1,4 +1,6 @@
 // Numbers stored as bytes. 01, "Turn sheets": "Numbers are little-endian." Past the end none is written.
+#![tactic(auto)]
+
 ghost use Rattle.std.specs.Prelude.{◌≡◌, set};
 ghost use Rattle.std.proofs.lemmas.List.Edits.{sets};
 ghost use Rattle.model.specs.Bytes.{bytes16, bytes32};
@@ -13,6 +15,7 @@ fn put(buffer: &mut [u8], i: usize, b: u8)
 }
 
 // A 16-bit number stored from byte `at` on.
+#[tactic(auto, using(base::specs::Arrays::sets_beyond))]
 pub fn put16(buffer: &mut [u8], at: usize, w: u16)
     ensures { buffer.new ≡ sets buffer.old at (bytes16 w) }
 {
@@ -24,6 +27,7 @@ pub fn put16(buffer: &mut [u8], at: usize, w: u16)
 }
 
 // A 32-bit number stored from byte `at` on.
+#[tactic(auto, using(base::specs::Arrays::sets_beyond))]
 pub fn put32(buffer: &mut [u8], at: usize, v: u32)
     ensures { buffer.new ≡ sets buffer.old at (bytes32 v) }
 {

@@ -1,4 +1,6 @@
 // The counts of register operations (01: the tally): when they are full, and what an operation makes of them.
+#![tactic(auto)]
+
 ghost use Rattle.std.specs.Prelude.{◌≡◌, cond};
 ghost use Rattle.model.specs.Step.{newly_marked as newly_marked_of, counted as counted_of};
 ghost use Rattle.model.specs.Refusal.{full as full_of};
@@ -6,6 +8,7 @@ ghost use Rattle.model.specs.Refusal.{full as full_of};
 use model::{Access, Counts};
 
 // 01, "Numbers returned", 16: whether some count has reached its largest number.
+#[tactic(auto, unfolding(model::specs::Refusal::full))]
 pub fn full(c: Counts) -> bool
     ensures { result ≡ full_of c }
 {
@@ -31,6 +34,7 @@ fn newly_marked(x: u32) -> u32
 }
 
 // 01, "One turn at a time": the tally after a register operation that found x. A full tally stays as it is.
+#[tactic(auto, using(base::specs::Bools::cond_cases, crate::proofs::Room::room, crate::proofs::Room::counts_one), unfolding(model::specs::Step::counted, model::specs::Refusal::full))]
 pub fn counted(a: Access, x: u32, c: Counts) -> Counts
     ensures { result ≡ cond (full_of c) c (counted_of a x c) }
 {

@@ -1,4 +1,6 @@
 // The decision register in the register operation of a turn.
+#![tactic(auto)]
+
 ghost use Rattle.std.specs.Prelude.{◌≡◌};
 ghost use Rattle.model_laws.specs.Registers.{decision_after};
 

@@ -1,4 +1,6 @@
 // What the bytes of one entry say. 01, "Turn sheets": "An entry has 6 bytes: kind, seat, 32-bit value."
+#![tactic(auto)]
+
 ghost use Rattle.std.specs.Prelude.{◌≡◌, [], ◌∷◌, not};
 ghost use Rattle.model.specs.Bytes.{word32};
 ghost use Rattle.model.specs.Sheet.{entry_of, is_malformed};
@@ -6,6 +8,7 @@ ghost use Rattle.model.specs.Sheet.{entry_of, is_malformed};
 use model::{Entry, Operation};
 
 // "Kinds: 0 propose (any value), 1 work (value 0 is hint no, 1 is yes), 2 look (0), 3 crash (0)." 02, wish 10: "kind 4, seat 0, value 0".
+#[tactic(auto, using(base::specs::Bools::cond_same, crate::specs::Largest::hinted, crate::specs::Largest::unhinted))]
 pub fn entry_of(kind: u8, p: u8, value: u32) -> Entry
     ensures { result ≡ entry_of kind p value }
 {
@@ -38,6 +41,7 @@ pub fn entry_of(kind: u8, p: u8, value: u32) -> Entry
 }
 
 // Whether it is one of these: by the largest value of each kind; a close, which is rare, by a test of its own.
+#[tactic(auto, using(crate::specs::Largest::formed_largest, crate::specs::Largest::formed_close))]
 pub fn formed(kind: u8, p: u8, value: u32) -> bool
     ensures { result ≡ not (is_malformed (entry_of kind p value)) }
 {

@@ -1,4 +1,6 @@
 // What a process becomes by a proposal, a look and a crash, as functions of its record.
+#![tactic(auto)]
+
 ghost use Rattle.std.specs.Prelude.{◌≡◌};
 ghost use Rattle.model.specs.Step.{process as process_of, learnt as learnt_of};
 
@@ -27,6 +29,7 @@ pub fn crashed(q: Process) -> Process
 }
 
 // 01, "One turn at a time": what a process becomes by a look that read x.
+#[tactic(auto, unfolding(model::specs::Step::learnt))]
 pub fn learnt(q: Process, x: u32) -> Process
     ensures { result ≡ learnt_of q x }
 {

@@ -1,4 +1,6 @@
 // What a process becomes by a step, as a function of its record and the one value read.
+#![tactic(auto)]
+
 ghost use Rattle.std.specs.Prelude.{◌≡◌, true, cond, ℕ, ◌+◌, ◌-◌, min, ltb, eqb};
 ghost use Rattle.model.specs.Step.{process as process_of, phase_next, next as next_of, go_on as go_on_of};
 
@@ -28,6 +30,7 @@ fn upward(limit: usize, k: usize) -> Phase
 
 // 01, "One turn at a time", gate, in the order of 02, wish 5: "The round limit is read first from now on." The tests stand as in
 // `part_access::waiting_access`: the compiler then makes one branch of the tests of both functions. The window plays no part.
+#[tactic(auto, unfolding(model::specs::Step::waiting_rule, model::specs::Step::phase_next))]
 fn waiting(limit: usize, round: usize, estimate: u32, leader: bool, x: u32) -> Process
     ensures { (W : ℕ) → result ≡ phase_next W limit round estimate Phase.Waiting leader x }
 {
@@ -76,6 +79,7 @@ fn more(i: usize, n: usize) -> bool
 }
 
 // 01, "One turn at a time", "Go on".
+#[tactic(auto, unfolding(model::specs::Step::go_on))]
 fn go_on(window: usize, round: usize, i: usize) -> Phase
     ensures { result ≡ go_on_of window round i }
 {
@@ -133,6 +137,7 @@ fn adopted(estimate: u32, x: u32) -> u32
 }
 
 // 01, "One turn at a time": what a process becomes by a work turn that read x. (No arm hands q on whole: its padding would be copied.)
+#[tactic(auto, unfolding(model::specs::Step::next, model::specs::Step::phase_next))]
 pub fn next(window: usize, limit: usize, q: Process, leader: bool, x: u32) -> Process
     ensures { result ≡ next_of window limit q leader x }
 {

@@ -1,4 +1,6 @@
 // What is different in a turn of a poll (02, wish 6), as functions of one process' record.
+#![tactic(auto)]
+
 ghost use Rattle.std.specs.Prelude.{◌≡◌, cond};
 ghost use Rattle.model_poll.specs.Turn.{without_decision as without_decision_of, poll_access, is_waiting, ending as ending_of, poll_next, answer_of};
 
@@ -6,6 +8,7 @@ use model::{Access, Phase, Process};
 use model_poll::Answer;
 
 // 02, wish 6: its turn at commit "writes no D".
+#[tactic(auto, unfolding(model_poll::specs::Turn::without_decision))]
 fn without_decision(a: Access) -> Access
     ensures { result ≡ without_decision_of a }
 {
@@ -21,6 +24,7 @@ fn without_decision(a: Access) -> Access
 }
 
 // The one register operation of a turn: that of a session's with hint yes.
+#[tactic(auto, unfolding(model_poll::specs::Turn::without_decision, model_poll::specs::Turn::poll_access))]
 pub fn access(limit: usize, q: Process) -> Access
     ensures { result ≡ poll_access limit q }
 {
@@ -28,6 +32,7 @@ pub fn access(limit: usize, q: Process) -> Access
 }
 
 // 02, wish 6: "where a check of that round fails it answers adopted with its value". In a session it would go back to gate.
+#[tactic(auto, using(crate::specs::Cases::not_waiting))]
 fn failed(left: Phase) -> Phase
     ensures { result ≡ cond (is_waiting left) Phase.HasAdopted left }
 {
@@ -39,6 +44,7 @@ fn failed(left: Phase) -> Phase
 
 // The phase after a turn, by the phase before it and the one that a session's turn leaves. 02, wish 6: "its turn at commit answers
 // committed".
+#[tactic(auto, using(crate::specs::Cases::goes_on), unfolding(model_poll::specs::Turn::ending))]
 fn ending(before: Phase, left: Phase) -> Phase
     ensures { result ≡ ending_of before left }
 {
@@ -51,6 +57,7 @@ fn ending(before: Phase, left: Phase) -> Phase
 }
 
 // What a process becomes by a turn that read x.
+#[tactic(auto, unfolding(model_poll::specs::Turn::poll_next))]
 pub fn next(window: usize, limit: usize, q: Process, x: u32) -> Process
     ensures { result ≡ poll_next window limit q x }
 {
@@ -65,6 +72,7 @@ pub fn next(window: usize, limit: usize, q: Process, x: u32) -> Process
 }
 
 // 02, wish 6: the answer that a record holds, "committed with its value", "adopted with its value"; none yet in every other phase.
+#[tactic(auto, using(crate::specs::Cases::no_answer), unfolding(model_poll::specs::Turn::answer_of))]
 pub fn answer(q: Process) -> Answer
     ensures { result ≡ answer_of q }
 {

@@ -1,4 +1,6 @@
 // Entries of short lists (02, wish 12) as three numbers: read from bytes, stored as bytes, and numbered among those that a list may have.
+#![tactic(auto)]
+
 ghost use Rattle.std.specs.Prelude.{◌≤◌, ◌*◌, ◌≡◌};
 ghost use Rattle.std.proofs.lemmas.List.Edits.{sets};
 ghost use Rattle.model_short.specs.Short.{choices, same as same_as};
@@ -9,6 +11,7 @@ ghost use Rattle.model_short_laws.specs.Numbered.{choice as choice_of};
 use model_short::RawEntry;
 
 // The entry at an offset of the buffer. Past its end every byte reads as 0.
+#[tactic(auto, using(part_bytes::specs::Beyond::word32_beyond), unfolding(model_short::specs::Calls::raw_at))]
 pub fn raw_at(buffer: &[u8], at: usize) -> RawEntry
     ensures { result ≡ raw_at_of buffer.now at }
 {
@@ -27,6 +30,7 @@ pub fn raw_at(buffer: &[u8], at: usize) -> RawEntry
 }
 
 // An entry stored there. Past the end nothing is.
+#[tactic(auto, using(base::specs::Arrays::sets_append, base::specs::Arrays::sets_beyond))]
 pub fn put_raw(buffer: &mut [u8], at: usize, x: RawEntry)
     ensures { buffer.new ≡ sets buffer.old at (raw_bytes x) }
 {
@@ -38,6 +42,7 @@ pub fn put_raw(buffer: &mut [u8], at: usize, x: RawEntry)
 }
 
 // The entry that has number e, from 0: 02, wish 12, "by kind, then seat, then value". From 5n on there is none.
+#[tactic(auto, using(model_short_laws::specs::Numbered::choice_propose, model_short_laws::specs::Numbered::choice_step, model_short_laws::specs::Numbered::choice_learn, model_short_laws::specs::Numbered::choice_crash, model_short_laws::specs::Numbered::choice_none))]
 pub fn choice(n: u8, e: usize) -> RawEntry
     ensures { result ≡ choice_of n e }
 {
@@ -92,6 +97,7 @@ fn same(x: RawEntry, y: RawEntry) -> bool
 }
 
 // The number of an entry; 5n if no list may have it.
+#[tactic(auto, using(model_short_laws::specs::Numbered::index_end, model_short_laws::specs::Numbered::index_here, model_short_laws::specs::Numbered::index_next), unfolding(model_short::specs::Short::choices, model_short_laws::specs::Entries::index_in))]
 pub fn number_of(n: u8, x: RawEntry) -> usize
     ensures { (result ≡ index_in x (choices n)) × (result ≤ 5 * n) }
 {

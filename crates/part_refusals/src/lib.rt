@@ -1,5 +1,7 @@
 // The refusals of a proposal and of a crash by the process' phase: functions of one record. They change nothing; 0 for no refusal.
 // (`session_refusal` has the tests before them.)
+#![tactic(auto)]
+
 ghost use Rattle.std.specs.Prelude.{◌≡◌};
 ghost use Rattle.model.specs.Refusal.{status, is_outside, refusal, propose_tests, crash_tests};
 

@@ -1,5 +1,7 @@
 // The refusals of a look and of a step by the process' phase and the counts: functions of one record. They change nothing.
 // (`session_refusal` has the tests before them.)
+#![tactic(auto)]
+
 ghost use Rattle.std.specs.Prelude.{◌≡◌, [], ◌∷◌};
 ghost use Rattle.model.specs.Refusal.{full as full_of, refusal, learn_tests, step_tests};
 

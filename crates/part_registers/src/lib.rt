@@ -1,4 +1,6 @@
 // The register operation of a turn on the registers of a round, T[r] and C[r]: what it reads, and what it leaves in each.
+#![tactic(auto)]
+
 ghost use Rattle.std.specs.Prelude.{◌≡◌};
 ghost use Rattle.model.specs.Step.{bit as bit_of};
 ghost use Rattle.model_laws.specs.Registers.{slot as slot_of, value_in, mark_in, values_after, marks_after};

@@ -1,4 +1,6 @@
 // When a process' record is sound (document 01, "Numbers returned", last paragraph; 02, wish 6).
+#![tactic(auto)]
+
 ghost use Rattle.std.specs.Prelude.{◌≡◌, ◌&&◌, ◌||◌, leb, ltb};
 ghost use Rattle.model.specs.Refusal.{status, is_outside};
 ghost use Rattle.model.specs.Sound.{sound_process_as};
@@ -14,6 +16,7 @@ fn held(member: bool, limit: usize, q: Process) -> bool
 
 // 01: "records from n on are out; out has round 0 and value 0, every other stance a value above 0 and a round of at most L", and the
 // clause of the phase, in a session or (02, wish 6) in a poll.
+#[tactic(auto, using(model_laws::specs::SoundRecords::near, model_laws::specs::SoundRecords::out, model_laws::specs::SoundRecords::one, model_laws::specs::SoundRecords::free, model_laws::specs::SoundRecords::two, model_laws::specs::SoundRecords::three), unfolding(model::specs::Sound::sound_phase_as))]
 pub fn record_sound(poll: bool, window: usize, limit: usize, member: bool, q: Process) -> bool
     ensures { result ≡ (member || is_outside (status q.phase)) && sound_process_as poll window limit q }
 {

@@ -1,4 +1,6 @@
 // Where a process stands, for the refusals by its phase: a function of one record.
+#![tactic(auto)]
+
 ghost use Rattle.std.specs.Prelude.{◌≡◌};
 ghost use Rattle.model.specs.Refusal.{status as status_of};
 

@@ -1,5 +1,7 @@
 // The operations on a poll that are those of a session, with a poll's soundness for 3 (02, wish 6: "Numbers 1, 3 to 8 and 16 in the
 // sessions' order").
+#![tactic(auto)]
+
 ghost use Rattle.std.specs.Prelude.{◌≡◌};
 ghost use Rattle.model_poll.specs.Public.{poll_propose, poll_crash, poll_record};
 

@@ -1,4 +1,6 @@
 // Opening a poll (02, wish 6).
+#![tactic(auto)]
+
 ghost use Rattle.std.specs.Prelude.{◌≡◌};
 ghost use Rattle.model_poll.specs.Machine.{poll_opening};
 
@@ -6,6 +8,7 @@ use model::{Caller, Changed};
 
 // 02, wish 6: "A poll has L = W." A session with that limit; 1 alone refuses it. More processes than the caller's limit (02, wish 9) are
 // refused whatever the round limit.
+#[tactic(auto, unfolding(model::specs::Machine::opening_for, model_poll::specs::Machine::poll_opening_for))]
 pub fn open(caller: Caller, n: usize) -> Changed
     ensures { result ≡ poll_opening caller n }
 {

@@ -1,4 +1,6 @@
 // Closing (02, wish 10). It sets the closed mark of a sound session, and changes nothing else.
+#![tactic(auto)]
+
 ghost use Rattle.std.specs.Prelude.{◌≡◌};
 ghost use Rattle.model.specs.Public.{close as close_of};
 
@@ -6,6 +8,7 @@ use model::numbers::UNSOUND;
 use model::{Changed, Session};
 
 // 02, wish 10: "A close sets it, also where it is set already"; "Close: 3."
+#[tactic(auto, unfolding(model::specs::Sound::sound_as))]
 pub fn close(s: Session) -> Changed
     ensures { result ≡ close_of s }
 {

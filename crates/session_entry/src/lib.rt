@@ -1,4 +1,6 @@
 // Any entry of a sheet, by its kind, process and value, on a session, given any session at all, with the counts by value.
+#![tactic(auto)]
+
 ghost use Rattle.std.specs.Prelude.{◌≡◌};
 ghost use Rattle.model.specs.Public.{commanded};
 ghost use Rattle.model.specs.Runner.{entry_answer};

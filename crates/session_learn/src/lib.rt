@@ -1,4 +1,6 @@
 // A look, with the counts by value. (`session_step_lent` has it with the counts lent.)
+#![tactic(auto)]
+
 ghost use Rattle.std.specs.Prelude.{◌≡◌};
 ghost use Rattle.model.specs.Public.{learn as learn_of};
 
@@ -6,6 +8,7 @@ use model::{Access, Counts, Session, Stepped};
 
 // 01, "One turn at a time": a look reads D; where it is filled, the process is decided and takes its number.
 // i is p wherever the call is accepted: where it is not, the tests refuse.
+#[tactic(auto, using(model_laws::specs::Answers::code_is, model_laws::specs::Answers::operate_refused, model_laws::specs::Answers::operate_accepted, model_laws::specs::Answers::index_of, model_laws::specs::Answers::learnt_is), unfolding(model::specs::Machine::access_of, model::specs::Machine::counts_after, model::specs::Step::counted))]
 pub fn learn(s: Session, p: usize, c: Counts) -> Stepped
     ensures { result ≡ learn_of s p c }
 {

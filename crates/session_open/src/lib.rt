@@ -1,4 +1,6 @@
 // Opening a session.
+#![tactic(auto)]
+
 ghost use Rattle.std.specs.Prelude.{◌≡◌};
 ghost use Rattle.model.specs.Board.{limits_of};
 ghost use Rattle.model.specs.Refusal.{refusal, open_tests};
@@ -9,6 +11,7 @@ use model::{Caller, Changed};
 
 // 01, "Numbers returned", opening: 1, 2, within the caller's limits (02, wish 9: "1 and 2 speak of the caller's limits"); 0 for no refusal,
 // here and below.
+#[tactic(auto, using(base::specs::Bools::and_right), unfolding(model::specs::Window::window))]
 pub fn open_refusal(caller: Caller, n: usize, limit: usize) -> u32
     ensures { result ≡ refusal (open_tests (limits_of caller) n limit) }
 {
@@ -26,6 +29,7 @@ pub fn open_refusal(caller: Caller, n: usize, limit: usize) -> u32
 }
 
 // 01, "The board and the seats" and "Numbers returned", opening. Refused, the answer holds the session of no process and no round.
+#[tactic(auto, unfolding(model::specs::Board::opened, model::specs::Machine::opening_for))]
 pub fn open(caller: Caller, n: usize, limit: usize) -> Changed
     ensures { result ≡ opening caller n limit }
 {

@@ -1,10 +1,13 @@
 // The session that an opening makes, and the limits that it is given.
+#![tactic(auto)]
+
 ghost use Rattle.std.specs.Prelude.{◌≡◌};
 ghost use Rattle.model.specs.Board.{opened as opened_of, limits_of as limits_for};
 
 use model::{Caller, Limits, Phase, Process, Session};
 
 // 01, "The board and the seats": a session with all registers blank, all rounds unmarked and every process out; 02, wish 10: open.
+#[tactic(auto, unfolding(model::specs::Board::opened))]
 pub fn opened(n: usize, limit: usize) -> Session
     ensures { result ≡ opened_of n limit }
 {

@@ -1,4 +1,6 @@
 // Any operation on a session, given any session at all, with the counts by value.
+#![tactic(auto)]
+
 ghost use Rattle.std.specs.Prelude.{◌≡◌};
 ghost use Rattle.model.specs.Public.{operate as operate_of};
 
@@ -17,6 +19,7 @@ fn uncounted(a: Changed, c: Counts) -> Stepped
 }
 
 // 01, "Numbers returned": 3, 4, then the operation's own numbers.
+#[tactic(auto, using(model_laws::specs::Answers::propose_counts, model_laws::specs::Answers::crash_counts))]
 pub fn operate(s: Session, c: Counts, o: Operation) -> Stepped
     ensures { result ≡ operate_of s c o }
 {

@@ -1,4 +1,6 @@
 // The read-out of D (document 01, "Standing values"), given any session at all. Refused, the answer holds blank data.
+#![tactic(auto)]
+
 ghost use Rattle.std.specs.Prelude.{◌≡◌};
 ghost use Rattle.model.specs.ReadOut.{decision as decision_of};
 
@@ -6,6 +8,7 @@ use model::numbers::UNSOUND;
 use model::{DecisionAnswer, Session};
 
 // "Standing values": ".. or D". 3 alone.
+#[tactic(auto, unfolding(model::specs::ReadOut::decision))]
 pub fn decision(s: Session) -> DecisionAnswer
     ensures { result ≡ decision_of s }
 {

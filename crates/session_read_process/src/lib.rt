@@ -1,4 +1,6 @@
 // The read-out of a seat's record (document 01, "Standing values"), given any session at all. Refused, the answer holds blank data.
+#![tactic(auto)]
+
 ghost use Rattle.std.specs.Prelude.{◌≡◌};
 ghost use Rattle.model.specs.Board.{idle};
 ghost use Rattle.model.specs.ReadOut.{process_record_as as process_record_as_of, process_record as process_record_of};
@@ -22,6 +24,7 @@ fn no_record(code: u32) -> ProcessAnswer
 
 // "Standing values": ".. a seat's record". 3, then 4 for a process n or above. 02, wish 6: "Seats are read out as in sessions", of polls,
 // where 3 is by a poll's soundness.
+#[tactic(auto, using(model_laws::specs::Sounds::sound_few), unfolding(model::specs::Sound::sound_as, model::specs::ReadOut::process_record_as))]
 pub fn process_record_as(poll: bool, s: Session, p: usize) -> ProcessAnswer
     ensures { result ≡ process_record_as_of poll s p }
 {

@@ -1,4 +1,6 @@
 // The tests that come before an operation's own. They change nothing.
+#![tactic(auto)]
+
 ghost use Rattle.std.specs.Prelude.{◌≡◌, cond, not, leb};
 ghost use Rattle.model.specs.Numbers.{unsound, no_such_process};
 

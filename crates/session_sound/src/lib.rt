@@ -1,4 +1,6 @@
 // When a session is sound (document 01, "Numbers returned", last paragraph): the test that every public operation makes first.
+#![tactic(auto)]
+
 ghost use Rattle.std.specs.Prelude.{◌≡◌, not, ◌&&◌, length, drop, eqb};
 ghost use Rattle.model.specs.Sound.{every, sound_as as sound_as_of, sound as sound_of};
 
@@ -6,6 +8,7 @@ use model::Session;
 use part_sound::record_sound;
 
 // 01: "registers and marks past L are blank and unmarked": those from an index on.
+#[tactic(auto, using(model_laws::specs::Passes::both_more, model_laws::specs::Passes::both_stop, model_laws::specs::Passes::both_ends))]
 fn blank_from<'a>(values: &'a [u32; 256], marks: &'a [bool; 256], from: usize) -> bool
     requires { (length values.now ≡ 256) × (length marks.now ≡ 256) }
     ensures { result ≡ every (λ x. eqb x 0) (drop from values.now) && every not (drop from marks.now) }
@@ -22,6 +25,7 @@ fn blank_from<'a>(values: &'a [u32; 256], marks: &'a [bool; 256], from: usize) -
 
 // "A session is sound if: n is 1 to 64, L is W to 256", the registers and marks past L, and its records, in one pass. A poll, if its own
 // rules hold too: 02, wish 6, it "has L = W, a blank D"; wish 10, it "is open". 02, wish 9: "soundness, 3, stays with the server's" limits, whoever opened it.
+#[tactic(auto, using(base::specs::Arrays::length_mapped, model_laws::specs::Passes::more, model_laws::specs::Passes::stop, model_laws::specs::Passes::ends, model_laws::specs::SoundTests::few, model_laws::specs::SoundTests::processes_fail, model_laws::specs::SoundTests::rounds_fail, model_laws::specs::SoundTests::records_left), unfolding(model::specs::Sound::sound_process_as, model::specs::Sound::poll_registers, model::specs::Sound::sound_as))]
 pub fn sound_as(poll: bool, s: Session) -> bool
     ensures { result ≡ sound_as_of poll s }
 {

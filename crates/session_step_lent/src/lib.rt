@@ -1,11 +1,14 @@
 // The operations that count, with the counts lent (01: "The caller lends its tally, which a turn updates where it stands"). A
 // refused call leaves the counts as they were, by the same equation.
+#![tactic(auto)]
+
 ghost use Rattle.std.specs.Prelude.{◌≡◌};
 ghost use Rattle.model.specs.Public.{with_counts, step as step_of, learn as learn_of};
 
 use model::{Changed, Counts, Session};
 
 // 01, "One turn at a time": a work turn.
+#[tactic(auto, using(base_walk::proofs::Walk::proved, session_lent_laws::proofs::Thin::walk_three))]
 pub fn step(s: Session, p: usize, leader: bool, counts: &mut Counts) -> Changed
     ensures { with_counts result counts.new ≡ step_of s p leader counts.old }
 {
@@ -18,6 +21,7 @@ pub fn step(s: Session, p: usize, leader: bool, counts: &mut Counts) -> Changed
 }
 
 // 01, "One turn at a time": a look.
+#[tactic(auto, using(base_walk::proofs::Walk::proved, session_lent_laws::proofs::Thin::walk_two))]
 pub fn learn(s: Session, p: usize, counts: &mut Counts) -> Changed
     ensures { with_counts result counts.new ≡ learn_of s p counts.old }
 {

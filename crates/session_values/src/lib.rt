@@ -1,5 +1,7 @@
 // The standing values of a session, put to a lent buffer (document 01, "Standing values"). 3 where the session is not sound, then 15
 // where the buffer is too short; refused, the lent buffer is as it was.
+#![tactic(auto)]
+
 ghost use Rattle.std.specs.Prelude.{◌≡◌, ◌≤◌, ◌++◌, length, take, drop};
 ghost use Rattle.model.specs.ReadOut.{standing_answer, standing_buffer};
 
@@ -7,6 +9,7 @@ use model::numbers::{BAD_BUFFER, UNSOUND};
 use model::{CountAnswer, Session};
 
 // "Standing values": "to a lent buffer .., from its first place on ..; later buffer places keep their numbers".
+#[tactic(auto, using(base::specs::Arrays::copied_more, base::specs::Arrays::copied_all))]
 fn copy(values: &[u32], count: usize, buffer: &mut [u32])
     requires { (count ≤ length values.now) × (count ≤ length buffer.old) }
     ensures { buffer.new ≡ take count values.now ++ drop count buffer.old }
@@ -18,6 +21,7 @@ fn copy(values: &[u32], count: usize, buffer: &mut [u32])
 
 // "Standing values": "It returns how many". 3, then 15 "exactly when the buffer is shorter than that count", which is known before
 // the buffer is written.
+#[tactic(auto, using(model_laws::specs::Sounds::sound_low, crate::proofs::Standing::unsound, crate::proofs::Standing::short, crate::proofs::Standing::list_written))]
 pub fn standing_values(s: Session, buffer: &mut [u32]) -> CountAnswer
     ensures answers { result ≡ standing_answer s buffer.old }
     ensures writes { buffer.new ≡ standing_buffer s buffer.old }

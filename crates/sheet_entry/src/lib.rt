@@ -1,4 +1,6 @@
 // One entry of a sheet, where it stands. 01, "Turn sheets": "An entry has 6 bytes: kind, seat, 32-bit value."
+#![tactic(auto)]
+
 ghost use Rattle.std.specs.Prelude.{◌≡◌};
 ghost use Rattle.model.specs.Sheet.{entry_at};
 
@@ -6,6 +8,7 @@ use model::Entry;
 use part_entry::{entry_of, number32};
 
 // The entry at an offset of 16 bits, whatever the offset: past the end every byte reads as 0. Mostly all six bytes are there.
+#[tactic(auto, using(crate::specs::Beyond::entry_beyond))]
 pub fn entry_at(s: &[u8], offset: u16) -> Entry
     ensures { result ≡ entry_at s.now offset }
 {

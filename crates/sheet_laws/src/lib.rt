@@ -2,10 +2,12 @@
 // stand in `sheet_place`, `sheet_handed`, `sheet_reader_held`, `sheet_reader` and `sheet_run`.
 // A place, at which a reader of the entries stands, is one number: the offset of the next entry in its lowest 16 bits, how many entries of
 // the current run are left in the 14 above them, and the next run to be opened above these.
+#![tactic(auto)]
+
 use model::Entry;
 
 // What a place hands out: the next entry, or that none is left.
-#[derive(Drop)]
+#[derive(Clone, Copy)]
 pub enum Handed {
     Next(Entry),
     End,
@@ -18,7 +20,7 @@ pub const ENTRY: usize = 65536;
 pub const RUN: usize = 1073741824;
 
 // A reader that stays attached to a sheet's bytes and its place (01, "Turn sheets").
-#[derive(Drop)]
+#[derive(Clone, Copy)]
 pub struct Reader<'a> {
     pub sheet: &'a [u8],
     pub place: usize,

@@ -1,15 +1,18 @@
 // Where the runs of a sheet lie. 01, "Turn sheets": "Then p pairs, 16-bit offset and 16-bit length, offsets from the sheet's
 // start, sorted by offset."
+#![tactic(auto)]
+
 ghost use Rattle.sheet_layout.specs.Runs.{IsRun};
 
 // A run (01: a pair): where it starts, and its length in bytes.
-#[derive(Drop)]
+#[derive(Clone, Copy)]
 pub struct Span {
     pub offset: usize,
     pub size: usize,
 }
 
 // The run numbered i, whatever i is: past the end of the bytes both numbers are 0.
+#[tactic(auto, using(part_bytes::specs::Beyond::word16_beyond))]
 pub fn run_at(s: &[u8], i: usize) -> Span
     ensures { IsRun s.now i result.offset result.size }
 {

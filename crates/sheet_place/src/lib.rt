@@ -1,4 +1,6 @@
 // Places in a sheet: the first, and the next. (`sheet_handed` has what one hands out.)
+#![tactic(auto)]
+
 ghost use Rattle.std.specs.Prelude.{◌≡◌, ◌-◌, ◌<◌};
 ghost use Rattle.model.specs.Sheet.{run_count};
 ghost use Rattle.sheet_laws.specs.Places.{encode, open_from as open_from_of, begin as begin_of, advanced};
@@ -6,6 +8,7 @@ ghost use Rattle.sheet_laws.specs.Places.{encode, open_from as open_from_of, beg
 use sheet_laws::{ENTRY, RUN};
 
 // The first run from the given one on that has an entry, opened. "Length 0 is allowed".
+#[tactic(auto, using(sheet_layout::specs::Runs::left_none, sheet_layout::specs::Runs::left_next), unfolding(sheet_laws::specs::Places::open_from))]
 fn open_from(s: &[u8], first: usize) -> usize
     requires { first < 17179869184 }
     ensures { result ≡ encode (open_from_of s.now first (run_count s.now - first)) }
@@ -23,6 +26,7 @@ fn open_from(s: &[u8], first: usize) -> usize
 }
 
 // Where the reader starts.
+#[tactic(auto, unfolding(sheet_laws::specs::Places::begin, sheet_laws::specs::Places::settled))]
 pub fn begin(s: &[u8]) -> usize
     ensures { result ≡ begin_of s.now }
 {
@@ -30,6 +34,7 @@ pub fn begin(s: &[u8]) -> usize
 }
 
 // The place behind the entry that this one hands out: in the same run where that has another entry, else in the next.
+#[tactic(auto, using(sheet_laws::specs::Steps::left_more, sheet_laws::specs::Steps::left_fewer, sheet_laws::specs::Steps::next_within, sheet_laws::specs::Steps::next_run))]
 pub fn advance(s: &[u8], place: usize) -> usize
     ensures { result ≡ advanced s.now place }
 {

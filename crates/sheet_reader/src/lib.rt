@@ -1,5 +1,7 @@
 // The reader of `sheet_reader_held`, for callers outside: what it does, by functions whose parameters are plain. 01, "Turn sheets": "A
 // reader that stays attached to the sheet's bytes and its place hands the entries out."
+#![tactic(auto)]
+
 ghost use Rattle.std.specs.Prelude.{◌≡◌};
 ghost use Rattle.sheet_laws.specs.Places.{begin, handed, advanced};
 
@@ -8,6 +10,7 @@ pub use sheet_laws::Reader;
 pub use sheet_reader_held::{attach, entry, moved};
 
 // The place of a reader that was just attached.
+#[tactic(auto, using(base_walk::proofs::Walk::gone, base_walk::proofs::Walk::asks, base_walk::proofs::Walk::proved))]
 pub fn first_place(sheet: &[u8]) -> usize
     ensures { result ≡ begin sheet.now }
 {
@@ -15,6 +18,7 @@ pub fn first_place(sheet: &[u8]) -> usize
 }
 
 // What a reader at the place hands out.
+#[tactic(auto, using(base_walk::proofs::Walk::passes_on, base_walk::proofs::Walk::gone, base_walk::proofs::Walk::asks, base_walk::proofs::Walk::proved, sheet_laws::proofs::Rows::together))]
 pub fn entry_at(sheet: &[u8], place: usize) -> Handed
     ensures { result ≡ handed sheet.now place }
 {
@@ -22,6 +26,7 @@ pub fn entry_at(sheet: &[u8], place: usize) -> Handed
 }
 
 // Where a reader at the place stands once it has moved on.
+#[tactic(auto, using(base_walk::proofs::Walk::passes_on, base_walk::proofs::Walk::gone, base_walk::proofs::Walk::asks, base_walk::proofs::Walk::proved, sheet_laws::proofs::Rows::together))]
 pub fn place_after(sheet: &[u8], place: usize) -> usize
     ensures { result ≡ advanced sheet.now place }
 {

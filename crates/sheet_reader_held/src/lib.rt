@@ -1,12 +1,15 @@
 // A reader that stays attached to a sheet's bytes and its place. 01, "Turn sheets": "A reader that stays attached to the
 // sheet's bytes and its place hands the entries out." Each function takes the reader apart and leaves the work to
 // `sheet_place`; for every caller outside there are the functions of `sheet_reader`.
+#![tactic(auto)]
+
 ghost use Rattle.std.specs.Prelude.{◌≡◌};
 ghost use Rattle.sheet_laws.specs.Reading.{attached, handed_by, moved_on};
 
 use sheet_laws::{Handed, Reader};
 
 // At the first entry's place.
+#[tactic(auto, using(base_walk::proofs::Walk::copied, base_walk::proofs::Walk::gone, base_walk::proofs::Walk::asks, base_walk::proofs::Walk::proved))]
 pub fn attach<'a>(sheet: &'a [u8]) -> Reader<'a>
     ensures { result ≡ attached sheet.entry }
 {
@@ -17,6 +20,7 @@ pub fn attach<'a>(sheet: &'a [u8]) -> Reader<'a>
 }
 
 // What the reader hands out at its place.
+#[tactic(auto, using(base_walk::proofs::Walk::passes_on, base_walk::proofs::Walk::gone, base_walk::proofs::Walk::asks, base_walk::proofs::Walk::proved, sheet_laws::proofs::Rows::apart))]
 pub fn entry<'a>(r: Reader<'a>) -> Handed
     ensures { result ≡ handed_by r.entry }
 {
@@ -24,6 +28,7 @@ pub fn entry<'a>(r: Reader<'a>) -> Handed
 }
 
 // Moves on by one entry.
+#[tactic(auto, using(base_walk::proofs::Walk::passes_on, base_walk::proofs::Walk::copied, base_walk::proofs::Walk::gone, base_walk::proofs::Walk::asks, base_walk::proofs::Walk::proved, sheet_laws::proofs::Rows::apart))]
 pub fn moved<'a>(r: Reader<'a>) -> Reader<'a>
     ensures { result ≡ moved_on r.entry }
 {

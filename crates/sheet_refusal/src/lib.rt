@@ -1,4 +1,6 @@
 // The refusal of a sheet. 01, "Turn sheets" and "Numbers returned", rows 10, 1, 2, 11 and 12.
+#![tactic(auto)]
+
 ghost use Rattle.std.specs.Prelude.{◌≡◌};
 ghost use Rattle.model.specs.Board.{limits_of};
 ghost use Rattle.model.specs.Refusal.{refusal as first_of};
@@ -9,6 +11,7 @@ use model::Caller;
 use model::numbers::{BAD_PAIRS, BAD_RUN, BAD_SHEET};
 
 // "11 over all pairs, 12 over all runs": from is where the run before ended, and code is 12 once a run is no whole entries.
+#[tactic(auto, using(base::specs::Bools::cond_same, sheet_layout::specs::Runs::runs_none, sheet_layout::specs::Runs::left_next))]
 fn runs_refusal(s: &[u8]) -> u32
     ensures { result ≡ first_of (run_tests s.now) }
 {
@@ -37,6 +40,7 @@ fn runs_refusal(s: &[u8]) -> u32
 // 0 where it is accepted, within the caller's limits. "Order: .. Sheet 10, 1, 2, 11 over all pairs, 12 over all runs". 10: "sheet
 // under 4 or over 65,535 bytes, over 16 pairs, or too short for its pairs". "Byte 0: n. Byte 1: the count p of pairs, 0 to 16. Bytes 2
 // and 3: L."
+#[tactic(auto, using(crate::specs::Parts::by_parts), unfolding(model::specs::Sheet::sheet_refusal))]
 pub fn refusal(caller: Caller, s: &[u8]) -> u32
     ensures { result ≡ sheet_refusal (limits_of caller) s.now }
 {

@@ -1,4 +1,6 @@
 // Every short sheet there is (02, wish 12): the first legal list of a length, and the one after a given one.
+#![tactic(auto)]
+
 ghost use Rattle.std.specs.Prelude.{◌+◌, ◌-◌, ◌≤◌, ◌≡◌};
 ghost use Rattle.model.specs.Window.{window};
 ghost use Rattle.model.specs.Board.{opened, no_counts};
@@ -12,6 +14,7 @@ use model::{Counts, Session};
 // The choice of an entry: stores, at an offset, the first legal list of `left` entries that begins with entry number e or a later one, and
 // tells whether there is one. If it is `tight`, lists that begin with entry number e must come after the one that stands there.
 #[cycle(choose_entry_choose_rest)]
+#[tactic(auto, using(model_short_laws::specs::Machine::applied, model_short_laws::specs::Machine::met_after, model_short_laws::specs::Numbers::one_or_two, crate::specs::Cycle::entry_end, crate::specs::Cycle::entry_refused, crate::specs::Cycle::entry_found, crate::specs::Cycle::entry_passed, crate::specs::Cycle::rest_end, crate::specs::Cycle::rest_loose, crate::specs::Cycle::rest_tight), unfolding(model_short::specs::Calls::raws_at))]
 fn choose_entry(
     n: u8,
     left: usize,
@@ -46,6 +49,7 @@ fn choose_entry(
 // The choice of the rest: stores, at an offset, the first legal list of `left` entries, or, if it is `tight`, the first that comes after
 // the one that stands there, and tells whether there is one.
 #[cycle(choose_entry_choose_rest)]
+#[tactic(auto, using(model_short_laws::specs::Machine::applied, model_short_laws::specs::Machine::met_after, model_short_laws::specs::Numbers::one_or_two, crate::specs::Cycle::entry_end, crate::specs::Cycle::entry_refused, crate::specs::Cycle::entry_found, crate::specs::Cycle::entry_passed, crate::specs::Cycle::rest_end, crate::specs::Cycle::rest_loose, crate::specs::Cycle::rest_tight), unfolding(model_short::specs::Calls::raws_at))]
 fn choose_rest(
     n: u8,
     left: usize,
@@ -70,6 +74,7 @@ fn choose_rest(
 }
 
 // From "a fresh session", "with L at its least": whether there is a list, which then stands in the buffer.
+#[tactic(auto, using(model_short_laws::specs::Machine::met_fresh, model_short_laws::specs::Numbers::one_or_two), unfolding(model::specs::Window::window, model::specs::Board::opened))]
 fn choose(n: u8, length: usize, tight: bool, buffer: &mut [u8]) -> bool
     requires { (1 ≤ n) × (n ≤ 2) × (length ≤ 6) }
     ensures { Chosen (rest_lists n length tight (raws_at buffer.old 0 length) (opened n (window n)) no_counts)
@@ -85,6 +90,7 @@ fn choose(n: u8, length: usize, tight: bool, buffer: &mut [u8]) -> bool
 }
 
 // "Asked for the first, it writes that." 1, 17, 15.
+#[tactic(auto, using(model_short_laws::specs::Numbers::call_fits, model_short_laws::specs::Numbers::result_refused, crate::specs::Ends::first_done), unfolding(model_short::specs::Calls::first_result))]
 pub fn first(n: usize, length: usize, buffer: &mut [u8]) -> u32
     ensures { listed result buffer.new ≡ first_result n length buffer.old }
 {
@@ -97,6 +103,7 @@ pub fn first(n: usize, length: usize, buffer: &mut [u8]) -> u32
 }
 
 // "Given a legal list in a buffer, the builder writes the next of that length over it." 1, 17, 15, 20, 21.
+#[tactic(auto, using(model_short_laws::specs::Numbers::call_fits, model_short_laws::specs::Numbers::given_accepted, crate::specs::Ends::next_refuses, crate::specs::Ends::next_none, crate::specs::Ends::next_found))]
 pub fn next(n: usize, length: usize, buffer: &mut [u8]) -> u32
     ensures { listed result buffer.new ≡ next_result n length buffer.old }
 {

@@ -1,4 +1,6 @@
 // The tests of the calls for short lists (02, wish 12): those of both calls, and whether the given list is legal.
+#![tactic(auto)]
+
 ghost use Rattle.std.specs.Prelude.{◌≡◌};
 ghost use Rattle.model.specs.Refusal.{refusal};
 ghost use Rattle.model_short.specs.Calls.{raws_at, first_tests, given_tests};
@@ -9,6 +11,7 @@ use model::numbers::{BAD_BUFFER, BAD_CUTS, BAD_PROCESS_COUNT, ILLEGAL_LIST};
 use model::{Counts, Session};
 
 // "1 for a seat count other than 1 or 2, 17 for a length over 6, 15 for a buffer not 6 times the length".
+#[tactic(auto, using(model_short_laws::specs::Numbers::tests_few, model_short_laws::specs::Numbers::tests_many, model_short_laws::specs::Numbers::tests_long, model_short_laws::specs::Numbers::tests_buffer, model_short_laws::specs::Numbers::tests_none))]
 pub fn call_refusal(n: usize, length: usize, buffer: &[u8]) -> u32
     ensures { result ≡ refusal (first_tests n length buffer.now) }
 {
@@ -28,6 +31,7 @@ pub fn call_refusal(n: usize, length: usize, buffer: &[u8]) -> u32
 }
 
 // Whether the entries at an offset, as many as told, are legal in session s.
+#[tactic(auto, using(model_short_laws::specs::Machine::applied, model_short_laws::specs::Machine::met_after, model_short_laws::specs::Numbers::one_or_two, crate::specs::Legal::legal_end, crate::specs::Legal::legal_no_choice, crate::specs::Legal::legal_refused, crate::specs::Legal::legal_goes_on))]
 fn legal(n: u8, left: usize, at: usize, s: Session, c: Counts, buffer: &[u8]) -> bool
     requires { SearchReady n left at s }
     ensures { result ≡ legal_from n s c (raws_at buffer.now at left) }
@@ -49,6 +53,7 @@ fn legal(n: u8, left: usize, at: usize, s: Session, c: Counts, buffer: &[u8]) ->
 }
 
 // Then 20, "the given list is not legal": from "a fresh session", "with L at its least".
+#[tactic(auto, using(model_short_laws::specs::Machine::met_fresh, model_short_laws::specs::Numbers::call_fits, model_short_laws::specs::Numbers::one_or_two, model_short_laws::specs::Numbers::given_refused, crate::specs::Legal::given_yes, crate::specs::Legal::given_no), unfolding(model::specs::Window::window, model::specs::Board::opened))]
 pub fn given_refusal(n: usize, length: usize, buffer: &[u8]) -> u32
     ensures { result ≡ refusal (given_tests n length buffer.now) }
 {

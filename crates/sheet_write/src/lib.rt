@@ -1,4 +1,6 @@
 // Writing a sheet (02, wish 3: the writer).
+#![tactic(auto)]
+
 ghost use Rattle.std.specs.Prelude.{◌≡◌, ◌+◌, ◌*◌, ◌≤◌, length};
 ghost use Rattle.std.proofs.lemmas.List.Edits.{sets};
 ghost use Rattle.model.specs.Board.{limits_of};
@@ -7,6 +9,7 @@ ghost use Rattle.model_write.specs.Write.{laid_out, pair_bytes, total, wrote, wr
 use model::{Caller, CountAnswer};
 
 // The pairs of runs of these lengths, the first behind the pairs, the others without gaps, stored from byte 4 on.
+#[tactic(auto, using(model_write_laws::specs::Laid::total_taken, model_write_laws::specs::Laid::total_part, model_write_laws::specs::Laid::pairs_more))]
 fn put_pairs(lengths: &[usize], sheet: &mut [u8])
     requires lengths_len_bound { length lengths.now ≤ 16 }
     requires lengths_bound { 4 + 4 * length lengths.now + 6 * total lengths.now ≤ 65535 }
@@ -25,6 +28,7 @@ fn put_pairs(lengths: &[usize], sheet: &mut [u8])
 }
 
 // The bytes of the entries, stored from byte `at` on.
+#[tactic(auto, using(base::specs::Arrays::sets_more))]
 fn put_entries(entries: &[u8], at: usize, sheet: &mut [u8])
     requires { at + length entries.now ≤ length sheet.old }
     ensures { sheet.new ≡ sets sheet.old at entries.now }
@@ -38,6 +42,7 @@ fn put_entries(entries: &[u8], at: usize, sheet: &mut [u8])
 
 // Writes a sheet of the given entries, cut into runs of the given lengths, from the first byte of the output on, within the caller's limits
 // (02, wish 9); answers its size. Refused, the output is as it was.
+#[tactic(auto, using(base::specs::Bools::and_right, model_laws::specs::Callers::caller_limits, model_write_laws::specs::Sizes::length_sheet_of, model_write_laws::specs::Facts::write_facts, model_write_laws::specs::Stored::sheet_stored, model_write_laws::specs::Stored::written_refused, model_write_laws::specs::Stored::written_accepted), unfolding(model_write::specs::Write::write_result))]
 pub fn write(
     caller: Caller,
     n: usize,

@@ -1,5 +1,7 @@
 // The refusal of what is to be written as a sheet. 02, wish 3: "Order: 1, 2, 12 for the entry buffer, 17, 13, then 15 if the output is too
 // short."
+#![tactic(auto)]
+
 ghost use Rattle.std.specs.Prelude.{◌≡◌, ◌&&◌, ◌+◌, ◌*◌, ◌/◌, min, length, leb, eqb};
 ghost use Rattle.model.specs.Board.{limits_of};
 ghost use Rattle.model.specs.Sheet.{entries_at};
@@ -10,6 +12,7 @@ use model::numbers::{BAD_BUFFER, BAD_CUTS, BAD_ENTRY, BAD_RUN};
 use part_entry::{formed, number32};
 
 // Whether the run lengths add up to so many entries, however large they are: each is taken off the entries that are left.
+#[tactic(auto, using(model_write_laws::specs::Laid::total_taken, model_write_laws::specs::Laid::total_part))]
 fn add_up(lengths: &[usize], entries: usize) -> bool
     ensures { result ≡ eqb (total lengths.now) entries }
 {
@@ -68,6 +71,7 @@ fn well_formed(entries: &[u8]) -> bool
 }
 
 // 0 where it is accepted, within the caller's limits. `room` is the length of the output.
+#[tactic(auto, using(base::specs::Bools::and_left, base::specs::Bools::and_right, model_laws::specs::Accepted::refusal_append, model_write_laws::specs::Sizes::length_sheet_of), unfolding(model_write::specs::Write::sheet_of, model_write::specs::Write::write_refusal))]
 pub fn write_refusal(
     caller: Caller,
     n: usize,

@@ -1,4 +1,6 @@
 // The soundness of one board of a house: a ward's session, or a poll.
+#![tactic(auto)]
+
 ghost use Rattle.std.specs.Prelude.{◌≡◌, length, leb};
 ghost use Rattle.model.specs.declared.Process.{Process as ProcessOf};
 ghost use Rattle.model.specs.Sound.{every};
@@ -7,6 +9,7 @@ ghost use Rattle.model_house.specs.Sound.{sound_ward, sound_vote};
 use model::Session;
 
 // 02, wish 11: "a session .. unsound, closed or of another size".
+#[tactic(auto, unfolding(model_house::specs::Sound::sound_ward))]
 pub fn ward_sound(seats: usize, s: Session) -> bool
     ensures { result ≡ sound_ward seats s }
 {
@@ -20,6 +23,7 @@ fn small(x: u32, c: usize) -> bool
 }
 
 // 02, wish 11: "a poll number above c", in a register.
+#[tactic(auto, using(model_house_laws::specs::Below::below_more, model_house_laws::specs::Below::below_stop, model_house_laws::specs::Below::below_ends, model_house_laws::specs::Below::every_all))]
 fn values_low(values: &[u32; 256], c: usize) -> bool
     requires { length values.now ≡ 256 }
     ensures { result ≡ every (λ x. leb x c) values.now }
@@ -35,6 +39,7 @@ fn values_low(values: &[u32; 256], c: usize) -> bool
 }
 
 // In a seat.
+#[tactic(auto, using(base::specs::Arrays::length_mapped, model_house_laws::specs::Below::below_more, model_house_laws::specs::Below::below_stop, model_house_laws::specs::Below::below_ends, model_house_laws::specs::Below::every_all))]
 fn estimates_low(s: Session, c: usize) -> bool
     ensures { result ≡ every (λ (q : ProcessOf). leb q.estimate c) s.processes }
 {
@@ -50,6 +55,7 @@ fn estimates_low(s: Session, c: usize) -> bool
 }
 
 // 02, wish 11: "a .. poll unsound, closed or of another size, a poll number above c".
+#[tactic(auto, unfolding(model::specs::Sound::sound_as, model_house::specs::Sound::sound_vote, model_house::specs::Sound::sound_numbers))]
 pub fn vote_sound(n: usize, c: usize, s: Session) -> bool
     ensures { result ≡ sound_vote n c s }
 {

@@ -1,5 +1,7 @@
 // The turns of a worker in its ward's session and in the poll of its outer round (document 02, wish 11), on what a turn can read and
 // change. A session or poll that is not sound is left as it is, and so is all else.
+#![tactic(auto)]
+
 ghost use Rattle.std.specs.Prelude.{◌≡◌, cond};
 ghost use Rattle.model.specs.Sound.{sound, sound_poll};
 ghost use Rattle.model_poll.specs.Machine.{proposes, turns};
@@ -9,6 +11,7 @@ use model::Operation;
 use model_house::View;
 
 // An operation of the ward's session.
+#[tactic(auto, using(model_house_laws::specs::Views::ward_performs))]
 pub fn in_ward(v: View, o: Operation) -> View
     ensures { result ≡ cond (sound v.session) (in_ward_of v o) v }
 {
@@ -24,6 +27,7 @@ pub fn in_ward(v: View, o: Operation) -> View
 }
 
 // A proposal of w to the poll by process p.
+#[tactic(auto, using(model_house_laws::specs::Views::proposal_performs))]
 pub fn propose_poll(v: View, p: usize, w: u32) -> View
     ensures { result ≡ cond (sound_poll v.poll) (in_poll v (proposes p w)) v }
 {
@@ -36,6 +40,7 @@ pub fn propose_poll(v: View, p: usize, w: u32) -> View
 }
 
 // A turn of the poll by process p.
+#[tactic(auto, using(model_house_laws::specs::Views::turn_performs))]
 pub fn step_poll(v: View, p: usize) -> View
     ensures { result ≡ cond (sound_poll v.poll) (in_poll v (turns p)) v }
 {

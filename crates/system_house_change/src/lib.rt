@@ -1,5 +1,7 @@
 // Proposals, house looks and crashes of a house's workers (document 02, wish 11). They make their tests in their order, and change the
 // house where it stands if none of them refuses.
+#![tactic(auto)]
+
 ghost use Rattle.std.specs.Prelude.{◌≡◌};
 ghost use Rattle.model_house.specs.Machine.{house_learnt};
 ghost use Rattle.model_house.specs.Public.{house_propose, house_learn, house_crash};
@@ -9,6 +11,7 @@ use model_house::{House, HouseChanged, HouseStepped, Place, Stance, Worker};
 
 // 3, 4, 5, 6; then worker p holds v, and its next turn is the first of outer round 1. i is p wherever a call is accepted, here and below:
 // where it is not, the tests refuse.
+#[tactic(auto, using(model_house::specs::Machine::proposes, model_house_laws::specs::Accepted::house_code_law, model_house_laws::specs::Accepted::house_index, model_house_laws::specs::Accepted::uncounted_refused, model_house_laws::specs::Accepted::uncounted_left, model_house_laws::specs::Accepted::proposed_is), unfolding(model_house::specs::Public::house_propose))]
 pub fn propose(h: House, p: usize, v: u32) -> HouseChanged
     ensures { result ≡ house_propose h p v }
 {
@@ -33,6 +36,7 @@ pub fn propose(h: House, p: usize, v: u32) -> HouseChanged
 
 // 02, wish 11: "A crash or house look changes no ward or poll seat." 3, 4, 7, 8; then worker p is crashed, and its outer round and value
 // stay.
+#[tactic(auto, using(model_house::specs::Machine::crashes, model_house_laws::specs::Accepted::house_code_law, model_house_laws::specs::Accepted::house_index, model_house_laws::specs::Accepted::uncounted_refused, model_house_laws::specs::Accepted::uncounted_left, model_house_laws::specs::Accepted::crashed_is), unfolding(model_house::specs::Public::house_crash))]
 pub fn crash(h: House, p: usize) -> HouseChanged
     ensures { result ≡ house_crash h p }
 {
@@ -71,6 +75,7 @@ fn learnt(q: Worker, x: u32) -> Worker
 
 // 02, wish 11: a house look, "taken instead of a turn by a working or spent worker". 3, 4, 7, 8, 16; then one read, of the house's decision
 // register.
+#[tactic(auto, using(model_house::specs::Machine::learns, model_house_laws::specs::Accepted::house_code_law, model_house_laws::specs::Accepted::house_refused, model_house_laws::specs::Accepted::house_known, model_house_laws::specs::Accepted::house_index, model_house_laws::specs::Accepted::house_left, model_house_laws::specs::Accepted::learnt_is, model_house_laws::specs::Accepted::learnt_counts), unfolding(model_house::specs::Public::house_learn))]
 pub fn learn(h: House, p: usize, c: Counts) -> HouseStepped
     ensures { result ≡ house_learn h p c }
 {

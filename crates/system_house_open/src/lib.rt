@@ -1,4 +1,6 @@
 // Opening a house (document 02, wish 11).
+#![tactic(auto)]
+
 ghost use Rattle.std.specs.Prelude.{◌≤◌, ◌-◌, ◌≡◌, ◌++◌, length, replicate};
 ghost use Rattle.model.specs.Refusal.{refusal};
 ghost use Rattle.model_house.specs.House.{max_workers, house_open_tests, opened_house, house_opening};
@@ -7,6 +9,7 @@ use model::numbers::{BAD_PROCESS_COUNT, BAD_WARDS};
 use model_house::{House, HouseChanged, Row, Stance, Table, Worker};
 
 // The wards of at most 16 workers, with room for 16.
+#[tactic(auto, using(base::specs::Arrays::copied_more, base::specs::Arrays::copied_all))]
 fn padded(wards: &[u8]) -> [u8; 16]
     requires { length wards.now ≤ max_workers }
     ensures { result ≡ wards.now ++ replicate (max_workers - length wards.now) 0 }
@@ -22,6 +25,7 @@ fn padded(wards: &[u8]) -> [u8; 16]
 
 // 02, wish 11: "New 19: c not 1 to 4, over 16 workers, a worker's ward not 1 to c, or an empty ward; at opening, after 1 by the server's
 // limits." 0 for no refusal.
+#[tactic(auto, unfolding(model_house::specs::House::allowed))]
 fn open_refusal(c: usize, wards: &[u8]) -> u32
     ensures { result ≡ refusal (house_open_tests c wards.now) }
 {
@@ -39,6 +43,7 @@ fn open_refusal(c: usize, wards: &[u8]) -> u32
 }
 
 // A house just opened: every session and poll is, table and decision register are blank, no worker has proposed.
+#[tactic(auto, unfolding(model::specs::Window::window, model::specs::Board::opened, model_house::specs::House::opened_house))]
 fn opened(c: usize, wards: &[u8]) -> House
     requires { length wards.now ≤ max_workers }
     ensures { result ≡ opened_house c wards.now }
@@ -72,6 +77,7 @@ fn opened(c: usize, wards: &[u8]) -> House
 }
 
 // The wards of the workers are given in number order. 1, 19. Refused, the answer holds the house of no worker.
+#[tactic(auto, using(base::specs::Bools::and_left, base::specs::Bools::and_right, model_laws::specs::Accepted::none_holds), unfolding(model_house::specs::House::allowed, model_house::specs::House::opened_house, model_house::specs::House::house_opening))]
 pub fn open(c: usize, wards: &[u8]) -> HouseChanged
     ensures { result ≡ house_opening c wards.now }
 {

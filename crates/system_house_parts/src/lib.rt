@@ -1,4 +1,6 @@
 // Functions of a worker's record, a seat's record, and whether a worker's seats are as its next turn needs (document 02, wish 11).
+#![tactic(auto)]
+
 ghost use Rattle.std.specs.Prelude.{◌-◌, ◌≡◌};
 ghost use Rattle.model.specs.Board.{process_at};
 ghost use Rattle.model.specs.Refusal.{status as status_of, is_outside as is_outside_of, is_active as is_active_of, is_decided as is_decided_of};
@@ -26,6 +28,7 @@ pub fn phase_of(stance: Stance) -> Phase
 }
 
 // The record of process p. Past the end there is none, and one that is out stands for it.
+#[tactic(auto, using(base::specs::Arrays::length_mapped))]
 pub fn seat(s: Session, p: usize) -> Process
     ensures { result ≡ process_at s p }
 {
@@ -125,6 +128,7 @@ fn is_committed(q: Process) -> bool
     }
 }
 
+#[tactic(auto, unfolding(model_house::specs::Sound::seats_fit))]
 fn place_fits(place: Place, a: Process, b: Process) -> bool
     ensures { result ≡ seats_fit_of (Stance.Working place) a b }
 {
@@ -144,6 +148,7 @@ fn place_fits(place: Place, a: Process, b: Process) -> bool
 
 // 02, wish 11: "a seat not out, working, decided or answered (committed, before a house write) as a working worker's next turn needs". a is
 // the worker's seat in its ward's session, b its seat in the poll.
+#[tactic(auto, unfolding(model_house::specs::Sound::seats_fit))]
 pub fn seats_fit(stance: Stance, a: Process, b: Process) -> bool
     ensures { result ≡ seats_fit_of stance a b }
 {

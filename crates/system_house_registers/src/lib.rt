@@ -1,5 +1,7 @@
 // The turns of a worker at the registers that are the house's own (document 02, wish 11): the value table and the decision register. Each
 // counts one register operation. With a full tally nothing changes.
+#![tactic(auto)]
+
 ghost use Rattle.std.specs.Prelude.{ℕ, ◌≡◌, Bool, cond};
 ghost use Rattle.model.specs.Refusal.{full as full_of};
 ghost use Rattle.model_poll.specs.Turn.{answer_of};
@@ -60,6 +62,7 @@ fn after_read(t: Table, q: Worker, seat: Process) -> Worker
 }
 
 // It "writes the decision to the table": the number that its ward seat s holds, at its ward w.
+#[tactic(auto, unfolding(model::specs::Refusal::full, model::specs::Step::counted, model_house::specs::Turn::turn_at))]
 pub fn write_table(v: View, w: usize, s: usize) -> View
     ensures { (p : ℕ) (hint : Bool) → result ≡ cond (full_of v.counts) v (turn_at p w s hint Place.WriteTable v) }
 {
@@ -84,6 +87,7 @@ pub fn write_table(v: View, w: usize, s: usize) -> View
 }
 
 // It "reads the table at the answer's ward": the answer of its poll seat p.
+#[tactic(auto, unfolding(model::specs::Refusal::full, model_house::specs::Turn::turn_at))]
 pub fn read_table(v: View, p: usize) -> View
     ensures { (w s : ℕ) (hint : Bool) → result ≡ cond (full_of v.counts) v (turn_at p w s hint Place.ReadTable v) }
 {
@@ -101,6 +105,7 @@ pub fn read_table(v: View, p: usize) -> View
 }
 
 // It "writes the house's own decision register": its value.
+#[tactic(auto, unfolding(model::specs::Refusal::full, model_house::specs::Turn::turn_at))]
 pub fn write_house(v: View) -> View
     ensures { (p w s : ℕ) (hint : Bool) → result ≡ cond (full_of v.counts) v (turn_at p w s hint Place.WriteHouse v) }
 {

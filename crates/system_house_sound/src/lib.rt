@@ -1,4 +1,6 @@
 // When a house is sound (document 02, wish 11): the test that every call on a house makes first.
+#![tactic(auto)]
+
 ghost use Rattle.std.specs.Prelude.{◌≤◌, ◌*◌, true, ◌≡◌, get_or};
 ghost use Rattle.model_house.specs.House.{outer_rounds, all_below, no_session};
 ghost use Rattle.model_house.specs.Sound.{sound_ward, sound_vote, sound_wards, sound_worker, sound_house};
@@ -7,6 +9,7 @@ use model::Session;
 use model_house::House;
 
 // 02, wish 11: "a session .. unsound, closed or of another size", of those of wards 1 to c.
+#[tactic(auto, using(model_house_laws::specs::Below::below_more, model_house_laws::specs::Below::below_stop, model_house_laws::specs::Below::below_ends), unfolding(model_house::specs::Sound::sound_ward))]
 fn sessions_sound(c: usize, seats: usize, sessions: [Session; 32]) -> bool
     requires { c ≤ 4 }
     ensures { result ≡ all_below (outer_rounds * c) (λ i. sound_ward seats (get_or sessions i no_session)) }
@@ -24,6 +27,7 @@ fn sessions_sound(c: usize, seats: usize, sessions: [Session; 32]) -> bool
 }
 
 // 02, wish 11: "a .. poll unsound, closed or of another size, a poll number above c".
+#[tactic(auto, using(model_house_laws::specs::Below::below_more, model_house_laws::specs::Below::below_stop, model_house_laws::specs::Below::below_ends), unfolding(model_house::specs::Sound::sound_vote))]
 fn polls_sound(n: usize, c: usize, polls: [Session; 8]) -> bool
     ensures { result ≡ all_below outer_rounds (λ i. sound_vote n c (get_or polls i no_session)) }
 {
@@ -45,6 +49,7 @@ fn wide(x: u8) -> usize
 }
 
 // 02, wish 11: "an outer round not 1 to 8, a proposed worker without a value, or a seat not .. as a working worker's next turn needs".
+#[tactic(auto, using(base::specs::Arrays::length_mapped, model_house_laws::specs::Below::below_more, model_house_laws::specs::Below::below_stop, model_house_laws::specs::Below::below_ends, model_house_laws::specs::Below::below_fails, model_house_laws::specs::Sounds::wards_facts, model_house_laws::specs::Sounds::ward_range, model_house_laws::specs::Sounds::seat_low, model_house_laws::specs::Sounds::outer_range, model_house_laws::specs::Sounds::worker_numbers_fail, model_house_laws::specs::Sounds::worker_told), unfolding(model_house::specs::Sound::sound_worker))]
 fn workers_sound(h: House) -> bool
     requires { sound_wards h ≡ true }
     ensures { result ≡ all_below h.n (sound_worker h) }
@@ -76,6 +81,7 @@ fn workers_sound(h: House) -> bool
 }
 
 // The wards, the sessions of wards 1 to c, the polls, and the workers, each with the seats that its next turn needs.
+#[tactic(auto, using(model_house_laws::specs::Sounds::wards_told, model_house_laws::specs::Sounds::wards_facts, model_house_laws::specs::Sounds::wards_fail, model_house_laws::specs::Sounds::sessions_fail, model_house_laws::specs::Sounds::polls_fail, model_house_laws::specs::Sounds::workers_left), unfolding(model_house::specs::Sound::sound_ward, model_house::specs::Sound::sound_wards))]
 pub fn sound(h: House) -> bool
     ensures { result ≡ sound_house h }
 {

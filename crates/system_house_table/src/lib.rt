@@ -1,5 +1,7 @@
 // The value table (document 02, wish 11: "one row for each outer round and one entry per ward"), in the form that document 01 names: "An 8
 // by 4 array of arrays of u32 passed and returned by value by the ward-name machine." A struct cannot hold that, so a house keeps rows.
+#![tactic(auto)]
+
 ghost use Rattle.std.specs.Prelude.{◌-◌, ◌≡◌, [], get_or, set};
 ghost use Rattle.model_house.specs.House.{table_at, with_entry};
 ghost use Rattle.system_house_table.specs.Cells.{cells_of, table_of};
@@ -7,6 +9,7 @@ ghost use Rattle.system_house_table.specs.Cells.{cells_of, table_of};
 use model_house::{Row, Table};
 
 // The table as an array of arrays, and back.
+#[tactic(auto, using(base::specs::Arrays::length_mapped, crate::specs::Cells::eight))]
 fn cells(t: Table) -> [[u32; 4]; 8]
     ensures { result ≡ cells_of t }
 {
@@ -29,6 +32,7 @@ fn cells(t: Table) -> [[u32; 4]; 8]
     [e0, e1, e2, e3, e4, e5, e6, e7]
 }
 
+#[tactic(auto, using(crate::specs::Cells::eight))]
 fn table(cells: [[u32; 4]; 8]) -> Table
     ensures { result ≡ table_of cells }
 {
@@ -102,6 +106,7 @@ fn with_cell(cells: [[u32; 4]; 8], i: usize, j: usize, v: u32) -> [[u32; 4]; 8]
 }
 
 // The entry of outer round o and ward w.
+#[tactic(auto, using(crate::specs::Cells::cell_is))]
 pub fn entry(t: Table, o: usize, w: usize) -> u32
     ensures { result ≡ table_at t o w }
 {
@@ -109,6 +114,7 @@ pub fn entry(t: Table, o: usize, w: usize) -> u32
 }
 
 // The table with v there.
+#[tactic(auto, using(crate::specs::Cells::written_is))]
 pub fn written(t: Table, o: usize, w: usize, v: u32) -> Table
     ensures { result ≡ with_entry t o w v }
 {

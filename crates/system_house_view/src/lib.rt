@@ -1,4 +1,6 @@
 // A turn of a worker (document 02, wish 11), on what the turn can read and change, by the worker's place.
+#![tactic(auto)]
+
 ghost use Rattle.std.specs.Prelude.{◌≡◌, true, cond};
 ghost use Rattle.model_house.specs.Turn.{stands as stands_of, after_step as after_step_of, after_learn as after_learn_of, after_poll as after_poll_of, turn_at as turn_at_of};
 ghost use Rattle.model_house.specs.Machine.{turn_by};
@@ -25,6 +27,7 @@ fn after_step(q: Process) -> Stance
 }
 
 // Decided, its seat is as the table write needs it.
+#[tactic(auto, unfolding(model_house::specs::Sound::seats_fit))]
 fn after_learn(q: Process) -> Stance
     ensures { result ≡ after_learn_of q }
 {
@@ -36,6 +39,7 @@ fn after_learn(q: Process) -> Stance
 }
 
 // It polls until the poll answers it: until its seat is as the table read needs it.
+#[tactic(auto, unfolding(model_house::specs::Sound::seats_fit))]
 fn after_poll(q: Process) -> Stance
     ensures { result ≡ after_poll_of q }
 {
@@ -62,6 +66,7 @@ fn stands(v: View, stance: Stance) -> View
 }
 
 // The turn at each place, clause by clause as `turn_at` has it.
+#[tactic(auto, using(model_poll::specs::Machine::proposes, model_poll::specs::Machine::turns, model_house_laws::specs::Views::ward_left, model_house_laws::specs::Views::poll_left, model_house_laws::specs::Views::register_left), unfolding(model_house::specs::Turn::turn_at))]
 fn turn_at(v: View, p: usize, w: u8, s: usize, hint: bool, place: Place) -> View
     requires { view_fits v ≡ true }
     ensures { result ≡ turn_at_of p w s hint place v }
@@ -98,6 +103,7 @@ fn turn_at(v: View, p: usize, w: u8, s: usize, hint: bool, place: Place) -> View
 }
 
 // Whether a turn can be taken: the boards are sound, and a register operation can be counted.
+#[tactic(auto, unfolding(model_house_laws::specs::Views::view_fits))]
 fn fits(v: View) -> bool
     ensures { result ≡ view_fits v }
 {
@@ -109,6 +115,7 @@ fn fits(v: View) -> bool
 
 // The turn of worker p, of ward w, whose seat in its ward's session is s. A worker that does not work takes none; a view that does not fit
 // is left as it is.
+#[tactic(auto, unfolding(model_house::specs::Machine::turn_by, model_house_laws::specs::Views::view_fits))]
 pub fn turn_view(v: View, p: usize, w: u8, s: usize, hint: bool) -> View
     ensures { result ≡ cond (view_fits v) (turn_by p w s hint v.worker.stance v) v }
 {

@@ -1,5 +1,7 @@
 // One public operation called many times over, for bench/run.sh. Standard input: a byte, the operation, and the number of calls, 32 bits,
 // low byte first. Standard output: a number that comes of the answers, so that no call can be left out.
+#![tactic(auto)]
+
 ghost use Rattle.std.specs.Prelude.{◌≡◌};
 ghost use Rattle.model.specs.Public.{step as step_of, learn as learn_of};
 
@@ -29,6 +31,7 @@ fn proposed(poll: bool) -> Session {
 }
 
 // A work turn and a look, each with a tally of its own that is lent, as a caller lends it.
+#[tactic(auto, using(base_walk::proofs::Walk::gone, base_walk::proofs::Walk::asks, base_walk::proofs::Walk::proved, session_lent_laws::proofs::Lent::reads, session_lent_laws::proofs::Lent::lent_out, session_lent_laws::proofs::Lent::taken_back))]
 fn step(s: Session, p: usize, leader: bool, c: Counts) -> Session
     ensures { result ≡ (step_of s p leader c).session }
 {
@@ -37,6 +40,7 @@ fn step(s: Session, p: usize, leader: bool, c: Counts) -> Session
     answer.session
 }
 
+#[tactic(auto, using(base_walk::proofs::Walk::gone, base_walk::proofs::Walk::asks, base_walk::proofs::Walk::proved, session_lent_laws::proofs::Lent::reads, session_lent_laws::proofs::Lent::lent_out, session_lent_laws::proofs::Lent::taken_back))]
 fn learn(s: Session, p: usize, c: Counts) -> Session
     ensures { result ≡ (learn_of s p c).session }
 {

@@ -1,4 +1,6 @@
 // The caller that a byte names, for the programs of tests.
+#![tactic(auto)]
+
 ghost use Rattle.std.specs.Prelude.{◌≡◌};
 ghost use Rattle.test_caller_byte.specs.Named.{caller_of as caller_for};
 

@@ -1,5 +1,7 @@
 // The calls of both callers (02, wish 9) as an archive, for the tests beside the separate program: each function's first argument names the
 // caller, 0 the server and any other the cart. (The library's own functions for callers in C use the server's limits: `janus`.)
+#![tactic(auto)]
+
 ghost use Rattle.std.specs.Prelude.{◌≡◌};
 ghost use Rattle.model.specs.Machine.{opening};
 ghost use Rattle.model.specs.Runner.{run as run_of};

@@ -4,6 +4,8 @@
 // 2 its crash, 3 its house look; any other sets a field, as only a test may. Each house has a tally of its own. Standard output: a line for
 // the opening and for each operation, with its refusal's number or 0; then what is left. reference/src/houses.rs lists the fields and the
 // lines.
+#![tactic(auto)]
+
 ghost use Rattle.std.specs.Prelude.{◌≤◌, ◌<◌};
 
 use model::Counts;
@@ -129,6 +131,7 @@ fn house(bytes: &[u8], at: usize) -> usize
     from + 2 + 6 * count
 }
 
+#[tactic(auto, using(use_input::specs::Input::held_bytes))]
 fn main() {
     let mut input = io::large_buffer();
     let Input::Bytes(n) = use_input::read(b"test_house", &mut input) else {

@@ -4,6 +4,8 @@
 // of a session (02, wish 10), which polls have not; any other is the read-out of the seat's record as a session's. Each poll has a tally of
 // its own. Standard output: a line for the opening and for each operation, with its refusal's number or 0 and a turn's answer; then the
 // tally, the registers and the seats.
+#![tactic(auto)]
+
 ghost use Rattle.std.specs.Prelude.{◌≡◌, ◌+◌, ◌*◌, ◌≤◌, ◌<◌};
 
 use io::write_all;
@@ -224,6 +226,7 @@ fn poll(bytes: &[u8], at: usize) -> usize
     at + 4 + 6 * told
 }
 
+#[tactic(auto, using(use_input::specs::Input::held_bytes))]
 fn main() {
     let mut input = io::large_buffer();
     let Input::Bytes(n) = use_input::read(b"test_poll", &mut input) else {

@@ -2,6 +2,8 @@
 // that names the caller (02, wish 9), 0 the server and any other the cart, the budget, 32 bits, and the buffer's places, 16 bits, low byte
 // first, and then the sheet. Standard output, two lines: the C entry's number, the entries carried out, and the reads, the writes and the
 // contested writes; then the read-out's number, its count, and the numbers in the buffer's places after it.
+#![tactic(auto)]
+
 ghost use Rattle.std.specs.Prelude.{◌≡◌, ◌≤◌};
 ghost use Rattle.model.specs.Export.{ending_code};
 
@@ -75,6 +77,7 @@ fn print_run(bytes: &[u8; 7], sheet: &[u8]) {
     print_standing(left, asked);
 }
 
+#[tactic(auto, using(use_input::specs::Input::held_bytes))]
 fn main() {
     let mut bytes = [0u8; 7];
     let Input::Bytes(_) = use_input::read(b"test_run", &mut bytes) else {

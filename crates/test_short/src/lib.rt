@@ -1,4 +1,6 @@
 // The calls for the first short list and for the next one (02, wish 12) as an archive, for the tests beside the separate program.
+#![tactic(auto)]
+
 ghost use Rattle.std.specs.Prelude.{◌≡◌};
 ghost use Rattle.model_short.specs.Calls.{listed, first_result, next_result};
 

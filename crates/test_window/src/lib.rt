@@ -1,4 +1,6 @@
 // The window's function as the only one of an archive, so that its compiled code can be seen and called by itself (tests/window.sh).
+#![tactic(auto)]
+
 ghost use Rattle.std.specs.Prelude.{◌≡◌};
 ghost use Rattle.model.specs.Window.{window as window_of};
 

@@ -1,6 +1,8 @@
 // The training binder's program (02, wish 12): every legal list of a length, in the words of examples/*.txt. Standard input: the seats and
 // the length, a digit each, as "2 3". Standard output: the lists, or the number with which they are refused. A program has no exit status:
 // where it cannot read, understand or write it says so on standard error.
+#![tactic(auto)]
+
 use use_input::Input;
 use use_text::Bytes;
 
@@ -10,7 +12,7 @@ mod text;
 const MOST: usize = 9144;
 
 // What the input asks for: the lists of so many seats and of a length.
-#[derive(Drop)]
+#[derive(Clone, Copy)]
 enum Asked {
     Lists(u8, u8),
     Unclear,
@@ -85,6 +87,7 @@ fn print_binder(n: u8, length: usize, list: &mut [u8], page: &mut Bytes) -> bool
     print_lists(seats, length, list, page)
 }
 
+#[tactic(auto, using(use_input::specs::Input::held_bytes))]
 fn main() {
     // Two digits, a space and a newline are 4 bytes; one more that is read shows that the input is longer.
     let mut input = [0u8; 5];

@@ -4,11 +4,13 @@
 // A read that a signal interrupts (EINTR) counts as failed and is not tried again. These programs catch no signal, so the system itself
 // goes on with such a read, or ends the program. To tell EINTR from other failures a program needs errno, hence C code of the kit's `os`,
 // and more assumptions than those on `read` and `write`.
+#![tactic(auto)]
+
 ghost use Rattle.std.specs.Prelude.{◌≡◌};
 ghost use Rattle.use_input.specs.Input.{InputHeld};
 
 // The bytes that were read, from the buffer's start on, or that a read failed.
-#[derive(Drop)]
+#[derive(Clone, Copy)]
 pub enum Input {
     Bytes(usize),
     Failed,

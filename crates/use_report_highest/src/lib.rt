@@ -1,8 +1,11 @@
 // The highest filled round, of the board line (01, "The board report").
+#![tactic(auto)]
+
 ghost use Rattle.std.specs.Prelude.{◌≡◌};
 ghost use Rattle.model.specs.Board.{highest_from};
 
 // 01: "the highest filled round (0 for none)".
+#[tactic(auto, using(crate::specs::Highest::highest_next))]
 pub fn highest(values: &[u32]) -> usize
     ensures { result ≡ highest_from 0 0 values.now }
 {

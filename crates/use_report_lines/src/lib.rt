@@ -1,4 +1,6 @@
 // The lines of a report (01, "The board report"), put on a page.
+#![tactic(auto)]
+
 ghost use Rattle.std.specs.Prelude.{◌++◌};
 ghost use Rattle.model_report.specs.Report.{newline, outcome_line, tally_line, closed_word, board_line, report_of};
 ghost use Rattle.use_text.specs.Page.{Put};
@@ -8,6 +10,7 @@ use use_report_seats::put_seats;
 use use_text::{Bytes, put_fields, put_line, put_words};
 
 // 01: "outcome refused CODE INDEX", "sheet refused CODE", "outcome finished" and "the number of entries carried out".
+#[tactic(auto, using(use_text::specs::Page::same, use_report_laws::specs::Cases::outcome_finished))]
 fn put_outcome(out: &mut Bytes, at: usize, ending: Ending, carried: usize) -> usize
     ensures { Put out.old at (outcome_line ending carried) out.new result }
 {
@@ -47,6 +50,7 @@ fn put_closed(out: &mut Bytes, at: usize, closed: bool) -> usize
 }
 
 // 01: "the board line is the highest filled round (0 for none) and D"; the third field is the closed mark.
+#[tactic(auto, using(use_text::specs::Page::after_parts))]
 fn put_board(out: &mut Bytes, at: usize, s: Session) -> usize
     ensures { Put out.old at (board_line s) out.new result }
 {
@@ -56,6 +60,7 @@ fn put_board(out: &mut Bytes, at: usize, s: Session) -> usize
 }
 
 // The report of a run, from `at` on. "A refused sheet gives only" its line; any other the tally, the board and the seats.
+#[tactic(auto, using(use_text::specs::Page::after, use_text::specs::Page::same, use_text::specs::Page::nothing, use_report_laws::specs::Cases::more_lines_law))]
 pub fn put_lines(out: &mut Bytes, at: usize, ran: Ran) -> usize
     ensures { Put out.old at (report_of ran) out.new result }
 {

@@ -1,4 +1,6 @@
 // A seat's status, the end of its line (01, "The board report").
+#![tactic(auto)]
+
 ghost use Rattle.std.specs.Prelude.{◌++◌};
 ghost use Rattle.model_report.specs.Report.{newline, status_words};
 ghost use Rattle.use_text.specs.Page.{Put};
@@ -7,6 +9,7 @@ use model::{Phase, Process};
 use use_text::{Bytes, put_line, put_words};
 
 // ".. one of "out", "working ROUND VALUE", "spent VALUE", "crashed" or "decided VALUE"", and the line's end.
+#[tactic(auto, using(use_text::specs::Page::same, use_report_laws::specs::Cases::status_working))]
 pub fn put_status(out: &mut Bytes, at: usize, q: Process) -> usize
     ensures { Put out.old at (status_words q.phase q.round q.estimate ++ newline) out.new result }
 {

@@ -1,4 +1,6 @@
 // The board report (document 01, "The board report"): the lines that are printed for a sheet, as bytes.
+#![tactic(auto)]
+
 ghost use Rattle.std.specs.Prelude.{◌≡◌, ◌-◌, ◌≤◌, ◌++◌, length, replicate};
 ghost use Rattle.model_report.specs.Report.{report_of as report_for, report as sheet_report};
 ghost use Rattle.use_text.specs.Page.{page_size};
@@ -7,13 +9,14 @@ use model::{Caller, Ran};
 use use_text::Bytes;
 
 // A report: the first `len` of the bytes, with zeros behind them. The longest fits.
-#[derive(Drop)]
+#[derive(Clone, Copy)]
 pub struct Text {
     pub bytes: Bytes,
     pub len: usize,
 }
 
 // The report of a run.
+#[tactic(auto, using(base::specs::Arrays::length_mapped, use_report_laws::specs::Whole::whole))]
 pub fn report_of(ran: Ran) -> Text
     ensures len_value { (result.len ≡ length (report_for ran)) × (result.len ≤ page_size) }
     ensures bytes_value { result.bytes ≡ report_for ran ++ replicate (page_size - result.len) 0 }
@@ -24,6 +27,7 @@ pub fn report_of(ran: Ran) -> Text
 }
 
 // The report of a sheet that is run "with a budget of 10,921". 02, wish 9: "the C entry and the report use the server's" limits.
+#[tactic(auto, using(use_report_laws::specs::Whole::report_of_run))]
 pub fn report(sheet: &[u8]) -> Text
     ensures len_value { (result.len ≡ length (sheet_report sheet.now)) × (result.len ≤ page_size) }
     ensures bytes_value { result.bytes ≡ sheet_report sheet.now ++ replicate (page_size - result.len) 0 }

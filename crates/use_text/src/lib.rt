@@ -1,5 +1,7 @@
 // Text put on a page, from a place on: words and numbers in decimal. Each function returns the place behind what it put; what does not
 // fit on the page is cut off.
+#![tactic(auto)]
+
 ghost use Rattle.std.specs.Prelude.{[], ◌∷◌, ◌++◌};
 ghost use Rattle.model_report.specs.Report.{decimal, newline};
 ghost use Rattle.use_text.specs.Page.{Put};
@@ -12,6 +14,7 @@ pub const SIZE: usize = 5120;
 pub type Bytes = [u8; SIZE];
 
 // One byte.
+#[tactic(auto, unfolding(crate::specs::Page::put_byte, crate::specs::Page::put_all))]
 fn put_byte(out: &mut Bytes, at: usize, b: u8) -> usize
     ensures { Put out.old at (b ∷ []) out.new result }
 {
@@ -23,6 +26,7 @@ fn put_byte(out: &mut Bytes, at: usize, b: u8) -> usize
 }
 
 // Words.
+#[tactic(auto, using(crate::specs::Page::nothing, crate::specs::Page::same, crate::specs::Page::after))]
 pub fn put_words(out: &mut Bytes, at: usize, words: &[u8]) -> usize
     ensures { Put out.old at words.now out.new result }
 {
@@ -34,6 +38,7 @@ pub fn put_words(out: &mut Bytes, at: usize, words: &[u8]) -> usize
 }
 
 // A number in decimal: its last digit behind the others.
+#[tactic(auto, using(crate::specs::Page::after, crate::specs::Page::same, crate::specs::Numbers::digits_low, crate::specs::Numbers::digits_last))]
 fn put_number(out: &mut Bytes, at: usize, v: usize) -> usize
     ensures { Put out.old at (decimal v) out.new result }
 {
@@ -45,6 +50,7 @@ fn put_number(out: &mut Bytes, at: usize, v: usize) -> usize
 }
 
 // Words and numbers, a space before each number.
+#[tactic(auto, using(crate::specs::Page::after, crate::specs::Numbers::last_field))]
 pub fn put_fields(out: &mut Bytes, at: usize, words: &[u8], fields: &[usize]) -> usize
     ensures { Put out.old at (with_fields words.now fields.now) out.new result }
 {
@@ -57,6 +63,7 @@ pub fn put_fields(out: &mut Bytes, at: usize, words: &[u8], fields: &[usize]) ->
 }
 
 // Words and numbers on a line of their own.
+#[tactic(auto, using(crate::specs::Page::after))]
 pub fn put_line(out: &mut Bytes, at: usize, words: &[u8], fields: &[usize]) -> usize
     ensures { Put out.old at (with_fields words.now fields.now ++ newline) out.new result }
 {

@@ -1,7 +1,0 @@
--- `session_propose::propose` meets its contract: the answer is that of `session_propose::propose_as`, of a session. Assumes nothing.
-use borrow.Author.Rules.{rules}
-use Rattle.session_propose.proofs.propose.Statement.{statement}
-use Rattle.session_propose.proofs.propose.Tie as tie
-
-pub propose-spec : {M : Type 1} → statement M
-propose-spec = tie.close (tie.spec (λ c κs. search rules) (λ c. c.propose-as.ensures))
