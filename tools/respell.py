@@ -42,6 +42,10 @@ def wants(name):
     return bool(re.match(r"[a-z]", name)) and bool(re.search(r"[A-Z]|-", name)) and re.fullmatch(r"[\w'₀-₉ⁿ-]+", name) is not None
 
 
+# What base passes on of the libraries.
+PASSED_ON = set()
+
+
 def files(*ends):
     listed = subprocess.run(["git", "ls-files"], capture_output=True, text=True, check=True).stdout.splitlines()
     return [p for p in listed if p.endswith(ends) and os.path.exists(p)]
@@ -82,7 +86,7 @@ def declared():
 
 def imported(text):
     """The names that a text takes from the libraries, and not from the repository's crates."""
-    taken = set()
+    taken = set(PASSED_ON)
     own = set(os.listdir("crates"))
     for match in USE.finditer(text):
         parts = match.group(1).split(".")
@@ -127,6 +131,9 @@ class Loose(dict):
 
 
 def main():
+    for path in ("crates/base/specs/Prelude.antt", "crates/base/specs/Walks.antt"):
+        if os.path.exists(path):
+            PASSED_ON.update(word for match in USE.finditer(read(path)) for item in match.group(2).split(",") for word in item.split())
     found = declared()
     names = {name: OTHERWISE.get(name, snake(name)) for name in found}
     every = set(names)

@@ -1,5 +1,5 @@
 -- The answer of a turn, by the number of its first refusal and by what is left where it is 0.
-use Rattle.base.specs.Prelude.{ℕ, suc, zero, ◌<◌, ◌%◌, arith, ◌≡◌, refl, sym, ◌∙◌, Bool, true, false, cond, not, ◌∷◌, leb_false}
+use Rattle.base.specs.Prelude.{ℕ, suc, zero, ◌<◌, ◌%◌, arith, ◌≡◌, refl, sym, ◌∙◌, Bool, true, false, cond, not, ◌∷◌, leb-false}
 use Rattle.model_laws.specs.Types.{Session, Counts}
 use Rattle.model.specs.Window.{window}
 use Rattle.model.specs.Board.{process_at}
@@ -24,7 +24,7 @@ pub record TurnAccepted (s : Session) (c : Counts) (p : ℕ) : Type 0 where
 pub turn_accepted : (s : Session) (c : Counts) (p : ℕ) → refusal (turn_tests s c p) ≡ 0 → TurnAccepted s c p
 turn_accepted s c p e =
     let a = none_holds (turn_tests s c p) (omega arith) e in
-    record { below = leb_false s.n p a.0; inside = a.1.0; here = a.1.1.0; room = a.1.1.1.0 }
+    record { below = leb-false s.n p a.0; inside = a.1.0; here = a.1.1.0; room = a.1.1.1.0 }
 
 -- ---- a turn of any poll
 

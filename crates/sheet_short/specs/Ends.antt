@@ -1,5 +1,5 @@
 -- What the two calls answer and leave, from what the cycle does.
-use Rattle.base.specs.Prelude.{ℕ, ◌+◌, ◌≡◌, refl, sym, ap, ◌∙◌, List, [], ◌∷◌, append-nil, length, drop_of_length_le, sets, sets-eq, arith}
+use Rattle.base.specs.Prelude.{ℕ, ◌+◌, ◌≡◌, refl, sym, ap, ◌∙◌, List, [], ◌∷◌, append-nil, length, drop_of_length-le, sets, sets-eq, arith}
 use Rattle.base.specs.Prelude.{Bool, true, false, not, eqb, eqb-true, true≢false}
 use Rattle.base.specs.Bools.{and_left}
 use Rattle.model.specs.Window.{window}
@@ -21,7 +21,7 @@ use Rattle.sheet_short.specs.Cycle.{Chosen, rest_lists, stored}
 -- A list of bytes as long as the buffer, stored from its start on.
 sets_all : (b vs : List ℕ) → length vs ≡ length b → sets b 0 vs ≡ vs
 sets_all b vs h =
-    sets-eq vs b 0 (omega arith) ∙ rw (drop_of_length_le b {i = 0 + length vs} (omega arith)) (append-nil vs)
+    sets-eq vs b 0 (omega arith) ∙ rw (drop_of_length-le b {i = 0 + length vs} (omega arith)) (append-nil vs)
 
 -- ---- a call that is refused before it searches
 

@@ -3,7 +3,7 @@ use Rattle.std.proofs.lemmas.Simd.{map-map}
 use Rattle.std.proofs.Common.{map-id}
 use Rattle.std.proofs.Math.ListN.{get_or-map}
 use Rattle.base.specs.Prelude.{ℕ, suc, zero, ◌+◌, ◌-◌, arith, ◌≡◌, refl, sym, List, [], ◌∷◌, map, length, get_or, set}
-use Rattle.base.specs.Prelude.{drop, drop-cons, drop_of_length_le}
+use Rattle.base.specs.Prelude.{drop, drop-cons, drop_of_length-le}
 use Rattle.model_house.specs.declared.Row.{Row}
 use Rattle.model_house.specs.declared.Table.{Table}
 use Rattle.model_house.specs.House.{no_row, table_at, with_entry}
@@ -28,7 +28,7 @@ module _ {A : Type 0} (l : List A) (d : A) where
   listed i (suc k) = get_or l i d ∷ listed (suc i) k
 
   listed_drop : (i k : ℕ) → length l ≡ i + k → listed i k ≡ drop i l
-  listed_drop i zero size = sym (drop_of_length_le l {i = i} (omega arith))
+  listed_drop i zero size = sym (drop_of_length-le l {i = i} (omega arith))
   listed_drop i (suc k) size = rw (listed_drop (suc i) k (omega arith), drop-cons l i d (omega arith))
 
   pub eight : length l ≡ 8 → listed 0 8 ≡ l

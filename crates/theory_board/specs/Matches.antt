@@ -1,6 +1,6 @@
 -- The registers of a session are what the past wrote; one register operation with its event keeps this.
 use Rattle.base.specs.Prelude.{ℕ, ◌-◌, ◌≤◌, arith, ℕ_discrete, ◌≡◌, refl, sym, ◌∙◌, ap, Bool, true, false, cond, List, ◌∷◌, length, get_or}
-use Rattle.base.specs.Prelude.{set, length_set, get_or-set_same, get_or-set_other, eqb, eqb-true, eqb-false, eq-eqb, ne_eqb}
+use Rattle.base.specs.Prelude.{set, length-set, get_or-set_same, get_or-set_other, eqb, eqb-true, eqb-false, eq-eqb, ne_eqb}
 use Rattle.base.specs.Bools.{cond_cases}
 use Rattle.model_laws.specs.Types.{Access, Nothing, ReadValue, WriteValue, ReadMark, SetMark, ReadDecision, WriteDecision, Session}
 use Rattle.model.specs.Board.{value_at, mark_at}
@@ -63,7 +63,7 @@ module _ {s : Session} {h : List Event} (long : Long s) (k : Matches s h) where
       Long (stored s (WriteValue r) v) × Matches (stored s (WriteValue r) v) (write p r v ∷ h)
   unfolding stored
   write_matches p r v ok = (
-    record { values = simp length_set long.values; marks = long.marks; processes = long.processes },
+    record { values = simp length-set long.values; marks = long.marks; processes = long.processes },
     record {
       values = λ j b. set_read s.values r j v 0 ok.0 b (omega (arith, long.values)) ∙ ap (cond (eqb r j) v) (k.values j b);
       marks = λ j b. still_marked (λ e. let z : ◌≡◌ {A = ℕ} 0 1 = cc in omega arith) (k.marks j b);
@@ -76,7 +76,7 @@ module _ {s : Session} {h : List Event} (long : Long s) (k : Matches s h) where
       Long (stored s (SetMark i) v) × Matches (stored s (SetMark i) v) (flag i ∷ h)
   unfolding stored
   flag_matches i v ok = (
-    record { values = long.values; marks = simp length_set long.marks; processes = long.processes },
+    record { values = long.values; marks = simp length-set long.marks; processes = long.processes },
     record {
       values = k.values;
       marks =

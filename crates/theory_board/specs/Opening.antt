@@ -1,5 +1,5 @@
 -- A session just opened, with nothing past, keeps the invariant, at any window.
-use Rattle.base.specs.Prelude.{ℕ, suc, zero, ◌-◌, ◌≤◌, ◌≡◌, refl, sym, ◌∙◌, true≢false, [], get_or, replicate, length_replicate}
+use Rattle.base.specs.Prelude.{ℕ, suc, zero, ◌-◌, ◌≤◌, ◌≡◌, refl, sym, ◌∙◌, true≢false, [], get_or, replicate, length-replicate}
 use Rattle.model.specs.Board.{opened, idle, max_processes, max_rounds}
 use Rattle.theory_board.specs.Past.{past_none}
 use Rattle.theory_board.specs.Lawful.{none}
@@ -15,7 +15,7 @@ pub opened_invariant : (W n L : ℕ) → n ≤ max_processes → L ≤ max_round
 unfolding opened
 opened_invariant W n L few low =
     record {
-      long = record { values = simp length_replicate low; marks = simp length_replicate low; processes = simp length_replicate few };
+      long = record { values = simp length-replicate low; marks = simp length-replicate low; processes = simp length-replicate few };
       lawful = none;
       stands =
           λ p.

@@ -1,7 +1,7 @@
 -- A house just opened, with nothing past, is held.
 use Rattle.std.proofs.lemmas.List.{get_or-replicate}
 use Rattle.base.specs.Prelude.{ℕ, zero, suc, ◌+◌, ◌-◌, ◌*◌, arith, ◌≡◌, refl, ap, Bool, true≢false, List, [], ◌++◌, length, get_or, replicate}
-use Rattle.base.specs.Prelude.{length_replicate, inl}
+use Rattle.base.specs.Prelude.{length-replicate, inl}
 use Rattle.model_laws.specs.Types.{Session}
 use Rattle.model.specs.Window.{window}
 use Rattle.model.specs.Board.{process_at, opened, idle, max_processes}
@@ -23,8 +23,8 @@ opened_boards : {poll : Bool} {k L : ℕ} (size : ℕ) → Reached poll (window 
 unfolding opened
 opened_boards {k = k} {L = L} size r =
     record {
-      long = length_replicate size (opened k L);
-      many = length_replicate {A = List Event} size [];
+      long = length-replicate size (opened k L);
+      many = length-replicate {A = List Event} size [];
       each = λ i low. rw (get_or-replicate size i (opened k L) no_session low, same_everywhere {A = List Event} size i []) (r, refl);
     }
 

@@ -1,6 +1,6 @@
 -- Windows that are too short (document 02, wish 7), and which windows are safe for how many processes.
 use Rattle.base.specs.Prelude.{ℕ, suc, zero, ◌+◌, ◌*◌, ◌-◌, ◌/◌, ◌≤◌, ◌<◌, arith, mul-le-mul, add-zero, add_assoc, ◌≡◌, refl, sym, ◌∙◌, ap}
-use Rattle.base.specs.Prelude.{ap₂, subst, ℕ_discrete, dec_le, lt_of_not_le, Bool, true, cond, ◌&&◌, List, [], ◌∷◌, ◌++◌, leb, ltb, le-leb}
+use Rattle.base.specs.Prelude.{ap₂, subst, ℕ_discrete, dec_le, lt_of_not-le, Bool, true, cond, ◌&&◌, List, [], ◌∷◌, ◌++◌, leb, ltb, le-leb}
 use Rattle.base.specs.Bools.{and_left, and_right}
 use Rattle.model_laws.specs.Types.{Limits, Session}
 use Rattle.model.specs.Window.{window, root_up, root_from}
@@ -145,7 +145,7 @@ pub exact_windows : ExactWindows
 exact_windows most limits W n L least accepted = (
   λ below. below_threshold (λ m. W) n L below most limits,
   λ rule.
-      lt_of_not_le λ enough. rule_broken most W n L (is_broken most limits W n L least accepted enough) enough accepted rule,
+      lt_of_not-le λ enough. rule_broken most W n L (is_broken most limits W n L least accepted enough) enough accepted rule,
 )
 
 pub different_decisions : DifferentDecisions
