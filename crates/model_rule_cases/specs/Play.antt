@@ -43,7 +43,7 @@ module _ {State O Answer Event : Type 0} (M : System State (Input O) Answer Even
       played s h (os ++ more) ≡ played (played s h os).0 (played s h os).1 more
   unfolding played
   played_append s h [] more = refl
-  played_append s h (o ∷ os) more = played_append _ _ os more
+  played_append s h (o ∷ os) more = played_append (M.state (M.perform s (uncounted o))) _ os more
 
 -- ---- the calls
 
