@@ -54,8 +54,13 @@ raws_at_written front (e ∷ l) h =
     = sym (append_assoc front (raw_bytes e) (list_bytes l)) in
     let size : length front + 6 ≡ length (front ++ raw_bytes e) = sym (length-append front (raw_bytes e)) in
     let low : e.value < 4294967296 = omega (arith, leb-true e.value 4294967295 (and_left (small e) _ h)) in
-    rw (raw_at_written front (list_bytes l) e low, size, all)
-    (ap (λ (t : List RawEntry). e ∷ t) (raws_at_written (front ++ raw_bytes e) l (and_right (small e) _ h)))
+    let first : raw_at (front ++ (raw_bytes e ++ list_bytes l)) (length front) ≡ e = raw_at_written front (list_bytes l) e low in
+    let others : raws_at (front ++ (raw_bytes e ++ list_bytes l)) (length front + 6) (length l) ≡ l
+    = ap (λ (i : ℕ). raws_at (front ++ (raw_bytes e ++ list_bytes l)) i (length l)) size
+    ∙ (ap (λ (t : List ℕ). raws_at t (length (front ++ raw_bytes e)) (length l)) all
+    ∙ raws_at_written (front ++ raw_bytes e) l (and_right (small e) _ h)) in
+    ap (λ (t : RawEntry). t ∷ raws_at (front ++ (raw_bytes e ++ list_bytes l)) (length front + 6) (length l)) first
+    ∙ ap (λ (t : List RawEntry). e ∷ t) others
 
 choices_small : (n : ℕ) → OneOrTwo n → every small (choices n) ≡ true
 unfolding choices
