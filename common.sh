@@ -72,21 +72,22 @@ crates_of() {
             for (i = split(needed[name], parts, " "); i > 0; i--) found += count(parts[i])
             return found
         }
-        /^[^# ]/ { needed[$1] = $2 }
+        /^[^# ]/ { split($1, words, " "); needed[words[1]] = $2 }
         END { print count(crate) }' "$root/crates.txt"
 }
 
-# CRATE: what rt says of the crate and what that is made of, on standard input, goes to standard output; each crate is told as it is proved.
+# CRATE: what rt says of the crate and what that is made of, on standard input, goes to standard output; each crate that is proved is told as
+# it is. Of one that has not changed rt says nothing.
 proving() {
-    local line proved=0 all began=$SECONDS
+    local line of=$1 proved=0 all began=$SECONDS
     all=$(crates_of "$1")
     tell "proving $1 and what it is made of, $all crates"
     while IFS= read -r line || [[ -n $line ]]; do
         printf '%s\n' "$line"
-        # rt staticlib says of the crate itself that its archive is there.
-        [[ $line =~ ^rt:\ ([A-Za-z0-9_]+)\ proved\ \( || $line =~ ^rt:\ .*/lib([A-Za-z0-9_]+)\.a\ has\  ]] || continue
+        if [[ $line =~ ^crate\ ([a-z0-9_]+):\ modules\  ]]; then of=${BASH_REMATCH[1]}; fi
+        [[ $line == "logic=proved "* ]] || continue
         proved=$((proved + 1))
-        tell "proved $proved of $all: ${BASH_REMATCH[1]}"
+        tell "proved $of"
     done
-    tell_end "proved $proved of $all crates of $1 in $((SECONDS - began)) s"
+    tell_end "proved $1, $proved of its $all crates anew, in $((SECONDS - began)) s"
 }

@@ -7,8 +7,9 @@ trap 'echo "scripts: line $LINENO: $BASH_COMMAND"' ERR
 takes_nothing "$@"
 needs python3 script
 cd "$root"
-out=$root/target/tests/scripts
-rm -rf "$out"
+# rt ci takes no crates.txt below the top of the repository: the tree stands outside it.
+out=$(mktemp -d)
+trap 'rm -rf "$out"' EXIT
 mkdir -p "$out/bin" "$out/bare" "$out/tree/examples" "$out/tree/crates" "$out/elsewhere"
 count=0
 
@@ -126,33 +127,32 @@ cat >"$out/bin/rt" <<'RT'
 # In place of rt: tells of three crates, and makes a program or an archive that says how often rt was called and shows its input.
 # With a file called broken in the tree it fails after the first crate; with one called slow it goes on after that only when there is
 # one called seen.
-echo "$*" >>calls
-case $1 in
-fmt) exit ;;
-ci)
-    rm -rf target
-    printf '%s\n' "rt: base proved (1 s)" "4 passed, $(cat failing 2>/dev/null || echo 0) failed"
+if [[ $1 == ci ]]; then
+    echo "$*" >>calls
+    printf '%s\n' "rt: base proved" "rt: ok; handles allowed: none; must-fail edits: 7 refused$(cat bad 2>/dev/null); done in this run: 1 of the 2 proofs" \
+        "4 passed, $(cat failing 2>/dev/null || echo 0) failed"
+    [[ ! -e failing ]]
     exit
-    ;;
-esac
-echo "fn base::first: proved"
-echo "rt: base proved (unchanged since it was last proved)"
-[[ ! -e broken ]] || { echo "a proof that failed"; echo "rt: model NOT PROVED (exit 1, 1 s)"; exit 1; }
-while [[ -e slow && ! -e seen ]]; do sleep 0.05; done
-printf '%s\n' "rt: model proved (2 s)" "a note, and no end of words"
+fi
+top=../..
+crate=$(basename "$PWD")
+echo "$* $crate" >>$top/calls
+[[ $1 == lib ]] || exec 3>&1 >&2
+proved() { printf '%s\n' "fn $1::first: proved" "library std: modules loaded=1 checked=0" "crate $1: modules loaded=2 checked=1" "logic=proved functions=1"; }
+proved base
+[[ ! -e $top/broken ]] || { printf '%s\n' "crate model: modules loaded=2 checked=1" "a proof that failed" "logic=not-proved"; exit 1; }
+while [[ -e $top/slow && ! -e $top/seen ]]; do sleep 0.05; done
+proved model
+echo "a note, and no end of words"
+proved "$crate"
 case $1 in
-check)
-    made=target/bin/$2
-    printf '%s\n' "rt: $2 proved (0 s)" "rt: $2 ran as nobody" "rt: ok, 3 crates proved"
-    ;;
-staticlib)
-    made=target/staticlib/lib$2.a
-    echo "rt: $made has the functions of $2 that are marked"
-    ;;
+run) made=out/$crate ;;
+lib) made=out/lib$crate.a ;;
 esac
-mkdir -p "$(dirname "$made")"
-printf '#!/bin/sh\necho build %s\ncat\n' "$(wc -l <calls)" >"$made"
+mkdir -p out
+printf '#!/bin/sh\necho build %s\ncat\n' "$(wc -l <$top/calls)" >"$made"
 chmod +x "$made"
+[[ $1 == lib ]] || { echo "rt: running $made"; exec "$made" >&3; }
 RT
 chmod +x "$out/bin/rt"
 cat >"$out/tree/crates.txt" <<'CRATES'
@@ -164,8 +164,12 @@ use_report: io base model
 use_binder: io base model
 test_poll: model base
 test_house: model base
-janus: model
+janus staticlib: model
 CRATES
+for crate in base model other use_report use_binder test_poll test_house janus; do
+    mkdir -p "$out/tree/crates/$crate/src"
+    echo "what is stored" >"$out/tree/crates/$crate/stdin"
+done
 cp -r build.sh common.sh install.sh include "$out/tree"
 cp examples/{report.sh,binder.sh,poll.sh,house.sh,poll.py,house.py,sheet.py,two_decide.sheet,two_answers.poll,two_wards.house} "$out/tree/examples"
 cd "$out/elsewhere"
@@ -175,8 +179,8 @@ cp "$list" here.txt
 # CRATE: what is told while it is proved, but for the seconds.
 told_of() {
     echo "proving $1 and what it is made of, 3 crates"
-    printf 'proved %s of 3: %s\n' 1 base 2 model 3 "$1"
-    echo "proved 3 of 3 crates of $1 in N s"
+    printf 'proved %s\n' base model "$1"
+    echo "proved $1, 3 of its 3 crates anew, in N s"
 }
 without_seconds() { sed -E 's/ in [0-9]+ s/ in N s/' "$@"; }
 
@@ -195,11 +199,11 @@ told 2 'this is no file that can be read' "$report" .
 same <(wc -l <"$out/tree/calls") <(echo 1)
 
 # A crate is told when it is proved, not at the end.
-touch "$out/tree/slow" "$out/tree/crates/changed"
+touch "$out/tree/slow" "$out/tree/crates/model/src/changed"
 "$report" here.sheet >stdout 2>stderr &
 running=$!
 for _ in {1..200}; do
-    if grep -q 'proved 1 of 3' stderr; then break; fi
+    if grep -q 'proved base' stderr; then break; fi
     sleep 0.05
 done
 same stderr <(told_of use_report | head -n 2)
@@ -209,15 +213,22 @@ same <(without_seconds stderr) <(told_of use_report)
 same stdout <(echo build 2; cat here.sheet)
 rm "$out/tree/slow" "$out/tree/seen"
 
-# On a terminal each takes the place of the one before, and only the last one stays.
+# What rt ci has made anew of the same files is taken as it is.
+printf '#!/bin/sh\necho by the gate\n' >"$out/tree/crates/use_report/out/use_report"
 rm "$out/tree/target/bin/use_report"
+"$report" here.sheet >stdout 2>stderr
+same stdout <(echo by the gate)
+same stderr /dev/null
+
+# On a terminal each takes the place of the one before, and only the last one stays.
+rm -r "$out/tree/crates/use_report/out" "$out/tree/target/bin/use_report"
 script -qec "$(printf %q "$report") here.sheet" /dev/null </dev/null >terminal
 same <(head -n 1 terminal | sed 's/\r$//; s/\r\x1b\[K/\n/g' | tail -n +2 | without_seconds) <(told_of use_report)
 same <(sed -n 2p terminal) <(printf 'build 3\r\n')
 
-touch "$out/tree/broken" "$out/tree/crates/changed"
+touch "$out/tree/broken" "$out/tree/crates/model/src/changed"
 told 1 'a proof that failed' "$report" here.sheet
-same <(head -n 3 "$out/stderr" | without_seconds) <(told_of use_report | sed -n '1,2p; 5s/3 of/1 of/p')
+same <(head -n 3 "$out/stderr" | without_seconds) <(told_of use_report | sed -n '1,2p; 5s/3 of its/1 of its/p')
 same <(tail -n 1 "$out/stderr") <(echo "build.sh: use_report was not built; what was said is above")
 
 # ---------------------------------------------------------------- poll.sh
@@ -274,16 +285,27 @@ mkdir -p "$out/tree/.ci" "$out/tree/tests"
 cp "$root/.ci/run" "$out/tree/.ci/run"
 echo 'echo what the first says' >"$out/tree/tests/first.sh"
 echo 'echo what the longest says' >"$out/tree/tests/theorem_edits.sh"
+rm "$out/tree/calls"
 "$out/tree/.ci/run" >stdout 2>stderr
-same <(head -n 3 stdout) <(printf '%s\n' "rt: base proved (1 s)" "4 passed, 0 failed" "2 tests, $(nproc) at a time")
-same <(tail -n +4 stdout | head -n 2 | sort | sed -E 's/ [0-9]+ s$/ N s/') <(printf 'tests/%s.sh passed, N s\n' first theorem_edits)
-same <(tail -n +6 stdout) <(echo "4 passed, 0 failed")
+same "$out/tree/calls" <(echo ci)
+same <(sed -n 1p stdout) <(echo "rt: base proved")
+same <(sed -n 3,4p stdout) <(printf '%s\n' "4 passed, 0 failed" "2 tests, $(nproc) at a time")
+same <(tail -n +5 stdout | head -n 2 | sort | sed -E 's/ [0-9]+ s$/ N s/') <(printf 'tests/%s.sh passed, N s\n' first theorem_edits)
+same <(tail -n +7 stdout) <(echo "4 passed, 0 failed")
 same "$out/tree/target/said/tests/first.sh" <(echo what the first says)
 echo 'echo what the second says; exit 3' >"$out/tree/tests/second.sh"
 if "$out/tree/.ci/run" >stdout 2>stderr; then echo "scripts: the gate lets a test fail"; exit 1; fi
 grep -qE '^tests/second.sh FAILED, [0-9]+ s$' stdout
 same <(tail -n 3 stdout) <(printf '%s\n' "== tests/second.sh FAILED" "what the second says" "1 of 3 tests FAILED")
 rm "$out/tree/tests/second.sh"
+for bad in ', 1 bad' ', 2 of them only by a limit, 10 bad'; do
+    echo "$bad" >"$out/tree/bad"
+    if "$out/tree/.ci/run" >stdout 2>stderr; then echo "scripts: the gate lets an edit be bad$bad"; exit 1; fi
+    same <(tail -n 1 stdout) <(echo "must-fail edits that are BAD, as rt ci tells them above: the gate FAILED")
+done
+echo ', 2 of them only by a limit' >"$out/tree/bad"
+"$out/tree/.ci/run" >stdout 2>stderr
+rm "$out/tree/bad"
 echo 1 >"$out/tree/failing"
 if "$out/tree/.ci/run" >stdout 2>stderr; then echo "scripts: the gate lets a crate fail"; exit 1; fi
 same <(tail -n 1 stdout) <(echo "4 passed, 1 failed")
