@@ -97,7 +97,7 @@ fn same(x: RawEntry, y: RawEntry) -> bool
 }
 
 // The number of an entry; 5n if no list may have it.
-#[tactic(auto, using(model_short_laws::specs::Numbered::index_end, model_short_laws::specs::Numbered::index_here, model_short_laws::specs::Numbered::index_next), unfolding(model_short::specs::Short::choices, model_short_laws::specs::Entries::index_in))]
+#[tactic(auto, using(model_short_laws::specs::Numbered::index_end, model_short_laws::specs::Numbered::index_here, model_short_laws::specs::Numbered::index_next))]
 pub fn number_of(n: u8, x: RawEntry) -> usize
     ensures { (result ≡ index_in x (choices n)) × (result ≤ 5 * n) }
 {
