@@ -1,11 +1,12 @@
 -- The names of the program logic that a walk by hand uses, passed on as they are but for five, whose names two modules have: `Names` (an
 -- environment of routines), `Operand` and `Code` (of the MIR), `Steps` (`types.Run.Walks`) and `someone` (an item that somebody holds).
-pub use seplogic.Ra.TreeShare.{full_share}
+-- `Logic` is all that the library `types` takes for granted: a heap, the ghost state's atoms and their laws, in one.
 pub use seplogic.Ra.Ura.{Ura}
 pub use mir.Fields.{get_v}
-pub use mir.Syntax.{Body as Code, Fn, Symbol as Name, Opd as Operand, Place, Ty, Width, call, copy, field, named, place, seq, ty_bool, w64}
+pub use mir.Syntax.{Body as Code, Callee, Fn, Opd as Operand, Place, Ty, Width, call, copy, field, named, place, seq, ty_bool, w64}
 pub use mir.Val.{Val, of_list, vbool, vint, vptr}
 pub use base.Fml.{Fml, GName, Share, fat, fauth, fdies, flent, flft, fobor, fobs, fres, froom, fsep, ftrue}
+pub use base.Fraction.{full_share}
 pub use base.Logic.{SProp, emp, ent, ex, fst∗, id⊢, mono_r, sep, via}
 pub use prog.Memory.{field_at}
 pub use prog.Model.{Model}
@@ -20,6 +21,7 @@ pub use sound.WpLaws.{FmC, WpFn-mono, fm_of}
 pub use types.Kit.{ !, Go, Goal, Item, Post, Seq, Soaks, Step, ◌$◌, ◌∵◌, ◌⊛◌, allocs, at_ret, await, by, del, done, drop, feq_i, fjoin}
 pub use types.Kit.{fjoin3, fpack, fpick, frees, fsplit, fsplit3, given, group, join, keep, lands, later, learn, move, nth, params', pick}
 pub use types.Kit.{qed, raw, runs, some as someone, split, step, suffices, use0, use1, use2, use3, ‵, ⋆}
+pub use types.Logic.{Logic, sem}
 pub use types.Part.{Part, agg, look_in, sub, whole}
 pub use types.Run.{Opd, Opds, Walks as Steps, addr, alloc0, alloc1, and_then, assigns, enter, fld, forget, free0, free1, from, hop, init}
 pub use types.Run.{land, load, look, look_raw, no_more, of_opd, params1, pass0, pass1, returns, stop, store_raw}

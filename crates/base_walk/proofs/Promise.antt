@@ -9,18 +9,18 @@
 --     Promise          what is taken, what is given, the answer, and the last value of each reference that is taken
 --     ended            the signature.        Claim, triple      what a contract says of arguments, result and last values, and the contract
 --                      that says it. A generated module has the same, by computation
---     token, own-all, on-entry, bound      the lifetimes' tokens, what the arguments own, what a call is handed, and the same as the
+--     token, own_all, on_entry_of, bound      the lifetimes' tokens, what the arguments own, what a call is handed, and the same as the
 --                                          contract binds it
 --     had              what is had of the parameters at exit
 -- What is shown of a Row's laws takes `Logic`. The rest assumes nothing.
 use Rattle.base.specs.Prelude.{◌≡◌, refl, ℕ, List, [], ◌∷◌}
-use Rattle.base.specs.Walks.{Ura, Width, Val, vint, vbool, SProp, emp, ex, sep, Fml, ftrue, sem, Lfts, Shares, fact}
+use Rattle.base.specs.Walks.{Ura, Logic, Width, Val, vint, vbool, SProp, emp, ex, sep, Fml, ftrue, sem, Lfts, Shares, fact}
 use Rattle.base.specs.Walks.{yes, Last, left, RattleType, Denots}
 use Rattle.base.specs.Walks.{Valss, owns, Is, Ises, Tells, Tellss, Spells, valss, Lawful, Slot, plain, types_at, Declared, row as row_of}
 use Rattle.base.specs.Walks.{UInt, Boolean}
-use Rattle.base.specs.Walks.{uint_Tells, uint_Lawful, bool_Tells, bool_Lawful, Ended, Lasts, Fins, all, alive, on_entry, triple_of, Contract}
-use Rattle.base.specs.Walks.{Stay, Stays, fits_of, has_of, Goes, AllGo, Goes-dropped}
-use types.Logic.{Logic, sem}
+use Rattle.base.specs.Walks.{uint_Tells, uint_Lawful, bool_Tells, bool_Lawful, Ended, Lasts, Fins, all, alive, on_entry, triple_of}
+use Rattle.base.specs.Walks.{Contract}
+use Rattle.base.specs.Walks.{Stays, fits_of, has_of, Goes, AllGo, Goes-dropped}
 use denote.Laws.{Lawfuls}
 use denote.Triple.Clauses.{lasts}
 use denote.Struct.Laws as LL

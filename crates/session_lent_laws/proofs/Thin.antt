@@ -4,23 +4,24 @@
 --     CHANGED { code: answer.code, s: answer.s }
 -- Its code, what the two of them promise, and the walk of the one over the other, for whatever s is: a session or a house.
 --     Lending          what s is, and the two answers, with the counts and without
---     takes_two, lent_two, walk-two            without the hint: two parameters before the counts
---     takes-three, lent-three, walk-three      with it
+--     takes_two, lent_two, walk_two            without the hint: two parameters before the counts
+--     takes_three, lent_three, walk_three      with it
 -- Assumes `Logic`.
-use mir.Syntax.{Sym, ty_int, ty_ref, mut, ty_named, local, value_local, deref, assign, rv_opd, aggregate, return, w32}
+use mir.Syntax.{Sym, tnil, ty_int, ty_ref, mut, ty_named, local, value_local, deref, assign, rv_opd, aggregate, return, w32}
 use mir.Val.{vstruct}
-use Rattle.base.specs.Prelude.{◌≡◌, refl, sym, subst, ap₂, ℕ, Bool, [], ◌∷◌, map}
-use Rattle.base.specs.Walks.{Ura, id⊢, flft, ftrue, ‵, raw, ◌⊛◌, ◌$◌, !, by, move, keep, use1, w64}
+use Rattle.base.specs.Prelude.{◌≡◌, refl, sym, subst, ap₂, ℕ, zero, Bool, [], ◌∷◌, map}
+use Rattle.base.specs.Walks.{Ura, Logic, id⊢, flft, ftrue, ‵, raw, ◌⊛◌, ◌$◌, !, by, move, keep, use1, w64}
 use Rattle.base.specs.Walks.{use2, split, fsplit, fjoin, ent, SProp, Val, vint, of_list, Typed, Last, left, yes, Denots, Plains}
 use Rattle.base.specs.Walks.{layout, Declared}
-use Rattle.base.specs.Walks.{fields, shape, row, Fn, Name, Ty, named, ty_bool, place, copy, seq, call, field as part}
+use Rattle.base.specs.Walks.{fields, shape, row, Fn, Callee, Ty, named, ty_bool, place, copy, seq, call, field as part}
 use Rattle.base.specs.Walks.{agg, look, look_raw, init, store_raw, stop, hop, from, load, of_opd, and_then, no_more, assigns, land}
 use Rattle.base.specs.Walks.{returns, alloc1, alloc0, params1, pass1, pass0, free0, Is, owned, nothing}
-use types.Logic.{Logic}
 use denote.Exit.{Exit}
 use denote.Struct.Declared.{field}
+use denote.Struct.Cover.{Cover}
 use denote.Struct.Field.{rows, u32-field}
 use denote.Struct.Laws as LL
+use denote.Struct.Values.{Values}
 use Rattle.base_walk.proofs.Promise.{Args, own_all, token, on_entry_of, Row, uint, truth, struct, Promise}
 use Rattle.base_walk.proofs.Walk.{Walk, gone, asks}
 use Rattle.model.specs.declared.Counts.{Counts}
@@ -33,6 +34,7 @@ pub silent : (D : Declared) → LL.Copyables D.parts → (x : D.D) (w : Last ((r
 silent D copies x = subst (λ (E : Exit D.D). (w : Last E x) → left E x w ≡ ftrue) (sym (LL.still D copies yes)) (λ w. refl)
 
 -- What is operated on, S; the answer with the counts, T, which has a number, what is left of S, and the counts; and without them, R.
+-- T and R are just these parts of theirs (T-cover, R-cover), as is asked of every declared type.
 pub record Lending : Type 2 where
   pub S : Declared
   pub laws : LL.Laws S
@@ -48,12 +50,16 @@ pub record Lending : Type 2 where
   pub T-one : (x y : T-D) →
       ◌≡◌ {A = Denots (rows (u32-field ∷ field S ∷ Ct.the_field ∷ []))} (code x, (S.to (subject x), ((Ct.the_type).to (counts x), tt)))
       (code y, (S.to (subject y), ((Ct.the_type).to (counts y), tt))) → x ≡ y
+  pub T-cover : Cover T-D (Values (u32-field ∷ field S ∷ Ct.the_field ∷ [])) (λ x. (code x, (subject x, (counts x, tt))))
+  pub T-propositions : (v : Values (u32-field ∷ field S ∷ Ct.the_field ∷ [])) → IsProp (T-cover.Ghost v)
   pub R-name : Sym
   pub R-D : Type 0
   pub R-code : R-D → ℕ
   pub R-subject : R-D → S.D
   pub R-one : (x y : R-D) →
       ◌≡◌ {A = Denots (rows (u32-field ∷ field S ∷ []))} (R-code x, (S.to (R-subject x), tt)) (R-code y, (S.to (R-subject y), tt)) → x ≡ y
+  pub R-cover : Cover R-D (Values (u32-field ∷ field S ∷ [])) (λ x. (R-code x, (R-subject x, tt)))
+  pub R-propositions : (v : Values (u32-field ∷ field S ∷ [])) → IsProp (R-cover.Ghost v)
   pub rest : T-D → R-D
   pub same_code : (x : T-D) → R-code (rest x) ≡ code x
   pub same_subject : (x : T-D) → R-subject (rest x) ≡ subject x
@@ -63,10 +69,15 @@ module _ (L : Lending) where
   stepped = record {
     name = L.T-name;
     args = [];
+    types = [];
     parts = u32-field ∷ field L.S ∷ Ct.the_field ∷ [];
     D = L.T-D;
     to = λ x. (L.code x, (L.S.to (L.subject x), ((Ct.the_type).to (L.counts x), tt)));
     to_one = L.T-one;
+    as_values = λ x. (L.code x, (L.subject x, (L.counts x, tt)));
+    to_is = λ x. refl;
+    cover = L.T-cover;
+    propositions = L.T-propositions;
   }
 
   abbrev pub stepped_laws : LL.Laws stepped
@@ -76,10 +87,15 @@ module _ (L : Lending) where
   changed = record {
     name = L.R-name;
     args = [];
+    types = [];
     parts = u32-field ∷ field L.S ∷ [];
     D = L.R-D;
     to = λ x. (L.R-code x, (L.S.to (L.R-subject x), tt));
     to_one = L.R-one;
+    as_values = λ x. (L.R-code x, (L.R-subject x, tt));
+    to_is = λ x. refl;
+    cover = L.R-cover;
+    propositions = L.R-propositions;
   }
 
   abbrev pub changed_laws : LL.Laws changed
@@ -90,12 +106,14 @@ module _ (L : Lending) where
   counts_ty = layout (shape Ct.the_type)
 
   abbrev lent_ty : Ty
-  lent_ty = ty_ref (named 0) mut (ty_named ((Ct.the_type).name, []))
+  lent_ty = ty_ref (named 0) mut (ty_named ((Ct.the_type).name, []) tnil)
 
-  abbrev two_code : Name → Fn
+  abbrev two_code : Callee → Fn
   two_code callee = record {
     lifetimes = 1;
     outlives = [];
+    ty_params = [];
+    givens = zero;
     params = 3;
     locals = map (λ τ. local τ value_local)
         (layout (shape changed) ∷ layout (shape L.S) ∷ ty_int w64 ∷ lent_ty ∷ layout (shape stepped) ∷ counts_ty ∷ []);
@@ -105,10 +123,12 @@ module _ (L : Lending) where
         (seq (assign (place 0 []) (aggregate (copy (place 4 (part 0 ∷ [])) ∷ copy (place 4 (part 1 ∷ [])) ∷ []))) return)));
   }
 
-  abbrev three_code : Name → Fn
+  abbrev three_code : Callee → Fn
   three_code callee = record {
     lifetimes = 1;
     outlives = [];
+    ty_params = [];
+    givens = zero;
     params = 4;
     locals = map (λ τ. local τ value_local)
         (layout (shape changed) ∷ layout (shape L.S) ∷ ty_int w64 ∷ ty_bool ∷ lent_ty ∷ layout (shape stepped) ∷ counts_ty ∷ []);
@@ -203,7 +223,7 @@ module _ (L : Lending) where
         subst (λ (v : Val). Typed (row changed).mir (v ∷ [])) (given_is x)
         ((LL.lawful changed changed_laws 𝓛).typed (L.rest x) _ (rest_of x is))
 
-  pub walk_two : (answer : L.S.D → ℕ → Counts → L.T-D) (name : Name) {M : Type 1} {𝓤 : Ura M} (𝓛 : Logic 𝓤)
+  pub walk_two : (answer : L.S.D → ℕ → Counts → L.T-D) (name : Callee) {M : Type 1} {𝓤 : Ura M} (𝓛 : Logic 𝓤)
       → Walk 𝓛 (two_code name) (lent_two answer) name (takes_two answer)
   walk_two answer name {𝓤 = 𝓤} 𝓛 C Λ callee κs qs a ty Q out =
       let e : Args (takes_two answer) tt = (a.0, (a.1.0, (a.1.1.0.now, tt))) in
@@ -239,7 +259,7 @@ module _ (L : Lending) where
       (raw (token (lent_two answer) 𝓛 κs qs)) (id⊢ 𝓤 _) $ keep ! (1 ∷ 2 ∷ 0 ∷ []) $
       by ! (given_for 𝓤 x Q (out _ refl))))))))))
 
-  pub walk_three : (answer : L.S.D → ℕ → Bool → Counts → L.T-D) (name : Name) {M : Type 1} {𝓤 : Ura M} (𝓛 : Logic 𝓤)
+  pub walk_three : (answer : L.S.D → ℕ → Bool → Counts → L.T-D) (name : Callee) {M : Type 1} {𝓤 : Ura M} (𝓛 : Logic 𝓤)
       → Walk 𝓛 (three_code name) (lent_three answer) name (takes_three answer)
   walk_three answer name {𝓤 = 𝓤} 𝓛 C Λ callee κs qs a ty Q out =
       let e : Args (takes_three answer) tt = (a.0, (a.1.0, (a.1.1.0, (a.1.1.1.0.now, tt)))) in

@@ -7,12 +7,11 @@
 --     at, parts        a reader of a slice and a place, and the two of a reader
 --     together, apart  what its slice and its place own is what the reader owns, and the other way
 -- The promises assume nothing. What is owned takes `Logic`.
-use types.Logic.{Logic, sem}
 use denote.Ref.{Bor}
 use Rattle.base.specs.Prelude.{◌≡◌, refl, ℕ, List, [], ◌∷◌, length}
-use Rattle.base.specs.Walks.{Ura, named, w64, ent, sem, ‵, given, ◌$◌, ◌∵◌, !, qed, use1, move, keep, learn, fsplit}
+use Rattle.base.specs.Walks.{Ura, Logic, named, w64, ent, sem, ‵, given, ◌$◌, ◌∵◌, !, qed, use1, move, keep, learn, fsplit}
 use Rattle.base.specs.Walks.{fjoin, done, Lfts}
-use Rattle.base.specs.Walks.{u8, RefT, now, named_lft, nothing, slice_val, ShrSlice, shr_slice_Tells, shr_slice_Lawful, Declared, own_open}
+use Rattle.base.specs.Walks.{u8, named_lft, nothing, slice_val, ShrSlice, shr_slice_Tells, shr_slice_Lawful, Declared, own_open}
 use Rattle.base.specs.Walks.{own_shut}
 use Rattle.base_walk.proofs.Promise.{Row, by_value, uint, struct, Promise, own_all}
 use denote.Enum.Laws as EL
@@ -51,13 +50,13 @@ reader = struct D L (λ κs x w. refl)
 
 -- ---- the promises
 abbrev pub begins : Promise 1
-begins = record { takes = sheet ∷ []; gives = place; answer = λ κs a. begin (now a.0); ends = λ κs a. (tt, tt) }
+begins = record { takes = sheet ∷ []; gives = place; answer = λ κs a. begin a.0.now; ends = λ κs a. (tt, tt) }
 
 abbrev pub hands : Promise 1
 hands = record {
   takes = sheet ∷ place ∷ [];
   gives = handed;
-  answer = λ κs a. handedAt (now a.0) a.1.0;
+  answer = λ κs a. handedAt a.0.now a.1.0;
   ends = λ κs a. (tt, (tt, tt));
 }
 
@@ -65,7 +64,7 @@ abbrev pub advances : Promise 1
 advances = record {
   takes = sheet ∷ place ∷ [];
   gives = place;
-  answer = λ κs a. advanced (now a.0) a.1.0;
+  answer = λ κs a. advanced a.0.now a.1.0;
   ends = λ κs a. (tt, (tt, tt));
 }
 
@@ -88,7 +87,7 @@ parts d = (d.sheet, (d.place, tt))
 module _ {M : Type 1} {𝓤 : Ura M} (𝓛 : Logic 𝓤) (κs : Lfts 1) (s : Bor (List ℕ)) (p : ℕ) where
   pub together : ent 𝓤 (sem 𝓛 (own_all hands κs (s, (p, tt)))) (sem 𝓛 (own_all reads κs (at s p, tt)))
   together = qed 𝓛 (‵ (own_all hands κs (s, (p, tt))) ∷ []) ∵
-      use1 𝓛 (‵ ((reader.row κs).own (at s p) (reader.val κs (at s p) ∷ [])))
+      use1 𝓛 (‵ ((reader.row κs).own_val (at s p) (reader.val κs (at s p) ∷ [])))
       (own_shut 𝓛 (D κs) (L κs) (s, (p, tt))) $ nothing ! $ move ! (1 ∷ 0 ∷ []) $ fjoin ! $ done !
 
   pub apart : ent 𝓤 (sem 𝓛 (own_all reads κs (at s p, tt))) (sem 𝓛 (own_all hands κs (s, (p, tt))))
