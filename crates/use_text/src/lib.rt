@@ -26,7 +26,7 @@ fn put_byte(out: &mut Bytes, at: usize, b: u8) -> usize
 }
 
 // Words.
-#[tactic(auto, using(crate::specs::Page::nothing, crate::specs::Page::same, crate::specs::Page::after))]
+#[tactic(auto, using(crate::specs::Page::nothing))]
 pub fn put_words(out: &mut Bytes, at: usize, words: &[u8]) -> usize
     ensures { Put out.old at words.now out.new result }
 {
@@ -38,7 +38,7 @@ pub fn put_words(out: &mut Bytes, at: usize, words: &[u8]) -> usize
 }
 
 // A number in decimal: its last digit behind the others.
-#[tactic(auto, using(crate::specs::Page::after, crate::specs::Page::same, crate::specs::Numbers::digits_low, crate::specs::Numbers::digits_last))]
+#[tactic(auto, using(crate::specs::Numbers::digits_low))]
 fn put_number(out: &mut Bytes, at: usize, v: usize) -> usize
     ensures { Put out.old at (decimal v) out.new result }
 {
@@ -50,7 +50,6 @@ fn put_number(out: &mut Bytes, at: usize, v: usize) -> usize
 }
 
 // Words and numbers, a space before each number.
-#[tactic(auto, using(crate::specs::Page::after, crate::specs::Numbers::last_field))]
 pub fn put_fields(out: &mut Bytes, at: usize, words: &[u8], fields: &[usize]) -> usize
     ensures { Put out.old at (with_fields words.now fields.now) out.new result }
 {
@@ -63,7 +62,6 @@ pub fn put_fields(out: &mut Bytes, at: usize, words: &[u8], fields: &[usize]) ->
 }
 
 // Words and numbers on a line of their own.
-#[tactic(auto, using(crate::specs::Page::after))]
 pub fn put_line(out: &mut Bytes, at: usize, words: &[u8], fields: &[usize]) -> usize
     ensures { Put out.old at (with_fields words.now fields.now ++ newline) out.new result }
 {
