@@ -4,6 +4,7 @@ or a case is false, of the two rules' bounds on the window and on the limits, an
 
     theorem_edits.py             tries every edit
     theorem_edits.py PATTERN     tries those whose file name matches, as 'root*.edit': for work on one
+    theorem_edits.py --texts     proves nothing: each text stands once in its file, each lemma in its, each row in its table
 
 Each file of tests/theorem-edits names a file, a text of it and another text, or several such pairs, the crate to check after the change,
 and the file and lemma at which the check must refuse it first; several where the first of them is true and only its proof fails. It also
@@ -25,10 +26,11 @@ where there is none. An edit without `refutes` has how many rounds are contested
 
 An edit of which a paper case is false has the case's row in place of the list, as the table has it: the table that holds that row alone
 must be proved false of the changed machine. Where a law refuses the edit and not the table, `table` has the table's crate. An edit of a
-contract names a crate in place of the list, which must still be proved: the function meets the changed contract. All of it runs in a copy
-of the repository.
+contract names a crate in place of the list, which must still be proved: the function meets the changed contract. All of it runs in copies
+of the repository, outside it, each of which begins with the crates proved as they are.
 """
 import os
+import queue
 import re
 import shutil
 import subprocess
@@ -56,38 +58,38 @@ NUMBER = r"(?P<v>\d+) by process (?P<p>\d+)"
 OTHER = r"(?P<u>\d+) by process (?P<q>\d+)"
 TURNS = r"(?P<k>\d+) turns by process (?P<p>\d+)"
 SESSION_PARTS = {
-    "holds": ({"decides": NUMBER}, "noLongerHeld {p} {v}", 2),
-    "looked": ({"holds": NUMBER}, "neverLooked {p} {v}", 3),
-    "agreement": ({"decides": f"{NUMBER}, {OTHER}"}, "twoNumbers {p} {v} {q} {u}", 3),
-    "validity": ({"decides": NUMBER}, "notProposed {p} {v}", 2),
+    "holds": ({"decides": NUMBER}, "no_longer_held {p} {v}", 2),
+    "looked": ({"holds": NUMBER}, "never_looked {p} {v}", 3),
+    "agreement": ({"decides": f"{NUMBER}, {OTHER}"}, "two_numbers {p} {v} {q} {u}", 3),
+    "validity": ({"decides": NUMBER}, "not_proposed {p} {v}", 2),
     "commitment": ({"commits": r"(?P<v>\d+) in round (?P<R>\d+)", "writes": r"(?P<u>\d+) in round (?P<r>\d+) by process (?P<p>\d+)"},
-                   "writtenLater {R} {v} {p} {r} {u}", 4),
+                   "written_later {R} {v} {p} {r} {u}", 4),
 }
 HOUSE_PARTS = {part: SESSION_PARTS[part] for part in ("holds", "looked", "agreement", "validity")}
 CLOSE_PARTS = {"stand": ({"proposed": r"(?P<k>\d+) by a close, (?P<m>\d+) by the end"}, "{k} {m}", 3)}
 POLL_PARTS = {
-    "validity": ({"answers": rf"(?P<a>\w+) {NUMBER}"}, "notProposed {p} ({a} {v}) {v}", 3),
-    "agreement": ({"answers": rf"committed {NUMBER}, (?P<a>\w+) {OTHER}"}, "twoNumbers {p} {v} {q} ({a} {u}) {u}", 4),
-    "unanimity": ({"answers": rf"(?P<a>\w+) {NUMBER}", "proposals": r"(?P<u>\d+)( (?P=u))*"}, "notCommitted {p} ({a} {v}) {v} {u}", 4),
-    "kept": ({"answers": rf"(?P<a>\w+) {NUMBER}"}, "notKept {p} ({a} {v}) {v}", 3),
-    "shown": ({"holds": NUMBER}, "notGiven {p} {v}", 2),
-    "onePass": ({"takes": TURNS}, "tooMany {p} {k}", 2),
-    "working": ({"takes": TURNS}, "stillWorks {p} {k}", 3),
+    "validity": ({"answers": rf"(?P<a>\w+) {NUMBER}"}, "not_proposed {p} ({a} {v}) {v}", 3),
+    "agreement": ({"answers": rf"committed {NUMBER}, (?P<a>\w+) {OTHER}"}, "two_numbers {p} {v} {q} ({a} {u}) {u}", 4),
+    "unanimity": ({"answers": rf"(?P<a>\w+) {NUMBER}", "proposals": r"(?P<u>\d+)( (?P=u))*"}, "not_committed {p} ({a} {v}) {v} {u}", 4),
+    "kept": ({"answers": rf"(?P<a>\w+) {NUMBER}"}, "not_kept {p} ({a} {v}) {v}", 3),
+    "shown": ({"holds": NUMBER}, "not_given {p} {v}", 2),
+    "one_pass": ({"takes": TURNS}, "too_many {p} {k}", 2),
+    "working": ({"takes": TURNS}, "still_works {p} {k}", 3),
 }
 ANSWERS = {"committed": "Commits", "adopted": "Adopts"}
 # A number of an answer, as an edit has it and as a proof.
-NUMBERS = {"code": "a .code", "reads": "a .counts .reads", "round of process 0": "processAt (a .session) 0 .round",
-           "closed mark": "cond (a .session .closed) 1 0"}
+NUMBERS = {"code": "a.code", "reads": "a.counts.reads", "round of process 0": "(process_at a.session 0).round",
+           "closed mark": "cond a.session.closed 1 0"}
 # The definitions by which a list of calls is computed.
-DEFINITIONS = """window rootUp rootFrom opened waitingRule phaseAccess access found goOn phaseNext next learnt stored turn counted full openingFor accessOf becomes
-    after countsAfter answered perform soundPhaseAs soundProcessAs pollRegisters soundForAs operateForAs proposeForAs stepFor learnFor crashForAs"""
-SESSION_DEFINITIONS = "execute closeFor"
-HOUSE_DEFINITIONS = """window rootUp rootFrom opened waitingRule phaseAccess access found goOn phaseNext next learnt stored turn counted full accessOf becomes
-    after countsAfter answered perform soundPhaseAs soundProcessAs pollRegisters soundForAs soundAs withoutDecision pollAccess ending pollNext answerOf
-    turnAfter turnCounts pollTurned pollPerform seatOf allowed openedHouse houseOpening turnAt viewOf withView turnBy turned houseAfter houseCounts
-    houseAnswered housePerform soundWard soundNumbers soundVote seatsFit soundWorker soundWards soundHouse houseOperate housePropose houseTurn
-    houseLearn houseCrash"""
-POLL_DEFINITIONS = "withoutDecision pollAccess ending pollNext answerOf pollOpeningFor turnAfter turnCounts turned pollPerform pollTurnFor"
+DEFINITIONS = """window root_up root_from opened waiting_rule phase_access access found go_on phase_next next learnt stored turn counted full opening_for access_of becomes
+    after counts_after answered perform sound_phase_as sound_process_as poll_registers sound_for_as operate_for_as propose_for_as step_for learn_for crash_for_as"""
+SESSION_DEFINITIONS = "execute close_for"
+HOUSE_DEFINITIONS = """window root_up root_from opened waiting_rule phase_access access found go_on phase_next next learnt stored turn counted full access_of becomes
+    after counts_after answered perform sound_phase_as sound_process_as poll_registers sound_for_as sound_as without_decision poll_access ending poll_next answer_of
+    turn_after turn_counts poll_turned poll_perform seat_of allowed opened_house house_opening turn_at view_of with_view turn_by turned house_after house_counts
+    house_answered house_perform sound_ward sound_numbers sound_vote seats_fit sound_worker sound_wards sound_house house_operate house_propose house_turn
+    house_learn house_crash"""
+POLL_DEFINITIONS = "without_decision poll_access ending poll_next answer_of poll_opening_for turn_after turn_counts turned poll_perform poll_turn_for"
 
 
 def read_edit(path):
@@ -102,40 +104,53 @@ def read_edit(path):
     return fields
 
 
-def used_by(names):
-    """The crates that these use, and theirs, with these."""
-    lines = [line.partition(":") for line in (ROOT / "crates.txt").read_text(encoding="utf-8").splitlines() if not line.startswith("#")]
-    uses = {name: crates.split() for name, _, crates in lines}
-    found, left = set(), list(names)
-    while left:
-        name = left.pop()
-        if name in uses and name not in found:
-            found.add(name)
-            left += uses[name]
-    return found
+class Copy:
+    """A copy of the repository's crates. What rt has proved in it stays in it from one edit to the next."""
+
+    def __init__(self, folder):
+        self.folder = Path(folder)
+        self.changed = set()
+        shutil.copytree(ROOT / "crates", self.folder / "crates", ignore=left_out)
+        shutil.copy(ROOT / "crates.txt", self.folder)
+
+    def text(self, path):
+        return (self.folder / path).read_text(encoding="utf-8")
+
+    def write(self, path, text):
+        """Changes a file of the repository in the copy, until the next reset; None removes it."""
+        self.changed.add(path)
+        if text is None:
+            (self.folder / path).unlink()
+        else:
+            (self.folder / path).write_text(text, encoding="utf-8")
+
+    def reset(self):
+        for path in self.changed:
+            shutil.copy(ROOT / path, self.folder / path)
+        self.changed.clear()
+        shutil.rmtree(self.folder / "crates" / "refuted", ignore_errors=True)
+
+    def check(self, crate):
+        """Whether the crate is proved, and what rt says of it and of the crates below it."""
+        run = subprocess.run(["rt", "check"], cwd=self.folder / "crates" / crate, stdout=subprocess.PIPE, stderr=subprocess.STDOUT, text=True)
+        if run.returncode not in (0, 1):
+            sys.exit(f"theorem edits: rt check ends with {run.returncode} in {crate}:\n{run.stdout}")
+        return run.returncode == 0, run.stdout
 
 
-def copy_crates(to, names):
-    """The crates, and what rt has proved of those that the named ones use; the rest of target/ other tests may be writing."""
-    shutil.copytree(ROOT / "crates", to / "crates", ignore=shutil.ignore_patterns("must-fail"))
-    shutil.copy(ROOT / "crates.txt", to)
-    shutil.copytree(ROOT / "target" / "stamp", to / "target" / "stamp")
-    used = used_by(names)
-    for proved in (ROOT / "target" / "rlib").iterdir():
-        if proved.stem in used:
-            shutil.copytree(proved, to / "target" / "rlib" / proved.name)
+def left_out(folder, names):
+    """What no copy needs: the edits of a crate, and what rt has made in its folder."""
+    return [name for name in names if name == "must-fail" or name == "out" and Path(folder).parent.name == "crates"]
 
 
-def check(copy, crate):
-    return subprocess.run(["rt", "check", crate], cwd=copy, capture_output=True, text=True)
-
-
-def refused(output, number=1):
-    """The files and lemmas of the first errors, as an edit names them; an error that is another lemma's does not count."""
-    errors = re.findall(r"(crates/\S+?\.antt):\d+:\d+: (?:error: )?`([^`]+)`(?!.* was not admitted)", output)[:number]
+def refused(crate, output, number=1):
+    """The files and lemmas of the first errors, as an edit names them; an error that is another lemma's does not count. The crate is the one
+    that was checked; where a library below it did not build, the errors are that one's."""
+    below = re.findall(r"^rt: the library (\w+) did not build", output, re.M)
+    errors = re.findall(r"^\./(\S+\.antt):\d+:\d+: (?:error: )?`([^`]+)`(?!.* was not admitted)", output, re.M)[:number]
     said, last = [], None
     for file, lemma in errors:
-        said.append(lemma if file == last else f"{file} {lemma}")
+        said.append(lemma if file == last else f"crates/{(below or [crate])[-1]}/{file} {lemma}")
         last = file
     return ", ".join(said) or "no error"
 
@@ -177,7 +192,7 @@ def sheet(edit):
 def limits(edit):
     """The limits within which the calls are made: the edit's own, or the server's."""
     if "limits" not in edit:
-        return "limitsOf Server"
+        return "limits_of Server"
     processes, rounds = edit["limits"].split()
     return f"record {{ processes = {processes}; rounds = {rounds} }}"
 
@@ -254,78 +269,152 @@ def write_refutation(copy, edit):
     text = "".join((EDITS / f"{template}.template").read_text(encoding="utf-8") for template in templates)
     for key, value in {"most": limits(edit), **values}.items():
         text = text.replace(f"@{key}@", value)
-    crate = copy / "crates" / "refuted"
+    crate = copy.folder / "crates" / "refuted"
     (crate / "src").mkdir(parents=True)
     (crate / "specs").mkdir()
-    (crate / "src" / "lib.rt").write_text("// No code.\n", encoding="utf-8")
+    (crate / "src" / "lib.rt").write_text("// No code.\n#![tactic(auto)]\n", encoding="utf-8")
     (crate / "specs" / "Lib.antt").write_text(text, encoding="utf-8")
     # The proof plays its list as model_rule_cases does; the short lists there, and the cases of houses, may be false of the changed machine.
     for name in ("model_rule_cases", "model_house_cases"):
-        cases = copy / "crates" / name / "specs" / "Lib.antt"
-        cases.write_text(cases.read_text(encoding="utf-8").replace("pub mod Table\n", ""), encoding="utf-8")
-        (cases.parent / "Table.antt").unlink()
-    with open(copy / "crates.txt", "a", encoding="utf-8") as crates:
-        crates.write(f"refuted: {uses}\n")
+        lib = f"crates/{name}/specs/Lib.antt"
+        copy.write(lib, copy.text(lib).replace("pub mod Table\n", ""))
+        copy.write(f"crates/{name}/specs/Table.antt", None)
+    copy.write("crates.txt", copy.text("crates.txt") + f"refuted: {uses}\n")
 
 
-def case_stands(copy, path, row):
-    """What keeps the table of that one row, which the file has, from being proved false; None where it is."""
-    table = copy / path
-    text = table.read_text(encoding="utf-8")
+def table_of(edit):
+    """The file of the table that has the edit's row."""
+    return f"crates/{edit['table']}/specs/Table.antt" if "table" in edit else edit["refused"].split()[0]
+
+
+def rows_of(text):
+    """The part of a file that is its table, and the rows of that part as they stand there."""
     part = text[text.index("table =\n"):text.index("-- Every row holds")]
-    part_rows = re.sub(r" *--[^\n]*\n", "", part.removeprefix("table =\n")).split("\n    ∷ ")
-    rows = [" ".join(found.split()) for found in part_rows]
-    one = [found for found in rows if row in found]
-    if len(one) != 1:
-        return f"'{row}' stands {len(one)} times in the table"
-    text = text.replace(part, f"table =\n    {one[0]}\n    ∷ []\n\n").replace("every holds table ≡ true", "every holds table ≡ false")
-    text = re.sub(r"(?<=use mathlib\.Core\.Bool\.\{)(?!.*\bfalse\b)", "false, ", text)
-    table.write_text(text, encoding="utf-8")
-    run = check(copy, Path(path).parts[1])
-    return None if run.returncode == 0 else f"the row is not false of it: {refused(run.stdout + run.stderr)}"
+    return part, re.sub(r" *--[^\n]*\n", "", part.removeprefix("table =\n")).split("\n    ∷ ")
 
 
-def fault_of(path):
+def row_found(edit, text):
+    """The one row of the table that has the words of the edit, or what keeps it from being found."""
+    rows = [" ".join(row.split()) for row in rows_of(text)[1]]
+    one = [row for row in rows if edit["row"] in row]
+    return (one[0], None) if len(one) == 1 else (None, f"'{edit['row']}' stands {len(one)} times in the table")
+
+
+def case_stands(copy, edit):
+    """What keeps the table of that one row, which the file has, from being proved false; None where it is."""
+    path = table_of(edit)
+    text = copy.text(path)
+    row, fault = row_found(edit, text)
+    if fault:
+        return fault
+    text = text.replace(rows_of(text)[0], f"table =\n    {row}\n    ∷ []\n\n").replace("every holds table ≡ true", "every holds table ≡ false")
+    text = re.sub(r"(?<=use Rattle\.std\.specs\.Prelude\.\{)(?!.*\bfalse\b)", "false, ", text)
+    copy.write(path, text)
+    crate = Path(path).parts[1]
+    proved, output = copy.check(crate)
+    return None if proved else f"the row is not false of it: {refused(crate, output)}"
+
+
+def changed_texts(edit, read):
+    """The text of the edit's file with its changes, or what keeps one from being made."""
+    text = read(edit["file"])
+    for old, new in edit["changes"]:
+        if text.count(old) != 1:
+            return None, f"'{old}' stands {text.count(old)} times in {edit['file']}"
+        text = text.replace(old, new)
+    return text, None
+
+
+def fault_of(path, copy):
     """What is wrong with an edit; None where the check refuses it as said and the rule is refuted."""
     edit = read_edit(path)
-    with tempfile.TemporaryDirectory() as folder:
-        copy = Path(folder) / "copy"
-        copy_crates(copy, [edit["check"], edit.get("proved"), edit.get("table"), "model_house_cases" if "wards" in edit else None])
-        target = copy / edit["file"]
-        text = target.read_text(encoding="utf-8")
-        for old, new in edit["changes"]:
-            if text.count(old) != 1:
-                return f"'{old}' stands {text.count(old)} times in {edit['file']}"
-            text = text.replace(old, new)
-        target.write_text(text, encoding="utf-8")
-        if "proved" in edit and check(copy, edit["proved"]).returncode != 0:
-            return f"{edit['proved']} is not proved with it"
-        run = check(copy, edit["check"])
-        if run.returncode == 0:
-            return "it was proved"
-        seen = refused(run.stdout + run.stderr, edit["refused"].count(",") + 1)
-        if seen != edit["refused"]:
-            return f"refused first at {seen}, not at {edit['refused']}"
-        if "proved" in edit:
-            return None
+    copy.reset()
+    text, fault = changed_texts(edit, copy.text)
+    if fault:
+        return fault
+    copy.write(edit["file"], text)
+    if "proved" in edit and not copy.check(edit["proved"])[0]:
+        return f"{edit['proved']} is not proved with it"
+    proved, output = copy.check(edit["check"])
+    if proved:
+        return "it was proved"
+    seen = refused(edit["check"], output, edit["refused"].count(",") + 1)
+    if seen != edit["refused"]:
+        return f"refused first at {seen}, not at {edit['refused']}"
+    if "proved" in edit:
+        return None
+    if "row" in edit:
+        return case_stands(copy, edit)
+    write_refutation(copy, edit)
+    proved, output = copy.check("refuted")
+    return None if proved else f"its list of calls refutes nothing: {refused('refuted', output)}"
+
+
+def text_fault(path):
+    """What is wrong with the texts of an edit, without a proof."""
+    edit = read_edit(path)
+    read = lambda name: (ROOT / name).read_text(encoding="utf-8")
+    fault = changed_texts(edit, read)[1]
+    if not fault and "row" in edit:
+        fault = row_found(edit, read(table_of(edit)))[1]
+    last = None
+    for words in edit["refused"].split(", "):
+        *file, lemma = words.split()
+        last = file[0] if file else last
+        if not fault and not re.search(rf"^ *(?:abbrev |unfoldable |pub )*{re.escape(lemma)} :", read(last), re.M):
+            fault = f"{last} has no {lemma}"
+    return fault
+
+
+def crates_for(edits):
+    """The crates that the edits have checked, as they are or changed."""
+    names = set()
+    for edit in map(read_edit, edits):
+        names |= {edit["check"], edit.get("proved", edit["check"])}
         if "row" in edit:
-            table = f"crates/{edit['table']}/specs/Table.antt" if "table" in edit else edit["refused"].split()[0]
-            return case_stands(copy, table, edit["row"])
-        write_refutation(copy, edit)
-        run = check(copy, "refuted")
-        return None if run.returncode == 0 else f"its list of calls refutes nothing: {refused(run.stdout + run.stderr)}"
+            names.add(Path(table_of(edit)).parts[1])
+        elif "proved" not in edit:
+            names |= set(refutation(edit)[1].split())
+    return sorted(names)
+
+
+def tried(edits):
+    """The faults of the edits, tried as many at a time as there are processors, each in one of as many copies."""
+    number = min(os.cpu_count(), len(edits))
+    with tempfile.TemporaryDirectory(prefix="theorem-edits-") as folder:
+        first = Copy(f"{folder}/0")
+        for crate in crates_for(edits):
+            proved, output = first.check(crate)
+            if not proved:
+                sys.exit(f"theorem edits: {crate} is not proved as it is: {refused(crate, output)}\n{output}")
+        copies = queue.Queue()
+        for copy in [first, *(Copy(f"{folder}/{at}") for at in range(1, number))]:
+            copies.put(copy)
+
+        def fault(path):
+            copy = copies.get()
+            try:
+                return fault_of(path, copy)
+            finally:
+                copies.put(copy)
+
+        with ThreadPoolExecutor(number) as pool:
+            return list(pool.map(fault, edits))
 
 
 def main():
-    edits = sorted(EDITS.glob(sys.argv[1] if len(sys.argv) > 1 else "*.edit"))
+    words = sys.argv[1:]
+    edits = sorted(EDITS.glob(words[0] if words and words != ["--texts"] else "*.edit"))
+    if not edits:
+        sys.exit("theorem edits: there is none of that name")
+    faults = [text_fault(path) for path in edits] if words == ["--texts"] else tried(edits)
     failed = 0
-    with ThreadPoolExecutor(os.cpu_count()) as pool:
-        faults = list(pool.map(fault_of, edits))
     for path, fault in zip(edits, faults):
         failed += fault is not None
-        print(f"theorem edit {path.stem}: {'refused as it must be' if fault is None else 'FAILED: ' + fault}", flush=True)
-    print(f"theorem edits: {len(edits) - failed} refused, {failed} not")
-    sys.exit(1 if failed or not edits else 0)
+        well = "its texts stand" if words == ["--texts"] else "refused as it must be"
+        print(f"theorem edit {path.stem}: {well if fault is None else 'FAILED: ' + fault}", flush=True)
+    print(f"theorem edits: {len(edits) - failed} {'stand' if words == ['--texts'] else 'refused'}, {failed} not")
+    sys.exit(1 if failed else 0)
 
 
 main()
