@@ -14,7 +14,6 @@ use model::{Counts, Session};
 // The choice of an entry: stores, at an offset, the first legal list of `left` entries that begins with entry number e or a later one, and
 // tells whether there is one. If it is `tight`, lists that begin with entry number e must come after the one that stands there.
 #[cycle(choose_entry_choose_rest)]
-#[tactic(auto, using(model_short_laws::specs::Machine::applied, model_short_laws::specs::Machine::met_after, model_short_laws::specs::Numbers::one_or_two, crate::specs::Cycle::entry_end, crate::specs::Cycle::entry_refused, crate::specs::Cycle::entry_found, crate::specs::Cycle::entry_passed, crate::specs::Cycle::rest_end, crate::specs::Cycle::rest_loose, crate::specs::Cycle::rest_tight), unfolding(model_short::specs::Calls::raws_at))]
 fn choose_entry(
     n: u8,
     left: usize,
@@ -49,7 +48,6 @@ fn choose_entry(
 // The choice of the rest: stores, at an offset, the first legal list of `left` entries, or, if it is `tight`, the first that comes after
 // the one that stands there, and tells whether there is one.
 #[cycle(choose_entry_choose_rest)]
-#[tactic(auto, using(model_short_laws::specs::Machine::applied, model_short_laws::specs::Machine::met_after, model_short_laws::specs::Numbers::one_or_two, crate::specs::Cycle::entry_end, crate::specs::Cycle::entry_refused, crate::specs::Cycle::entry_found, crate::specs::Cycle::entry_passed, crate::specs::Cycle::rest_end, crate::specs::Cycle::rest_loose, crate::specs::Cycle::rest_tight), unfolding(model_short::specs::Calls::raws_at))]
 fn choose_rest(
     n: u8,
     left: usize,
@@ -90,7 +88,7 @@ fn choose(n: u8, length: usize, tight: bool, buffer: &mut [u8]) -> bool
 }
 
 // "Asked for the first, it writes that." 1, 17, 15.
-#[tactic(auto, using(model_short_laws::specs::Numbers::call_fits, model_short_laws::specs::Numbers::result_refused, crate::specs::Ends::first_done), unfolding(model_short::specs::Calls::first_result))]
+#[tactic(auto, using(model_short_laws::specs::Numbers::call_fits, model_short_laws::specs::Numbers::result_refused), unfolding(model_short::specs::Calls::first_result))]
 pub fn first(n: usize, length: usize, buffer: &mut [u8]) -> u32
     ensures { listed result buffer.new ≡ first_result n length buffer.old }
 {
@@ -103,7 +101,7 @@ pub fn first(n: usize, length: usize, buffer: &mut [u8]) -> u32
 }
 
 // "Given a legal list in a buffer, the builder writes the next of that length over it." 1, 17, 15, 20, 21.
-#[tactic(auto, using(model_short_laws::specs::Numbers::call_fits, model_short_laws::specs::Numbers::given_accepted, crate::specs::Ends::next_refuses, crate::specs::Ends::next_none, crate::specs::Ends::next_found))]
+#[tactic(auto, using(model_short_laws::specs::Numbers::call_fits, model_short_laws::specs::Numbers::given_accepted, crate::specs::Ends::next_refuses))]
 pub fn next(n: usize, length: usize, buffer: &mut [u8]) -> u32
     ensures { listed result buffer.new ≡ next_result n length buffer.old }
 {

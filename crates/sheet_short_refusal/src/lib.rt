@@ -31,7 +31,7 @@ pub fn call_refusal(n: usize, length: usize, buffer: &[u8]) -> u32
 }
 
 // Whether the entries at an offset, as many as told, are legal in session s.
-#[tactic(auto, using(model_short_laws::specs::Machine::applied, model_short_laws::specs::Machine::met_after, model_short_laws::specs::Numbers::one_or_two, crate::specs::Legal::legal_end, crate::specs::Legal::legal_no_choice, crate::specs::Legal::legal_refused, crate::specs::Legal::legal_goes_on))]
+#[tactic(auto, using(model_short_laws::specs::Machine::applied, crate::specs::Legal::legal_end, crate::specs::Legal::legal_no_choice, crate::specs::Legal::legal_refused, crate::specs::Legal::legal_goes_on))]
 fn legal(n: u8, left: usize, at: usize, s: Session, c: Counts, buffer: &[u8]) -> bool
     requires { SearchReady n left at s }
     ensures { result ≡ legal_from n s c (raws_at buffer.now at left) }

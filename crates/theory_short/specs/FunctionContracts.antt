@@ -8,7 +8,7 @@ use prog.Memory.{Memory}
 use prog.Routine.{Routine}
 use types.Logic.{Logic}
 use contract.Monad.{Fun}
-use Rattle.std.specs.Borrow.{Bor}
+use Rattle.std.specs.Borrow.{MutBor}
 use Rattle.model_short.specs.Calls.{listed, first_result, next_result}
 use Rattle.sheet_short.specs.contracts.first as first
 use Rattle.sheet_short.specs.contracts.next as next
@@ -16,7 +16,7 @@ use Rattle.theory_functions.specs.FunctionContracts.{ensures}
 
 -- The buffer is lent: e has it as it stands at exit.
 module _ {M : Type 1} {𝓤 : Ura M} (𝓛 : Logic 𝓤) (mem : Memory → SProp 𝓤) (run : Routine → Fun 𝓤) where
-  module _ (κ : Lft) (n m : ℕ) (buffer : Bor (List ℕ)) where
+  module _ (κ : Lft) (n m : ℕ) (buffer : MutBor (List ℕ)) where
     pub short_first_contract :
         first.clauses 𝓛 mem run (κ, tt) (n, (m, (buffer, tt)))
         ≡ ensures 𝓤 (λ r e. listed r e.1.1.0.now ≡ first_result n m buffer.now)
