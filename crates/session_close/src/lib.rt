@@ -8,7 +8,7 @@ use model::numbers::UNSOUND;
 use model::{Changed, Session};
 
 // 02, wish 10: "A close sets it, also where it is set already"; "Close: 3."
-#[tactic(auto, unfolding(model::specs::Sound::sound_as))]
+#[tactic(auto, unfolding(model::specs::Public::close_for, model::specs::Sound::sound_as))]
 pub fn close(s: Session) -> Changed
     ensures { result ≡ close_of s }
 {

@@ -8,7 +8,6 @@ use model::{Access, Counts, Session, Stepped};
 
 // 01, "One turn at a time": a look reads D; where it is filled, the process is decided and takes its number.
 // i is p wherever the call is accepted: where it is not, the tests refuse.
-#[tactic(auto, using(model_laws::specs::Answers::code_is, model_laws::specs::Answers::operate_refused, model_laws::specs::Answers::operate_accepted, model_laws::specs::Answers::index_of, model_laws::specs::Answers::learnt_is), unfolding(model::specs::Machine::access_of, model::specs::Machine::counts_after, model::specs::Step::counted))]
 pub fn learn(s: Session, p: usize, c: Counts) -> Stepped
     ensures { result ≡ learn_of s p c }
 {

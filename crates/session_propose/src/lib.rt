@@ -8,7 +8,6 @@ use model::{Changed, Session};
 
 // 01, "One turn at a time", proposal, to a session or (02, wish 6) to a poll, where 3 is by a poll's soundness. i is p wherever the call is
 // accepted: where it is not, the tests refuse.
-#[tactic(auto, using(model_laws::specs::Answers::code_is, model_laws::specs::Answers::uncounted_refused, model_laws::specs::Answers::uncounted_accepted, model_laws::specs::Answers::index_of, model_laws::specs::Answers::proposed_is))]
 pub fn propose_as(poll: bool, s: Session, p: usize, v: u32) -> Changed
     ensures { result ≡ propose_as_of poll s p v }
 {
