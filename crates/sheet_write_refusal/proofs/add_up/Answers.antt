@@ -1,0 +1,10 @@
+-- A length above what is left: the first i + 1 lengths are above the entries.
+use Rattle.base.specs.Prelude.{◌+◌, arith, sym, ne_eqb}
+use Rattle.model_write.specs.Write.{total}
+use Rattle.model_write_laws.specs.Laid.{total_taken, total_part}
+use Rattle.sheet_write_refusal.proofs.add_up.Goals as goal
+
+pub returns-then-left-m : goal.returns-then-left-m
+returns-then-left-m c =
+    let ms = c.args.lengths.now in
+    sym (ne_eqb (total ms) c.args.entries (λ e. omega (arith, total_taken ms c.loop-i.i (omega arith), total_part ms (c.loop-i.i + 1))))
