@@ -11,7 +11,6 @@ use model_house::{House, HouseChanged, HouseStepped, Place, Stance, Worker};
 
 // 3, 4, 5, 6; then worker p holds v, and its next turn is the first of outer round 1. i is p wherever a call is accepted, here and below:
 // where it is not, the tests refuse.
-#[tactic(auto, using(model_house::specs::Machine::proposes, model_house_laws::specs::Accepted::house_code_law, model_house_laws::specs::Accepted::house_index, model_house_laws::specs::Accepted::uncounted_refused, model_house_laws::specs::Accepted::uncounted_left, model_house_laws::specs::Accepted::proposed_is), unfolding(model_house::specs::Public::house_propose))]
 pub fn propose(h: House, p: usize, v: u32) -> HouseChanged
     ensures { result ≡ house_propose h p v }
 {
@@ -36,7 +35,6 @@ pub fn propose(h: House, p: usize, v: u32) -> HouseChanged
 
 // 02, wish 11: "A crash or house look changes no ward or poll seat." 3, 4, 7, 8; then worker p is crashed, and its outer round and value
 // stay.
-#[tactic(auto, using(model_house::specs::Machine::crashes, model_house_laws::specs::Accepted::house_code_law, model_house_laws::specs::Accepted::house_index, model_house_laws::specs::Accepted::uncounted_refused, model_house_laws::specs::Accepted::uncounted_left, model_house_laws::specs::Accepted::crashed_is), unfolding(model_house::specs::Public::house_crash))]
 pub fn crash(h: House, p: usize) -> HouseChanged
     ensures { result ≡ house_crash h p }
 {
@@ -75,7 +73,6 @@ fn learnt(q: Worker, x: u32) -> Worker
 
 // 02, wish 11: a house look, "taken instead of a turn by a working or spent worker". 3, 4, 7, 8, 16; then one read, of the house's decision
 // register.
-#[tactic(auto, using(model_house::specs::Machine::learns, model_house_laws::specs::Accepted::house_code_law, model_house_laws::specs::Accepted::house_refused, model_house_laws::specs::Accepted::house_known, model_house_laws::specs::Accepted::house_index, model_house_laws::specs::Accepted::house_left, model_house_laws::specs::Accepted::learnt_is, model_house_laws::specs::Accepted::learnt_counts), unfolding(model_house::specs::Public::house_learn))]
 pub fn learn(h: House, p: usize, c: Counts) -> HouseStepped
     ensures { result ≡ house_learn h p c }
 {
