@@ -50,7 +50,7 @@ fn put_closed(out: &mut Bytes, at: usize, closed: bool) -> usize
 }
 
 // 01: "the board line is the highest filled round (0 for none) and D"; the third field is the closed mark.
-#[tactic(auto, using(use_text::specs::Page::after_parts))]
+
 fn put_board(out: &mut Bytes, at: usize, s: Session) -> usize
     ensures { Put out.old at (board_line s) out.new result }
 {
@@ -60,7 +60,7 @@ fn put_board(out: &mut Bytes, at: usize, s: Session) -> usize
 }
 
 // The report of a run, from `at` on. "A refused sheet gives only" its line; any other the tally, the board and the seats.
-#[tactic(auto, using(use_text::specs::Page::after, use_text::specs::Page::same, use_text::specs::Page::nothing, use_report_laws::specs::Cases::more_lines_law))]
+#[tactic(auto, using(use_text::specs::Page::after, use_text::specs::Page::nothing))]
 pub fn put_lines(out: &mut Bytes, at: usize, ran: Ran) -> usize
     ensures { Put out.old at (report_of ran) out.new result }
 {

@@ -10,7 +10,7 @@ use use_report_status::put_status;
 use use_text::{Bytes, put_fields};
 
 // "Seats 0 to n - 1", "each as "seat", its number and" its status.
-#[tactic(auto, using(base::specs::Arrays::length_mapped, use_text::specs::Page::nothing, use_report_laws::specs::Seats::seat_put, use_report_laws::specs::Seats::seats_all))]
+#[tactic(auto, using(base::specs::Arrays::length_mapped, use_text::specs::Page::nothing, use_report_laws::specs::Seats::seats_all))]
 pub fn put_seats(out: &mut Bytes, at: usize, s: Session) -> usize
     ensures { Put out.old at (seat_lines 0 (take s.n s.processes)) out.new result }
 {
