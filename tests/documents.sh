@@ -51,7 +51,7 @@ wrong 'and 150 are wanted at most: a note' docs/CHANGES.md "## a note\n\n$(print
 misled() {
     local said
     rm -rf "$room"/*
-    cp -r crates include reference docs "$room"
+    tar -c --exclude='crates/*/out' crates include reference docs | tar -x -C "$room"
     mkdir "$room/tests"
     cp "tests/$2" "$room/tests"
     grep -qF -- "$4" "$room/$3"
@@ -67,13 +67,13 @@ END
     fi
     count=$((count + 1))
 }
-misled 'code: 9 is PROCESS_SPENT, and None in the definitions' refusals.py crates/model/specs/Numbers.antt 'processSpent = 9' 'processSpent = 19'
+misled 'code: 9 is PROCESS_SPENT, and None in the definitions' refusals.py crates/model/specs/Numbers.antt 'process_spent = 9' 'process_spent = 19'
 misled 'code: 6 is SECOND_ONE' refusals.py crates/model/src/numbers.rt SECOND_PROPOSAL SECOND_ONE
 misled 'separate program: 12 is BAD_CUTS' refusals.py reference/src/refusal.rs 'BadRun = 12' 'BadCuts = 12'
 misled 'header: 4 is NO_SEAT' refusals.py include/janus.h JANUS_NO_SUCH_SEAT JANUS_NO_SEAT
 misled 'page: 14, NO_SUCH_ROUND, is missing' refusals.py docs/REFUSALS.md '| 14 |' '| 24 |'
 misled "'return 3;' has a number and no name" refusals.py crates/session_refusal/src/lib.rt 'return UNSOUND;' 'return 3;'
-misled 'session_refusal/src/lib.rt: first_refusal has a `requires`' contracts.py crates/session_refusal/src/lib.rt '    ensures {' '    requires { ⌜ n ≡ 3 ⌝ }
+misled 'session_refusal/src/lib.rt: first_refusal has a `requires`' contracts.py crates/session_refusal/src/lib.rt '    ensures {' '    requires { n ≡ 3 }
     ensures {'
 misled 'has no `ensures`' contracts.py crates/session_refusal/src/lib.rt '    ensures {' '    hides {'
 echo "documents: $count wrong pages, names and functions are found"

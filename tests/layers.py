@@ -28,7 +28,7 @@ def crates():
     for line in (ROOT / "crates.txt").read_text(encoding="utf-8").splitlines():
         if ":" in line and not line.startswith("#"):
             name, rest = line.split(":")
-            found[name] = [word for word in rest.split() if word not in KIT]
+            found[name.split()[0]] = [word for word in rest.split() if word not in KIT]
     return found
 
 

@@ -5,8 +5,9 @@
 - A line has at most 100 columns. Rows of tables and blocks of code may be wider, except in README.
 - A link leads to a file, and to a heading of it where it names one. TESTING names every test of the gate, and README links every page.
 - In backticks: a path is a file or a pattern that finds one; `crate::name` is declared in that crate; `crate/label` is an edit of it; any
-  single word is a word of the code or the scripts. Words in capitals stand for something. CHANGES may name what is gone.
+  single word is a word of the code or the scripts. Words in capitals stand for something. CHANGES and PORT may name what is gone.
 """
+import os
 import re
 import sys
 from pathlib import Path
@@ -21,10 +22,17 @@ PATH = re.compile(r"[\w.*/-]+\.(?:md|sh|py|rs|c|h|rt|antt|edit|template|svg|shee
 MADE = re.compile(r"/|target/|guides/|.*\b[A-Z]{2,}\b(?!-|\.md)")  # not in the repository, or with a word that stands for something
 
 
+def below(top):
+    """The files below a folder, but for those that rt makes in a crate's out/."""
+    for at, folders, names in os.walk(top):
+        folders[:] = [name for name in folders if name != "out"]
+        yield from (Path(at) / name for name in names)
+
+
 def words_of_the_code():
-    files = [f for name in CODE for f in ([ROOT / name] if (ROOT / name).is_file() else (ROOT / name).rglob("*")) if f.is_file()]
+    files = [f for name in CODE for f in ([ROOT / name] if (ROOT / name).is_file() else below(ROOT / name))]
     texts = [f.read_text(encoding="utf-8", errors="replace") for f in files if f.suffix in TEXTS]
-    return {word for text in texts for word in re.findall(r"[\w′-]+", text)} | {f.stem for f in files} | CRATES
+    return {word for text in texts for form in (r"[\w'-]+", r"\w+") for word in re.findall(form, text)} | {f.stem for f in files} | CRATES
 
 
 def fault_of(cited, known):
@@ -39,7 +47,7 @@ def fault_of(cited, known):
         source = [f.read_text(encoding="utf-8") for f in (ROOT / "crates" / crate / "src").glob("*.rt")]
         declared = any(re.search(rf"\b(fn|struct|enum|type|const) {name}\b", text) for text in source)
         return None if declared or crate not in CRATES and ({crate, name} <= known or crate == "io") else "there is no such name"
-    word = re.fullmatch(r"([A-Za-z][\w′-]*)(?:\([^)]*\))?", cited)
+    word = re.fullmatch(r"([A-Za-z][\w'-]*)(?:\([^)]*\))?", cited)
     return "no such word is in the code" if word and not word[1].isupper() and word[1] not in known else None
 
 
@@ -57,7 +65,7 @@ def main():
     for name, text in PAGES.items():
         faults += columns(name, text)
         plain = re.sub(r"^```.*?^```", "", text, flags=re.S | re.M)
-        cited = sorted(set(re.findall(r"`([^`]+)`", plain))) if name != "CHANGES.md" else []
+        cited = sorted(set(re.findall(r"`([^`]+)`", plain))) if name not in ("CHANGES.md", "PORT.md") else []
         faults += [f"{name}: `{text}`: {fault}" for text in cited if (fault := fault_of(text, known))]
         for file, part in re.findall(r"\]\(([^)#]*)#?([^)]*)\)", plain):
             to = (ROOT if name == "README.md" else ROOT / "docs") / (file or name)

@@ -3,7 +3,7 @@
 
     refusals.py     fails if one of the five has another name or number, or if the code returns a bare number
 
-The definitions write a name badSheet, the code and the page BAD_SHEET, the separate program BadSheet, the header JANUS_BAD_SHEET, with
+The definitions write a name bad_sheet, the code and the page BAD_SHEET, the separate program BadSheet, the header JANUS_BAD_SHEET, with
 SEAT for PROCESS. The header has those that its functions return. 100, which refuses nothing, is no row of the page and of the program.
 """
 import re
@@ -23,7 +23,7 @@ BARE = re.compile(r"return [1-9]\d*;|Status::\w+ => [1-9]|Refused\(\d+,|\bcode: 
 
 
 def words(name):
-    """A name in capitals, the words apart: badSheet and BadSheet as BAD_SHEET."""
+    """A name in capitals, the words apart: bad_sheet and BadSheet as BAD_SHEET."""
     return name if name.isupper() else re.sub(r"(?<=[a-z])(?=[A-Z])", "_", name).upper()
 
 

@@ -5,7 +5,7 @@
     wrong_answers.py list      prints the edits as a table: contract, edit, the rule that it breaks
 
 An edit is a file crates/CRATE/must-fail/LABEL.edit. Its first line is `# FUNCTION: the rule that it breaks`. FUNCTION is a public
-function of the edit's crate or, in a crate without any, a theorem of its specs/. docs/WRONG-ANSWERS.md says how the edits are read.
+function of the edit's crate or, in a crate without any, a theorem of its specs/ or proofs/. docs/WRONG-ANSWERS.md says how the edits are read.
 """
 import re
 import sys
@@ -14,13 +14,13 @@ from pathlib import Path
 ROOT = Path(__file__).resolve().parent.parent
 HEAD = "| Contract | Edit | The rule that it breaks |\n|---|---|---|\n"
 PUBLIC = re.compile(r'^pub (?:extern "C" )?fn (\w+)', re.M)
-THEOREM = re.compile(r"^( *)pub ([\w-]+) :(?=(?:.*\n)*?\1\2(?![\w-])[^;\n]* =)", re.M)
+THEOREM = re.compile(r"^( *)pub ([\w'-]+) :(?=(?:.*\n)*?\1\2(?![\w'-])[^;\n]* =)", re.M)
 
 
 def crates():
     """The names of crates.txt, in its order."""
     lines = (ROOT / "crates.txt").read_text(encoding="utf-8").splitlines()
-    return [line.split(":")[0] for line in lines if ":" in line and not line.startswith("#")]
+    return [line.split(":")[0].split()[0] for line in lines if ":" in line and not line.startswith("#")]
 
 
 def contracts(crate):
@@ -28,8 +28,8 @@ def contracts(crate):
     folder = ROOT / "crates" / crate
     code = [f.read_text(encoding="utf-8") for f in sorted((folder / "src").glob("*.rt"))]
     found = [name for text in code for name in PUBLIC.findall(text)]
-    specs = [f.read_text(encoding="utf-8") for f in sorted(folder.glob("specs/*.antt"))]
-    return found or [name for text in specs for _, name in THEOREM.findall(text)], bool(found)
+    texts = [f.read_text(encoding="utf-8") for place in ("specs", "proofs") for f in sorted(folder.glob(f"{place}/*.antt"))]
+    return found or [name for text in texts for _, name in THEOREM.findall(text)], bool(found)
 
 
 def edits(crate, faults):
@@ -37,7 +37,7 @@ def edits(crate, faults):
     found = []
     for edit in sorted((ROOT / "crates" / crate / "must-fail").glob("*.edit")):
         first = edit.read_text(encoding="utf-8").split("\n")[0]
-        words = re.fullmatch(r"# ([\w-]+): (\S.*)", first)
+        words = re.fullmatch(r"# ([\w'-]+): (\S.*)", first)
         if words:
             found.append((words[1], edit.stem, words[2]))
         else:
