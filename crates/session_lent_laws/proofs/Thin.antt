@@ -101,7 +101,8 @@ module _ (L : Lending) where
   abbrev pub changed_laws : LL.Laws changed
   changed_laws = (LL.u32-laws, (LL.field_laws L.S L.laws L.low, tt))
 
-  -- The code. A local for the result, for each parameter, for the answer, and for the counts that the callee is given.
+  -- The code. A local for the result, for each parameter, for the answer, for the counts that the callee is given, and for the two parts of
+  -- the answer that are copied out of it: the counts, and what is left of S.
   abbrev counts_ty : Ty
   counts_ty = layout (shape Ct.the_type)
 
@@ -116,11 +117,14 @@ module _ (L : Lending) where
     givens = zero;
     params = 3;
     locals = map (λ τ. local τ value_local)
-        (layout (shape changed) ∷ layout (shape L.S) ∷ ty_int w64 ∷ lent_ty ∷ layout (shape stepped) ∷ counts_ty ∷ []);
+        (layout (shape changed) ∷ layout (shape L.S) ∷ ty_int w64 ∷ lent_ty ∷ layout (shape stepped) ∷ counts_ty ∷ counts_ty
+        ∷ layout (shape L.S) ∷ []);
     body = seq (assign (place 5 []) (rv_opd (copy (place 3 (deref counts_ty ∷ [])))))
         (seq (call callee (copy (place 1 []) ∷ copy (place 2 []) ∷ copy (place 5 []) ∷ []) (place 4 []))
-        (seq (assign (place 3 (deref counts_ty ∷ [])) (rv_opd (copy (place 4 (part 2 ∷ [])))))
-        (seq (assign (place 0 []) (aggregate (copy (place 4 (part 0 ∷ [])) ∷ copy (place 4 (part 1 ∷ [])) ∷ []))) return)));
+        (seq (assign (place 6 []) (rv_opd (copy (place 4 (part 2 ∷ [])))))
+        (seq (assign (place 3 (deref counts_ty ∷ [])) (rv_opd (copy (place 6 []))))
+        (seq (assign (place 7 []) (rv_opd (copy (place 4 (part 1 ∷ [])))))
+        (seq (assign (place 0 []) (aggregate (copy (place 4 (part 0 ∷ [])) ∷ copy (place 7 []) ∷ []))) return)))));
   }
 
   abbrev three_code : Callee → Fn
@@ -131,11 +135,14 @@ module _ (L : Lending) where
     givens = zero;
     params = 4;
     locals = map (λ τ. local τ value_local)
-        (layout (shape changed) ∷ layout (shape L.S) ∷ ty_int w64 ∷ ty_bool ∷ lent_ty ∷ layout (shape stepped) ∷ counts_ty ∷ []);
+        (layout (shape changed) ∷ layout (shape L.S) ∷ ty_int w64 ∷ ty_bool ∷ lent_ty ∷ layout (shape stepped) ∷ counts_ty ∷ counts_ty
+        ∷ layout (shape L.S) ∷ []);
     body = seq (assign (place 6 []) (rv_opd (copy (place 4 (deref counts_ty ∷ [])))))
         (seq (call callee (copy (place 1 []) ∷ copy (place 2 []) ∷ copy (place 3 []) ∷ copy (place 6 []) ∷ []) (place 5 []))
-        (seq (assign (place 4 (deref counts_ty ∷ [])) (rv_opd (copy (place 5 (part 2 ∷ [])))))
-        (seq (assign (place 0 []) (aggregate (copy (place 5 (part 0 ∷ [])) ∷ copy (place 5 (part 1 ∷ [])) ∷ []))) return)));
+        (seq (assign (place 7 []) (rv_opd (copy (place 5 (part 2 ∷ [])))))
+        (seq (assign (place 4 (deref counts_ty ∷ [])) (rv_opd (copy (place 7 []))))
+        (seq (assign (place 8 []) (rv_opd (copy (place 5 (part 1 ∷ [])))))
+        (seq (assign (place 0 []) (aggregate (copy (place 5 (part 0 ∷ [])) ∷ copy (place 8 []) ∷ []))) return)))));
   }
 
   abbrev changed_plain : Plains (fields changed)
@@ -188,10 +195,14 @@ module _ (L : Lending) where
     ends = λ κs a. (L.last a.0, (tt, (tt, (L.counts (answer a.0 a.1.0 a.1.1.0 a.1.1.1.0.now), tt))));
   }
 
-  -- What is known of an answer is known of its counts, and of the rest of it.
+  -- What is known of an answer is known of its counts, of what is left of S, and of the rest of it.
   pub counts_of : (x : L.T-D) → Is (row stepped) x (LL.vals stepped stepped_laws x) →
       Is Ct.the_row (L.counts x) (LL.vals Ct.the_type Ct'.the_laws (L.counts x))
   counts_of x is = (LL.owed stepped stepped_laws x _ is).1.1.0
+
+  pub subject_of : (x : L.T-D) → Is (row stepped) x (LL.vals stepped stepped_laws x) →
+      Is (row L.S) (L.subject x) (LL.vals L.S L.laws (L.subject x))
+  subject_of x is = (LL.owed stepped stepped_laws x _ is).1.0
 
   pub rest_of : (x : L.T-D) → Is (row stepped) x (LL.vals stepped stepped_laws x) →
       Is (row changed) (L.rest x) (LL.vals changed changed_laws (L.rest x))
@@ -228,72 +239,85 @@ module _ (L : Lending) where
   walk_two answer name {𝓤 = 𝓤} 𝓛 C Λ callee κs qs a ty Q out =
       let e : Args (takes_two answer) tt = (a.0, (a.1.0, (a.1.1.0.now, tt))) in
       let x = (takes_two answer).answer tt e in
-      alloc1 ! (λ l₀. alloc1 ! (λ l₁. alloc1 ! (λ l₂. alloc1 ! (λ l₃. alloc1 ! (λ l₄. alloc1 ! (λ l₅. alloc0 ! $ params1 ! $
-      pass1 ! (init ! 8 refl ty.0) $ pass1 ! (init ! 6 refl ty.1.0) $ pass1 ! (init ! 4 refl (tt, tt)) $ pass0 ! $ move ! (12 ∷ []) $
+      alloc1 ! (λ l₀. alloc1 ! (λ l₁. alloc1 ! (λ l₂. alloc1 ! (λ l₃. alloc1 ! (λ l₄. alloc1 ! (λ l₅. alloc1 !
+      (λ l₆. alloc1 ! (λ l₇. alloc0 ! $ params1 ! $
+      pass1 ! (init ! 12 refl ty.0) $ pass1 ! (init ! 10 refl ty.1.0) $ pass1 ! (init ! 8 refl (tt, tt)) $ pass0 ! $ move ! (16 ∷ []) $
       use1 𝓛 ((‵ (flft κs.0 qs.0) ⊛ ‵ ftrue) ⊛ ‵ (own_all (lent_two answer) κs a)) (id⊢ 𝓤 _) $ split ! $ split ! $ move !
       (2 ∷ []) $ fsplit ! $ move ! (1 ∷ []) $ fsplit ! $ move ! (1 ∷ []) $ fsplit ! $ move ! (0 ∷ 4 ∷ []) $
       opened Ct.the_type Ct'.the_laws ! tt κs a.1.1.0 (λ is.
-      -- [what the counts own; the counts; the open borrow; obs; auth; …; what p and s own; …; room for _5; …; room for _4; …; _3; …; _2; …;
-      -- _1; …; room for _0; …]
-      assigns ! (of_opd ! (load ! (from ! (hop ! (look ! 13 refl) (stop !))) (look_raw ! 1 refl))) (from ! (stop !))
-      (init ! 9 refl (((counts_row {n = 1}).lawful 𝓛 κs).typed _ _ is).0) $
+      -- [what the counts own; the counts; the open borrow; obs; auth; …; what p and s own; …; room for _7; …; _6; …; _5; …; _4; …; _3; …;
+      -- _2; …; _1; …; room for _0; …]
+      assigns ! (of_opd ! (load ! (from ! (hop ! (look ! 17 refl) (stop !))) (look_raw ! 1 refl))) (from ! (stop !))
+      (init ! 13 refl (((counts_row {n = 1}).lawful 𝓛 κs).typed _ _ is).0) $
       move ! (0 ∷ 5 ∷ []) $ fjoin ! $ move ! (5 ∷ 0 ∷ []) $ fjoin ! $ move ! (5 ∷ 0 ∷ []) $ fjoin ! $ move ! (5 ∷ 0 ∷ []) $ use2 𝓛
       (raw (on_entry_of (takes_two answer) 𝓛 tt tt e)) (id⊢ 𝓤 _) $
-      -- [what the callee is handed; the counts; the open borrow; obs; auth; _5; …; room for _4; …; _3; …; _2; …; _1; …; room for _0; …]
-      asks ! callee tt tt e (and_then ! (load ! (from ! (stop !)) (look ! 13 refl))
-      (and_then ! (load ! (from ! (stop !)) (look ! 11 refl)) (and_then ! (load ! (from ! (stop !)) (look ! 5 refl)) (no_more !))))
+      -- [what the callee is handed; the counts; the open borrow; obs; auth; room for _7; …; room for _6; …; _5; …; room for _4; …; _3; …;
+      -- _2; …; _1; …; room for _0; …]
+      asks ! callee tt tt e (and_then ! (load ! (from ! (stop !)) (look ! 17 refl))
+      (and_then ! (load ! (from ! (stop !)) (look ! 15 refl)) (and_then ! (load ! (from ! (stop !)) (look ! 9 refl)) (no_more !))))
       (λ ws x-is wt.
-      -- [the answer's own; …; …; the counts; the open borrow; obs; auth; _5; …; room for _4; …; _3; …; _2; …; _1; …; room for _0; …]
-      land ! (from ! (stop !)) (init ! 9 refl wt.0) $
-      assigns ! (of_opd ! (reads stepped stepped_laws ! x 4 9 2 refl refl refl)) (from ! (hop ! (look ! 11 refl) (stop !)))
+      -- [the answer's own; …; …; the counts; the open borrow; obs; auth; room for _7; …; room for _6; …; _5; …; room for _4; …; _3; …; _2;
+      -- …; _1; …; room for _0; …]
+      land ! (from ! (stop !)) (init ! 13 refl wt.0) $
+      assigns ! (of_opd ! (reads stepped stepped_laws ! x 4 13 2 refl refl refl)) (from ! (stop !))
+      (init ! 9 refl (((counts_row {n = 1}).lawful 𝓛 κs).typed (L.counts x) _ (counts_of x x-is)).0) $
+      assigns ! (of_opd ! (load ! (from ! (stop !)) (look ! 9 refl))) (from ! (hop ! (look ! 15 refl) (stop !)))
       (store_raw ! 3 refl (((counts_row {n = 1}).lawful 𝓛 κs).typed (L.counts x) _ (counts_of x x-is)).0) $
-      assigns ! (agg ! (and_then ! (reads stepped stepped_laws ! x 4 9 0 refl refl refl)
-      (and_then ! (reads stepped stepped_laws ! x 4 9 1 refl refl refl) (no_more !)))) (from ! (stop !))
-      (init ! 17 refl (given_typed 𝓤 𝓛 x x-is).0) $
+      assigns ! (of_opd ! (reads stepped stepped_laws ! x 4 13 1 refl refl refl)) (from ! (stop !))
+      (init ! 7 refl (((subject_row {n = 1}).lawful 𝓛 κs).typed (L.subject x) _ (subject_of x x-is)).0) $
+      assigns ! (agg ! (and_then ! (reads stepped stepped_laws ! x 4 13 0 refl refl refl)
+      (and_then ! (load ! (from ! (stop !)) (look ! 7 refl)) (no_more !)))) (from ! (stop !))
+      (init ! 21 refl (given_typed 𝓤 𝓛 x x-is).0) $
       move ! (3 ∷ 4 ∷ 5 ∷ 6 ∷ []) $ closed Ct.the_type Ct'.the_laws ! tt κs a.1.1.0 (L.counts x) Ct'.the_plain (counts_of x x-is) $
-      -- [the reference; the token; …; …; …; _5; …; _4; …; _3; …; _2; …; _1; …; _0; …]
-      returns ! (look ! 15 refl) $ gone ! 15 refl refl $ gone ! 13 refl refl $ gone ! 11 refl refl $ gone ! 9 refl refl $
-      gone ! 7 refl refl $ gone ! 5 refl refl $ free0 ! $
+      -- [the reference; the token; …; …; …; _7; …; _6; …; _5; …; _4; …; _3; …; _2; …; _1; …; _0; …]
+      returns ! (look ! 19 refl) $ gone ! 19 refl refl $ gone ! 17 refl refl $ gone ! 15 refl refl $ gone ! 13 refl refl $
+      gone ! 11 refl refl $ gone ! 9 refl refl $ gone ! 7 refl refl $ gone ! 5 refl refl $ free0 ! $
       owned ! (row changed) (Is (row changed)) (LL.makes changed changed_plain 𝓛) (L.rest x) _ (rest_of x x-is) $
       nothing ! $ move ! (2 ∷ 0 ∷ []) $ fjoin ! $ nothing ! $ fjoin ! $ nothing ! $ fjoin ! $ nothing ! $ move ! (3 ∷ 0 ∷ []) $ use2 𝓛
       (raw (token (lent_two answer) 𝓛 κs qs)) (id⊢ 𝓤 _) $ keep ! (1 ∷ 2 ∷ 0 ∷ []) $
-      by ! (given_for 𝓤 x Q (out _ refl))))))))))
+      by ! (given_for 𝓤 x Q (out _ refl))))))))))))
 
   pub walk_three : (answer : L.S.D → ℕ → Bool → Counts → L.T-D) (name : Callee) {M : Type 1} {𝓤 : Ura M} (𝓛 : Logic 𝓤)
       → Walk 𝓛 (three_code name) (lent_three answer) name (takes_three answer)
   walk_three answer name {𝓤 = 𝓤} 𝓛 C Λ callee κs qs a ty Q out =
       let e : Args (takes_three answer) tt = (a.0, (a.1.0, (a.1.1.0, (a.1.1.1.0.now, tt)))) in
       let x = (takes_three answer).answer tt e in
-      alloc1 ! (λ l₀. alloc1 ! (λ l₁. alloc1 ! (λ l₂. alloc1 ! (λ l₃. alloc1 ! (λ l₄. alloc1 ! (λ l₅. alloc1 ! (λ l₆. alloc0 ! $ params1 ! $
-      pass1 ! (init ! 10 refl ty.0) $ pass1 ! (init ! 8 refl ty.1.0) $ pass1 ! (init ! 6 refl ty.1.1.0) $ pass1 !
-      (init ! 4 refl (tt, tt)) $ pass0 ! $ move ! (14 ∷ []) $
+      alloc1 ! (λ l₀. alloc1 ! (λ l₁. alloc1 ! (λ l₂. alloc1 ! (λ l₃. alloc1 ! (λ l₄. alloc1 ! (λ l₅. alloc1 ! (λ l₆. alloc1 ! (λ l₇.
+      alloc1 ! (λ l₈. alloc0 ! $ params1 ! $
+      pass1 ! (init ! 14 refl ty.0) $ pass1 ! (init ! 12 refl ty.1.0) $ pass1 ! (init ! 10 refl ty.1.1.0) $ pass1 !
+      (init ! 8 refl (tt, tt)) $ pass0 ! $ move ! (18 ∷ []) $
       use1 𝓛 ((‵ (flft κs.0 qs.0) ⊛ ‵ ftrue) ⊛ ‵ (own_all (lent_three answer) κs a)) (id⊢ 𝓤 _) $ split ! $ split ! $ move !
       (2 ∷ []) $ fsplit ! $ move ! (1 ∷ []) $ fsplit ! $ move ! (1 ∷ []) $ fsplit ! $ move ! (1 ∷ []) $ fsplit ! $ move ! (0 ∷ 5 ∷ []) $
       opened Ct.the_type Ct'.the_laws ! tt κs a.1.1.1.0 (λ is.
-      -- [what the counts own; the counts; the open borrow; obs; auth; …; what hint, p and s own; …; room for _6; …; room for _5; …; _4; …;
-      -- _3; …; _2; …; _1; …; room for _0; …]
-      assigns ! (of_opd ! (load ! (from ! (hop ! (look ! 14 refl) (stop !))) (look_raw ! 1 refl))) (from ! (stop !))
-      (init ! 10 refl (((counts_row {n = 1}).lawful 𝓛 κs).typed _ _ is).0) $
+      -- [what the counts own; the counts; the open borrow; obs; auth; …; what hint, p and s own; …; room for _8; …; _7; …; _6; …; _5; …;
+      -- _4; …; _3; …; _2; …; _1; …; room for _0; …]
+      assigns ! (of_opd ! (load ! (from ! (hop ! (look ! 18 refl) (stop !))) (look_raw ! 1 refl))) (from ! (stop !))
+      (init ! 14 refl (((counts_row {n = 1}).lawful 𝓛 κs).typed _ _ is).0) $
       move ! (0 ∷ 5 ∷ []) $ fjoin ! $ move ! (5 ∷ 0 ∷ []) $ fjoin ! $ move ! (5 ∷ 0 ∷ []) $ fjoin ! $ move ! (5 ∷ 0 ∷ []) $ fjoin ! $ move !
       (5 ∷ 0 ∷ []) $ use2 𝓛 (raw (on_entry_of (takes_three answer) 𝓛 tt tt e)) (id⊢ 𝓤 _) $
-      -- [what the callee is handed; the counts; the open borrow; obs; auth; _6; …; room for _5; …; _4; …; _3; …; _2; …; _1; …; room for _0;
-      -- …]
-      asks ! callee tt tt e (and_then ! (load ! (from ! (stop !)) (look ! 15 refl))
-      (and_then ! (load ! (from ! (stop !)) (look ! 13 refl))
-      (and_then ! (load ! (from ! (stop !)) (look ! 11 refl)) (and_then ! (load ! (from ! (stop !)) (look ! 5 refl)) (no_more !)))))
+      -- [what the callee is handed; the counts; the open borrow; obs; auth; room for _8; …; room for _7; …; _6; …; room for _5; …; _4; …;
+      -- _3; …; _2; …; _1; …; room for _0; …]
+      asks ! callee tt tt e (and_then ! (load ! (from ! (stop !)) (look ! 19 refl))
+      (and_then ! (load ! (from ! (stop !)) (look ! 17 refl))
+      (and_then ! (load ! (from ! (stop !)) (look ! 15 refl)) (and_then ! (load ! (from ! (stop !)) (look ! 9 refl)) (no_more !)))))
       (λ ws x-is wt.
-      -- [the answer's own; …; …; the counts; the open borrow; obs; auth; _6; …; room for _5; …; _4; …; _3; …; _2; …; _1; …; room for _0; …]
-      land ! (from ! (stop !)) (init ! 9 refl wt.0) $
-      assigns ! (of_opd ! (reads stepped stepped_laws ! x 5 9 2 refl refl refl)) (from ! (hop ! (look ! 11 refl) (stop !)))
+      -- [the answer's own; …; …; the counts; the open borrow; obs; auth; room for _8; …; room for _7; …; _6; …; room for _5; …; _4; …; _3;
+      -- …; _2; …; _1; …; room for _0; …]
+      land ! (from ! (stop !)) (init ! 13 refl wt.0) $
+      assigns ! (of_opd ! (reads stepped stepped_laws ! x 5 13 2 refl refl refl)) (from ! (stop !))
+      (init ! 9 refl (((counts_row {n = 1}).lawful 𝓛 κs).typed (L.counts x) _ (counts_of x x-is)).0) $
+      assigns ! (of_opd ! (load ! (from ! (stop !)) (look ! 9 refl))) (from ! (hop ! (look ! 15 refl) (stop !)))
       (store_raw ! 3 refl (((counts_row {n = 1}).lawful 𝓛 κs).typed (L.counts x) _ (counts_of x x-is)).0) $
-      assigns ! (agg ! (and_then ! (reads stepped stepped_laws ! x 5 9 0 refl refl refl)
-      (and_then ! (reads stepped stepped_laws ! x 5 9 1 refl refl refl) (no_more !)))) (from ! (stop !))
-      (init ! 19 refl (given_typed 𝓤 𝓛 x x-is).0) $
+      assigns ! (of_opd ! (reads stepped stepped_laws ! x 5 13 1 refl refl refl)) (from ! (stop !))
+      (init ! 7 refl (((subject_row {n = 1}).lawful 𝓛 κs).typed (L.subject x) _ (subject_of x x-is)).0) $
+      assigns ! (agg ! (and_then ! (reads stepped stepped_laws ! x 5 13 0 refl refl refl)
+      (and_then ! (load ! (from ! (stop !)) (look ! 7 refl)) (no_more !)))) (from ! (stop !))
+      (init ! 23 refl (given_typed 𝓤 𝓛 x x-is).0) $
       move ! (3 ∷ 4 ∷ 5 ∷ 6 ∷ []) $ closed Ct.the_type Ct'.the_laws ! tt κs a.1.1.1.0 (L.counts x) Ct'.the_plain (counts_of x x-is) $
-      -- [the reference; the token; …; …; …; _6; …; _5; …; _4; …; _3; …; _2; …; _1; …; _0; …]
-      returns ! (look ! 17 refl) $ gone ! 17 refl refl $ gone ! 15 refl refl $ gone ! 13 refl refl $ gone ! 11 refl refl $
-      gone ! 9 refl refl $ gone ! 7 refl refl $ gone ! 5 refl refl $ free0 ! $
+      -- [the reference; the token; …; …; …; _8; …; _7; …; _6; …; _5; …; _4; …; _3; …; _2; …; _1; …; _0; …]
+      returns ! (look ! 21 refl) $ gone ! 21 refl refl $ gone ! 19 refl refl $ gone ! 17 refl refl $ gone ! 15 refl refl $
+      gone ! 13 refl refl $ gone ! 11 refl refl $ gone ! 9 refl refl $ gone ! 7 refl refl $ gone ! 5 refl refl $ free0 ! $
       owned ! (row changed) (Is (row changed)) (LL.makes changed changed_plain 𝓛) (L.rest x) _ (rest_of x x-is) $
       nothing ! $ move ! (2 ∷ 0 ∷ []) $ fjoin ! $ nothing ! $ fjoin ! $ nothing ! $ fjoin ! $ nothing ! $ fjoin ! $ nothing ! $ move !
       (3 ∷ 0 ∷ []) $ use2 𝓛 (raw (token (lent_three answer) 𝓛 κs qs)) (id⊢ 𝓤 _) $ keep ! (1 ∷ 2 ∷ 0 ∷ []) $
-      by ! (given_for 𝓤 x Q (out _ refl)))))))))))
+      by ! (given_for 𝓤 x Q (out _ refl)))))))))))))
