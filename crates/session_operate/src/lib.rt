@@ -19,7 +19,7 @@ fn uncounted(a: Changed, c: Counts) -> Stepped
 }
 
 // 01, "Numbers returned": 3, 4, then the operation's own numbers.
-#[tactic(auto, using(model_laws::specs::Answers::propose_counts, model_laws::specs::Answers::crash_counts))]
+#[tactic(auto, using(model_laws::specs::Answers::propose_counts, model_laws::specs::Answers::crash_counts), unfolding(model::specs::Public::step_for, model::specs::Public::learn_for))]
 pub fn operate(s: Session, c: Counts, o: Operation) -> Stepped
     ensures { result ≡ operate_of s c o }
 {

@@ -10,7 +10,6 @@ use part_registers::{mark, value};
 
 // 01, "One turn at a time": a work turn, one register operation and what the process becomes by the value read. i is p
 // wherever the call is accepted: where it is not, the tests refuse.
-#[tactic(auto, using(model_laws::specs::Answers::code_is, model_laws::specs::Answers::operate_refused, model_laws::specs::Answers::operate_accepted, model_laws::specs::Answers::index_of, model_laws::specs::Answers::known, model_laws::specs::Operations::access_in_arrays, model_laws::specs::Sounds::sound_few, model_laws::specs::Registers::counted_is, model_laws::specs::Registers::worked_is), unfolding(model::specs::Window::window, model::specs::Step::counted, model::specs::Refusal::full, model::specs::Sound::sound_as, model::specs::Machine::access_of))]
 pub fn step(s: Session, p: usize, leader: bool, c: Counts) -> Stepped
     ensures { result ≡ step_of s p leader c }
 {
