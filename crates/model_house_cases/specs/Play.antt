@@ -1,12 +1,10 @@
 -- How a case of a house is played, and what it is said to show.
-use Rattle.std.specs.Prelude.{ℕ, suc, Bool, true, ◌&&◌, List, [], ◌∷◌, eqb, set}
-use Rattle.model.specs.declared.Process.{Process}
+use Rattle.std.specs.Prelude.{ℕ, Bool, ◌&&◌, List, eqb, set}
 use Rattle.model.specs.declared.Session.{Session}
 use Rattle.model.specs.declared.Counts.{Counts}
 use Rattle.model.specs.Board.{process_at}
 use Rattle.model.specs.Sound.{every}
 use Rattle.model_cases.specs.Play.{played_all}
-use Rattle.model_house.specs.declared.Place.{Place}
 use Rattle.model_house.specs.declared.Place.TheVariants.{ProposeWard, StepWard, LearnWard, WriteTable, ProposePoll, StepPoll}
 use Rattle.model_house.specs.declared.Place.TheVariants.{ReadTable, WriteHouse}
 use Rattle.model_house.specs.declared.Stance.{Stance}
@@ -15,7 +13,6 @@ use Rattle.model_house.specs.declared.Worker.{Worker}
 use Rattle.model_house.specs.declared.Table.{Table}
 use Rattle.model_house.specs.declared.House.{House}
 use Rattle.model_house.specs.declared.HouseStepped.{HouseStepped}
-use Rattle.model_house.specs.declared.HouseChanged.{HouseChanged}
 use Rattle.model_house.specs.House.{worker_at, session_at, poll_at, table_at, with_entry, with_worker, house_opening}
 use Rattle.model_house.specs.Machine.{HouseOperation, house_perform}
 use Rattle.model_house.specs.Public.{house_operate}

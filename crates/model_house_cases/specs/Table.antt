@@ -15,7 +15,6 @@ use Rattle.model_poll.specs.Turn.{without_decision, poll_access, ending, poll_ne
 use Rattle.model_poll.specs.Machine as poll
 use Rattle.model_house.specs.declared.Place.TheVariants.{ProposeWard, StepWard, LearnWard, WriteTable, ProposePoll, StepPoll}
 use Rattle.model_house.specs.declared.Place.TheVariants.{ReadTable, WriteHouse}
-use Rattle.model_house.specs.declared.Stance.{Stance}
 use Rattle.model_house.specs.declared.Stance.TheVariants.{Idle, Working, Exhausted, Crashed, Decided}
 use Rattle.model_house.specs.House.{worker, seat_of, allowed, opened_house, house_opening}
 use Rattle.model_house.specs.Turn.{turn_at}

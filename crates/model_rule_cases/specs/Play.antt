@@ -10,8 +10,7 @@ use Rattle.model.specs.declared.Operation.TheVariants.{Step}
 use Rattle.model.specs.Board.{no_counts}
 use Rattle.model.specs.Machine.{Command, opening_for}
 use Rattle.model_rule.specs.System.{System, Call, inputs, Run, none, call, machine, events, past, AfterEach}
-use Rattle.model_rule.specs.Event.{Event}
-use Rattle.model_rule.specs.Calls.{Input, sessions, RunWith}
+use Rattle.model_rule.specs.Calls.{Input, sessions}
 use Rattle.model_rule.specs.Rule.{Rule, ProposalsStand, AgreementWithin}
 
 -- ---- the machine
