@@ -1,5 +1,5 @@
 -- The highest filled round of a session is the highest written round of its past, and no mark stands above it.
-use Rattle.base.specs.Prelude.{ℕ, suc, ◌+◌, min, ◌≤◌, ◌<◌, arith, unary_clauses, ◌≡◌, refl, sym, ◌∙◌, true, List, [], ◌∷◌, get_or, eqb}
+use Rattle.base.specs.Prelude.{ℕ, suc, ◌+◌, min, ◌≤◌, ◌<◌, arith, unary_clauses, ◌≡◌, refl, sym, ◌∙◌, true, List, [], ◌∷◌, get_or, eqb, cond}
 use Rattle.base.specs.Prelude.{eqb-true, eqb-false}
 use Rattle.base.specs.Bools.{cond_cases}
 use Rattle.model.specs.declared.Session.{Session}
@@ -16,7 +16,7 @@ highest_from_law : (T t r : ℕ) (xs : List ℕ) → t ≡ min r T → ((k : ℕ
     ((k : ℕ) → 0 < get_or xs k 0 → r + suc k ≤ T) → highest_from t r xs ≡ T
 highest_from_law T t r [] e blank filled = omega (arith, blank 0 refl)
 highest_from_law T t r (x ∷ xs) e blank filled =
-    highest_from_law T _ (suc r) xs
+    highest_from_law T (cond (eqb x 0) t (suc r)) (suc r) xs
     (cond_cases (λ (y : ℕ). y ≡ min (suc r) T) (eqb x 0)
     (λ z. omega (arith, blank 0 (eqb-true x 0 z)))
     (λ z. let some = eqb-false x 0 z in omega (arith, filled 0 (omega arith))))

@@ -49,6 +49,7 @@ pub data Lawful (W n : ℕ) : List Event → Type 0 where
 
 -- Each event of a lawful past is lawful.
 pub lawful_at : {W n : ℕ} {x : Event} {b h : List Event} → Lawful W n h → Past (x ∷ b) h → EventLawful W n x b
+lawful_at none x = elim x [ ]
 lawful_at (also l k) here = k
 lawful_at (also l k) (there q) = lawful_at l q
 

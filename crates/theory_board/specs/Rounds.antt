@@ -5,7 +5,7 @@ use Rattle.model_laws.specs.Types.{Phase, Compare, Flag}
 use Rattle.model.specs.Step.{go_on}
 use Rattle.model_rule.specs.Event.{Event, flag}
 use Rattle.theory_board.specs.Epoch.{top, last, ComparedBy}
-use Rattle.model_rule.specs.Event.Past.{here, there}
+use Rattle.model_rule.specs.Event.Past.{here}
 use Rattle.base.specs.Bools.{cond_cases}
 use Rattle.theory_board.specs.Place.{Walked, Placed}
 use Rattle.theory_board.specs.Stays.{walked_event}
