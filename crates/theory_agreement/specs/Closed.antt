@@ -1,11 +1,11 @@
 -- After a close the proposals stand (document 02, wish 10): the closed mark stays, and where it is set no proposal is accepted.
-use Rattle.base.specs.Prelude.{ℕ, suc, zero, ◌≡◌, refl, sym, ◌∙◌, ap, subst, true, true≢false, List, ◌∷◌, ◌++◌}
+use Rattle.base.specs.Prelude.{ℕ, suc, zero, ◌≡◌, refl, sym, ◌∙◌, ap, subst, true, true≢false, List, [], ◌∷◌, ◌++◌}
 use Rattle.model_laws.specs.Types.{Phase, Idle, Waiting, Write, Scan, Adopt, Compare, Flag, CheckMark, CheckValue, Commit, Exhausted}
 use Rattle.model_laws.specs.Types.{Crashed, Decided, HasCommitted, HasAdopted, Session, Counts, Operation, Propose, Step, Learn, Crash}
 use Rattle.model_laws.specs.Types.{Command, acts, closes}
 use Rattle.model.specs.Board.{process_at}
 use Rattle.model.specs.Refusal.{refusal, tests, stepped}
-use Rattle.model.specs.Machine.{process_of, after, counts_after, answered, perform, execute}
+use Rattle.model.specs.Machine.{after, counts_after, answered, perform, execute}
 use Rattle.model_laws.specs.Accepted.{accepted}
 use Rattle.model_laws.specs.Operations.{after_same}
 use Rattle.model_rule.specs.Event.{Event, proposal, write, flag, commit, decision, step_events, look_events, command_events, proposals}
@@ -62,6 +62,7 @@ older : {v : ℕ} {e : Event} {h : List Event} → Proposed v h → Proposed v (
 older a = record { before = a.before; past = there a.past }
 
 listed_proposed : {v : ℕ} {vs : List ℕ} (h : List Event) → Past (v ∷ vs) (proposals h) → Proposed v h
+listed_proposed [] k = elim k [ ]
 listed_proposed (proposal u ∷ h) here = record { before = h; past = here }
 listed_proposed (proposal u ∷ h) (there k) = older (listed_proposed h k)
 listed_proposed (write p r u ∷ h) k = older (listed_proposed h k)

@@ -12,7 +12,7 @@ use Rattle.model_laws.specs.Callers.{caller_limits, opening_held}
 use Rattle.model_laws.specs.Answers.{stepped_code, operate_sound, propose_counts, crash_counts}
 use Rattle.model_rule.specs.Event.{Event}
 use Rattle.model_rule.specs.System.{inputs, machine, past, EachAsTheMachine}
-use Rattle.model_rule.specs.Calls.{Input, sessions, SessionCall, promised_for, RunWith}
+use Rattle.model_rule.specs.Calls.{sessions, SessionCall, promised_for, RunWith}
 use Rattle.model_rule.specs.Rule.{Rule, ProposalsStand, EveryWindow, AgreementRule, CallerAgreement}
 use Rattle.model_rule.specs.Safe.{Safe, BelowThreshold}
 use Rattle.theory_count.specs.Grid.{wide_below, below_wide}
