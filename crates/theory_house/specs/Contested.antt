@@ -9,7 +9,6 @@ use Rattle.model.specs.Refusal.{refusal}
 use Rattle.model_laws.specs.Operations.{access_in_range}
 use Rattle.model_rule.specs.Event.{Event}
 use Rattle.model_rule.specs.Contested.{marked_rounds, OneTally}
-use Rattle.model_poll.specs.Machine as poll
 use Rattle.model_poll.specs.Machine.{PollOperation}
 use Rattle.theory_board.specs.Lists.{machine_kept}
 use Rattle.theory_board.specs.Marks.{perform_adds, opened_unmarked, calls_contested}

@@ -6,7 +6,7 @@ use Rattle.base.specs.Arrays.{get_or_set_cases}
 use Rattle.model_laws.specs.Types.{Session}
 use Rattle.model_laws.specs.Windows.{window_square, window_least}
 use Rattle.model.specs.Window.{window}
-use Rattle.model_rule.specs.Event.{Event, decision, Past, here, Proposed}
+use Rattle.model_rule.specs.Event.{Event, Past, here, Proposed}
 use Rattle.model_poll_laws.specs.Sounds.{poll_open}
 use Rattle.theory_board.specs.Past.{happened_past, past_append}
 use Rattle.theory_board.specs.Lawful.{IsCommitted}

@@ -5,9 +5,8 @@ use Rattle.model.specs.Window.{window}
 use Rattle.model.specs.Board.{process_at}
 use Rattle.model.specs.Refusal.{status, is_gone}
 use Rattle.model_rule.specs.Event.{Event}
-use Rattle.model_poll_laws.specs.Performs as poll
 use Rattle.theory_board.specs.Reached.{Reached}
-use Rattle.model_house.specs.House.{worker_at, ward_of, session_index, session_at, poll_at, seat_of, ward_seats, ward_rounds, worker}
+use Rattle.model_house.specs.House.{worker_at, ward_of, session_index, session_at, poll_at, seat_of, ward_seats, ward_rounds}
 use Rattle.model_house.specs.Machine.{phase_of}
 use Rattle.model_house.specs.Sound.{seats_fit}
 use Rattle.theory_house.specs.Types.{Place, Stance, Working, Decided, Worker, House}
