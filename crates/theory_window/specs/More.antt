@@ -190,7 +190,7 @@ module _ {O A : Type 0} (M : System Session (Input O) A Event) (test : Session â
     watched_same s h [] end all = record { left = s; past = h; holds = all; played = refl }
     watched_same s h (o âˆ· os) end all =
         let k = one s o (and_left (test s o) _ all) in
-        let rest = watched_same _ _ os end (and_right (test s o) _ all) in
+        let rest = watched_same (M.state (M.perform s (uncounted o))) _ os end (and_right (test s o) _ all) in
         record { left = rest.left; past = rest.past; holds = rest.holds; played = rw (k.0, k.1) rest.played }
 
 -- A step of a process of the session that does not come to the limit, or another operation of such a process. (No list here closes.)

@@ -1,5 +1,5 @@
 -- By computation: the list of calls of each window from 2 to 15 (`theory_window`, `Construction`) breaks the rule of polls at that window.
-use Rattle.std.specs.Prelude.{ℕ, ◌-◌, ◌≡◌, refl, Bool, true, ◌&&◌, List, [], ◌++◌, map, replicate}
+use Rattle.std.specs.Prelude.{ℕ, ◌≡◌, refl, Bool, true, ◌&&◌, List, [], ◌++◌, map, replicate}
 use Rattle.model_laws.specs.Types.{Session, Operation, Propose, Step, Learn, Crash}
 use Rattle.model.specs.Board.{opened, process_at}
 use Rattle.model.specs.Step.{waiting_rule, phase_access, access, found, go_on, phase_next, next, learnt, stored, turn, counted}

@@ -15,7 +15,7 @@ use Rattle.model_rule_cases.specs.Play.{fed_by, played, played_machine, Called, 
 use Rattle.model_rule_cases.specs.PollRefuted.{is_answer, answer_only}
 use Rattle.theory_window.specs.Construction.{at_last, with_one, with_two}
 use Rattle.theory_window.specs.More.{grown}
-use Rattle.theory_window.specs.Theorem.{every_from, too_short}
+use Rattle.theory_window.proofs.Theorem.{every_from, too_short}
 use Rattle.theory_poll.specs.Theorem.{poll_below_threshold}
 use Rattle.theory_window.specs.PollBroken.{operations, answers_differ, broken, all_broken}
 use Rattle.theory_window.specs.PollMore.{polls_same}
