@@ -19,7 +19,7 @@ CODE = ["crates", "crates.txt", "include", "examples", "tests", "reference", "be
 TEXTS = {".rt", ".antt", ".h", ".c", ".rs", ".sh", ".py", ".txt", ".edit", ".template", ""}
 PLACES = [ROOT / place for place in [".", "crates", "docs", "tests/theorem-edits", "reference/src", "reference/src/tests"]]
 PATH = re.compile(r"[\w.*/-]+\.(?:md|sh|py|rs|c|h|rt|antt|edit|template|svg|sheet|poll|house|txt|out)|[\w.*-]+/[\w.*/-]*")
-MADE = re.compile(r"/|target/|guides/|.*\b[A-Z]{2,}\b(?!-|\.md)")  # not in the repository, or with a word that stands for something
+MADE = re.compile(r"/|target/|rattle/|.*\b[A-Z]{2,}\b(?!-|\.md)")  # not in the repository, or with a word that stands for something
 
 
 def below(top):
