@@ -11,7 +11,6 @@ use part_registers::{mark, value};
 
 // 02, wish 6: "Each worker walks the same steps, ending with round W": one register operation, what the process becomes by the value read,
 // and the answer that it then has. i is p wherever the call is accepted: where it is not, the tests refuse.
-#[tactic(auto, using(base::specs::Arrays::length_mapped, model_laws::specs::Sounds::sound_few, model_laws::specs::Sounds::sound_low, model_laws::specs::Answers::first_is, model_poll_laws::specs::Sounds::poll_process, model_poll_laws::specs::Sounds::poll_access_range, model_poll_laws::specs::Answers::turn_refused, model_poll_laws::specs::Answers::turn_known, model_poll_laws::specs::Answers::turn_index, model_poll_laws::specs::Answers::turn_left, crate::specs::Turned::turned_counts, crate::specs::Turned::turned_poll, crate::specs::Turned::turned_answer), unfolding(model::specs::Window::window, model::specs::Step::counted, model::specs::Refusal::full, model::specs::Sound::sound_as))]
 pub fn turn(s: Session, p: usize, c: Counts) -> PollStepped
     ensures { result ≡ poll_turn s p c }
 {

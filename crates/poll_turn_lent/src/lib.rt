@@ -8,7 +8,6 @@ ghost use Rattle.model_poll.specs.Public.{poll_turn, with_lent};
 use model::{Counts, Session};
 use model_poll::Polled;
 
-#[tactic(auto, using(base_walk::proofs::Walk::gone, base_walk::proofs::Walk::asks, base_walk::proofs::Walk::proved, session_lent_laws::proofs::Lent::reads, session_lent_laws::proofs::Lent::opened, session_lent_laws::proofs::Lent::closed, session_lent_laws::proofs::Turns::counts_of, session_lent_laws::proofs::Turns::rest_of))]
 pub fn turn(s: Session, p: usize, counts: &mut Counts) -> Polled
     ensures { with_lent result counts.new ≡ poll_turn s p counts.old }
 {

@@ -8,7 +8,6 @@ ghost use Rattle.model.specs.Public.{with_counts, step as step_of, learn as lear
 use model::{Changed, Counts, Session};
 
 // 01, "One turn at a time": a work turn.
-#[tactic(auto, using(base_walk::proofs::Walk::proved, session_lent_laws::proofs::Thin::walk_three))]
 pub fn step(s: Session, p: usize, leader: bool, counts: &mut Counts) -> Changed
     ensures { with_counts result counts.new ≡ step_of s p leader counts.old }
 {
@@ -21,7 +20,6 @@ pub fn step(s: Session, p: usize, leader: bool, counts: &mut Counts) -> Changed
 }
 
 // 01, "One turn at a time": a look.
-#[tactic(auto, using(base_walk::proofs::Walk::proved, session_lent_laws::proofs::Thin::walk_two))]
 pub fn learn(s: Session, p: usize, counts: &mut Counts) -> Changed
     ensures { with_counts result counts.new ≡ learn_of s p counts.old }
 {
