@@ -8,7 +8,7 @@ ghost use Rattle.model.specs.Export.{decided_bytes};
 use model::{Phase, Session};
 
 // The bytes of the decided values, four to a process, for all 64; 0 where there is none.
-#[tactic(auto, using(base::specs::Arrays::length_mapped, crate::specs::Bytes::undecided, crate::specs::Bytes::decided_more))]
+#[tactic(auto, using(base::specs::Arrays::length_mapped))]
 pub fn put_decided(s: Session, buffer: &mut [u8])
     ensures { buffer.new ≡ sets buffer.old 0 (decided_bytes s.processes) }
 {

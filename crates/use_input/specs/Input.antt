@@ -1,9 +1,12 @@
 -- What is known of the bytes that were read, and the law by which a program's proof uses it. Assumes nothing.
-use Rattle.std.specs.Prelude.{ℕ, ◌≡◌, List}
+use Rattle.std.specs.Prelude.{ℕ, ◌≡◌, ◌≤◌, List, length, take}
 use Rattle.std.proofs.Common.{subst}
-use Rattle.io.specs.Counts.{IsPrefixLen}
 use Rattle.use_input.specs.declared.Input.{Input}
 use Rattle.use_input.specs.declared.Input.TheVariants.{Bytes, Failed}
+
+-- The first n of the list lie in it, and are n. (Of the library `io`, which said the same by this name.)
+abbrev pub IsPrefixLen : ℕ → List ℕ → Type 0
+IsPrefixLen n xs = (n ≤ length xs) × (n ≡ length (take n xs))
 
 -- The bytes that were read are the first of the buffer. (That they are those of the input no contract can say.)
 abbrev pub InputHeld : Input → List ℕ → Type 0

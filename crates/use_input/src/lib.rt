@@ -2,12 +2,13 @@
 // that a sheet is not judged by its first part.
 //
 // A read that a signal interrupts (EINTR) counts as failed and is not tried again. These programs catch no signal, so the system itself
-// goes on with such a read, or ends the program. To tell EINTR from other failures a program needs errno, hence C code of the kit's `os`,
-// and more assumptions than those on `read` and `write`.
+// goes on with such a read, or ends the program.
 #![tactic(auto)]
 
 ghost use Rattle.std.specs.Prelude.{◌≡◌};
 ghost use Rattle.use_input.specs.Input.{InputHeld};
+
+use std::io::{Print, Read};
 
 // The bytes that were read, from the buffer's start on, or that a read failed.
 #[derive(Clone, Copy)]
@@ -16,26 +17,26 @@ pub enum Input {
     Failed,
 }
 
-fn failed(program: &[u8]) -> Input
+// What cannot be written to standard error is lost: there is nowhere else to say it.
+fn failed(rt: &HostRuntime, program: &[u8]) -> Input
     ensures { result ≡ Input.Failed }
 {
-    io::write_all(2, program);
-    io::write_all(2, b": standard input cannot be read\n");
+    let _ = rt.stderr().write_all(program);
+    let _ = rt.stderr().write_all(b": standard input cannot be read\n");
     Input::Failed
 }
 
 // Where a read fails, one line on standard error says so, with the program's name.
-pub fn read(program: &[u8], buf: &mut [u8]) -> Input
+pub fn read(rt: &HostRuntime, program: &[u8], buf: &mut [u8]) -> Input
     ensures { InputHeld result buf.new }
 {
+    let mut input = rt.stdin();
     let mut done: usize = 0;
     while done < buf.len() {
         let rest = &mut buf[done..];
-        let got = libc::read(0, rest);
-        if got < 0 {
-            return failed(program);
-        }
-        let count = io::count(got, rest);
+        let Ok(count) = input.read(rest) else {
+            return failed(rt, program);
+        };
         if count == 0 {
             return Input::Bytes(done);
         }
