@@ -13,6 +13,7 @@ use session_read_decision::decision;
 use session_read_process::process_record;
 use session_read_register::register;
 use session_values::standing_values;
+use std::io::Print;
 use std::num::wrapping_add_u32;
 use use_input::Input;
 
@@ -113,9 +114,9 @@ fn turned(count: u32) -> u32 {
     after.values[(count % 6) as usize]
 }
 
-fn main() {
+fn main(rt: HostRuntime) {
     let mut asked = [0u8; 5];
-    let Input::Bytes(_) = use_input::read(b"test_bench", &mut asked) else {
+    let Input::Bytes(_) = use_input::read(&rt, b"test_bench", &mut asked) else {
         return;
     };
     let operation = asked[0];
@@ -128,5 +129,5 @@ fn main() {
     } else {
         turned(count)
     };
-    io::print_decimal(1, number as u64);
+    let _ = rt.print(number);
 }

@@ -11,6 +11,7 @@ ghost use Rattle.std.specs.Prelude.{◌≤◌, ◌<◌};
 use model::Counts;
 use model_house::{House, HouseChanged, HouseStepped};
 use part_bytes::byte;
+use std::io::Print;
 use use_input::Input;
 
 mod fields;
@@ -26,36 +27,36 @@ fn uncounted(r: HouseChanged, c: Counts) -> HouseStepped {
     }
 }
 
-fn propose(h: House, c: Counts, p: u8, v: u32) -> HouseStepped {
+fn propose(rt: &impl Print, h: House, c: Counts, p: u8, v: u32) -> HouseStepped {
     let r = system_house_change::propose(h, p as usize, v);
-    show::line(b"propose", p as u64, v as u64);
-    show::number(r.code as u64);
+    show::line(rt, b"propose", p as u64, v as u64);
+    show::number(rt, r.code as u64);
     uncounted(r, c)
 }
 
-fn turn(h: House, c: Counts, p: u8, hint: bool) -> HouseStepped {
+fn turn(rt: &impl Print, h: House, c: Counts, p: u8, hint: bool) -> HouseStepped {
     let r = system_house_turn::turn(h, p as usize, hint, c);
     let hinted: u64 = if hint { 1 } else { 0 };
-    show::line(b"turn", p as u64, hinted);
-    show::number(r.code as u64);
+    show::line(rt, b"turn", p as u64, hinted);
+    show::number(rt, r.code as u64);
     r
 }
 
-fn crash(h: House, c: Counts, p: u8) -> HouseStepped {
+fn crash(rt: &impl Print, h: House, c: Counts, p: u8) -> HouseStepped {
     let r = system_house_change::crash(h, p as usize);
-    show::line(b"crash", p as u64, r.code as u64);
+    show::line(rt, b"crash", p as u64, r.code as u64);
     uncounted(r, c)
 }
 
-fn look(h: House, c: Counts, p: u8) -> HouseStepped {
+fn look(rt: &impl Print, h: House, c: Counts, p: u8) -> HouseStepped {
     let r = system_house_change::learn(h, p as usize, c);
-    show::line(b"look", p as u64, r.code as u64);
+    show::line(rt, b"look", p as u64, r.code as u64);
     r
 }
 
-fn set(h: House, c: Counts, kind: u8, a: u8, v: u32) -> HouseStepped {
-    show::line(b"set", kind as u64, a as u64);
-    show::number(v as u64);
+fn set(rt: &impl Print, h: House, c: Counts, kind: u8, a: u8, v: u32) -> HouseStepped {
+    show::line(rt, b"set", kind as u64, a as u64);
+    show::number(rt, v as u64);
     HouseStepped {
         code: 0,
         house: fields::set(h, kind, a as usize, v),
@@ -64,15 +65,15 @@ fn set(h: House, c: Counts, kind: u8, a: u8, v: u32) -> HouseStepped {
 }
 
 // One operation, and its line.
-fn operation(h: House, c: Counts, kind: u8, a: u8, v: u32) -> HouseStepped {
+fn operation(rt: &impl Print, h: House, c: Counts, kind: u8, a: u8, v: u32) -> HouseStepped {
     let r = match kind {
-        0 => propose(h, c, a, v),
-        1 => turn(h, c, a, v != 0),
-        2 => crash(h, c, a),
-        3 => look(h, c, a),
-        _ => set(h, c, kind, a, v),
+        0 => propose(rt, h, c, a, v),
+        1 => turn(rt, h, c, a, v != 0),
+        2 => crash(rt, h, c, a),
+        3 => look(rt, h, c, a),
+        _ => set(rt, h, c, kind, a, v),
     };
-    show::word(b"\n");
+    show::word(rt, b"\n");
     r
 }
 
@@ -83,7 +84,7 @@ fn whole(bytes: &[u8], from: usize) -> usize {
 }
 
 // As many operations as are told, or as the input has whole.
-fn operations(bytes: &[u8], from: usize, told: usize, opened: House)
+fn operations(rt: &impl Print, bytes: &[u8], from: usize, told: usize, opened: House)
     requires { (from ≤ 65795) × (told ≤ 65535) }
 {
     let mut h = opened;
@@ -96,6 +97,7 @@ fn operations(bytes: &[u8], from: usize, told: usize, opened: House)
     for i in 0..count {
         let at = from + 6 * i;
         let r = operation(
+            rt,
             h,
             c,
             byte(bytes, at),
@@ -105,11 +107,11 @@ fn operations(bytes: &[u8], from: usize, told: usize, opened: House)
         h = r.house;
         c = r.counts;
     }
-    show::end(h, c);
+    show::end(rt, h, c);
 }
 
 // The house at a byte, with the wards that the input has; the byte after it.
-fn house(bytes: &[u8], at: usize) -> usize
+fn house(rt: &impl Print, bytes: &[u8], at: usize) -> usize
     requires { at < 65536 }
     ensures { at < result }
 {
@@ -120,26 +122,26 @@ fn house(bytes: &[u8], at: usize) -> usize
     let end = start + n;
     let wards = &bytes[start..end];
     let opened = system_house_open::open(c as usize, wards);
-    show::line(b"house", c as u64, n as u64);
-    show::number(opened.code as u64);
-    show::word(b"\n");
+    show::line(rt, b"house", c as u64, n as u64);
+    show::number(rt, opened.code as u64);
+    show::word(rt, b"\n");
     let from = at + 2 + told;
     let count = part_bytes::word16(bytes, from) as usize;
     if opened.code == 0 {
-        operations(bytes, from + 2, count, opened.house);
+        operations(rt, bytes, from + 2, count, opened.house);
     }
     from + 2 + 6 * count
 }
 
 #[tactic(auto, using(use_input::specs::Input::held_bytes))]
-fn main() {
-    let mut input = io::large_buffer();
-    let Input::Bytes(n) = use_input::read(b"test_house", &mut input) else {
+fn main(rt: HostRuntime) {
+    let mut input = [0u8; 65536];
+    let Input::Bytes(n) = use_input::read(&rt, b"test_house", &mut input) else {
         return;
     };
     let bytes = &input[..n];
     let mut at: usize = 0;
     while at < n {
-        at = house(bytes, at);
+        at = house(&rt, bytes, at);
     }
 }

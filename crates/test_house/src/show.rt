@@ -3,22 +3,24 @@ ghost use Rattle.std.specs.Prelude.{◌≤◌};
 
 use model::{Counts, Phase, Process, Session};
 use model_house::{House, Place, Row, Stance, Table, Worker};
+use std::io::Print;
 
-pub(crate) fn word(w: &[u8]) {
-    io::write_all(1, w);
+// What cannot be written is lost, here and below: a test compares what was.
+pub(crate) fn word(rt: &impl Print, w: &[u8]) {
+    let _ = rt.write_all(w);
 }
 
 // A number behind a blank.
-pub(crate) fn number(n: u64) {
-    word(b" ");
-    io::print_decimal(1, n);
+pub(crate) fn number(rt: &impl Print, n: u64) {
+    word(rt, b" ");
+    let _ = rt.print(n);
 }
 
 // Two numbers behind a word.
-pub(crate) fn line(w: &[u8], a: u64, b: u64) {
-    word(w);
-    number(a);
-    number(b);
+pub(crate) fn line(rt: &impl Print, w: &[u8], a: u64, b: u64) {
+    word(rt, w);
+    number(rt, a);
+    number(rt, b);
 }
 
 // The smaller of two numbers.
@@ -28,83 +30,83 @@ pub(crate) fn least(a: usize, b: usize) -> usize
     if a < b { a } else { b }
 }
 
-fn row(o: usize, r: Row) {
+fn row(rt: &impl Print, o: usize, r: Row) {
     let entries = r.entries;
-    line(b"row", o as u64, entries[0] as u64);
-    number(entries[1] as u64);
-    number(entries[2] as u64);
-    number(entries[3] as u64);
-    word(b"\n");
+    line(rt, b"row", o as u64, entries[0] as u64);
+    number(rt, entries[1] as u64);
+    number(rt, entries[2] as u64);
+    number(rt, entries[3] as u64);
+    word(rt, b"\n");
 }
 
-fn table(t: Table) {
+fn table(rt: &impl Print, t: Table) {
     for o in 0..8 {
-        row(o + 1, t.rows[o]);
+        row(rt, o + 1, t.rows[o]);
     }
 }
 
-fn place(p: Place) {
+fn place(rt: &impl Print, p: Place) {
     match p {
-        Place::ProposeWard => word(b" propose-ward"),
-        Place::StepWard => word(b" work"),
-        Place::LearnWard => word(b" look"),
-        Place::WriteTable => word(b" write-table"),
-        Place::ProposePoll => word(b" propose-poll"),
-        Place::StepPoll => word(b" poll"),
-        Place::ReadTable => word(b" read-table"),
-        Place::WriteHouse => word(b" write-house"),
+        Place::ProposeWard => word(rt, b" propose-ward"),
+        Place::StepWard => word(rt, b" work"),
+        Place::LearnWard => word(rt, b" look"),
+        Place::WriteTable => word(rt, b" write-table"),
+        Place::ProposePoll => word(rt, b" propose-poll"),
+        Place::StepPoll => word(rt, b" poll"),
+        Place::ReadTable => word(rt, b" read-table"),
+        Place::WriteHouse => word(rt, b" write-house"),
     }
 }
 
-fn stance(s: Stance) {
+fn stance(rt: &impl Print, s: Stance) {
     match s {
-        Stance::Idle => word(b" out"),
-        Stance::Working(p) => place(p),
-        Stance::Exhausted => word(b" spent"),
-        Stance::Crashed => word(b" crashed"),
-        Stance::Decided => word(b" decided"),
+        Stance::Idle => word(rt, b" out"),
+        Stance::Working(p) => place(rt, p),
+        Stance::Exhausted => word(rt, b" spent"),
+        Stance::Crashed => word(rt, b" crashed"),
+        Stance::Decided => word(rt, b" decided"),
     }
 }
 
-fn worker(p: usize, q: Worker) {
+fn worker(rt: &impl Print, p: usize, q: Worker) {
     let own = q.stance;
-    word(b"worker");
-    number(p as u64);
-    stance(own);
-    number(q.outer as u64);
-    number(q.value as u64);
-    word(b"\n");
+    word(rt, b"worker");
+    number(rt, p as u64);
+    stance(rt, own);
+    number(rt, q.outer as u64);
+    number(rt, q.value as u64);
+    word(rt, b"\n");
 }
 
-fn workers(h: House) {
+fn workers(rt: &impl Print, h: House) {
     let n = least(h.n, 16);
     for p in 0..n {
-        worker(p, h.workers[p]);
+        worker(rt, p, h.workers[p]);
     }
 }
 
-fn phase(w: &[u8], k: usize) {
-    word(w);
-    number(k as u64);
+fn phase(rt: &impl Print, w: &[u8], k: usize) {
+    word(rt, w);
+    number(rt, k as u64);
 }
 
-fn phase_of(p: Phase) {
+fn phase_of(rt: &impl Print, p: Phase) {
     match p {
-        Phase::Idle => phase(b" out", 0),
-        Phase::Waiting => phase(b" gate", 0),
-        Phase::Write => phase(b" put", 0),
-        Phase::Scan(k) => phase(b" seek", k),
-        Phase::Adopt(k) => phase(b" take", k),
-        Phase::Compare(i) => phase(b" compare", i),
-        Phase::Flag(i) => phase(b" flag", i),
-        Phase::CheckMark(i) => phase(b" check-mark", i),
-        Phase::CheckValue(i) => phase(b" check-value", i),
-        Phase::Commit => phase(b" commit", 0),
-        Phase::Exhausted => phase(b" spent", 0),
-        Phase::Crashed => phase(b" crashed", 0),
-        Phase::Decided => phase(b" decided", 0),
-        Phase::HasCommitted => phase(b" committed", 0),
-        Phase::HasAdopted => phase(b" adopted", 0),
+        Phase::Idle => phase(rt, b" out", 0),
+        Phase::Waiting => phase(rt, b" gate", 0),
+        Phase::Write => phase(rt, b" put", 0),
+        Phase::Scan(k) => phase(rt, b" seek", k),
+        Phase::Adopt(k) => phase(rt, b" take", k),
+        Phase::Compare(i) => phase(rt, b" compare", i),
+        Phase::Flag(i) => phase(rt, b" flag", i),
+        Phase::CheckMark(i) => phase(rt, b" check-mark", i),
+        Phase::CheckValue(i) => phase(rt, b" check-value", i),
+        Phase::Commit => phase(rt, b" commit", 0),
+        Phase::Exhausted => phase(rt, b" spent", 0),
+        Phase::Crashed => phase(rt, b" crashed", 0),
+        Phase::Decided => phase(rt, b" decided", 0),
+        Phase::HasCommitted => phase(rt, b" committed", 0),
+        Phase::HasAdopted => phase(rt, b" adopted", 0),
     }
 }
 
@@ -135,77 +137,77 @@ fn blank_seats(s: Session) -> bool {
     true
 }
 
-fn round(r: usize, value: u32, marked: bool) {
-    line(b"round", r as u64, value as u64);
+fn round(rt: &impl Print, r: usize, value: u32, marked: bool) {
+    line(rt, b"round", r as u64, value as u64);
     if marked {
-        word(b" marked\n");
+        word(rt, b" marked\n");
     } else {
-        word(b" unmarked\n");
+        word(rt, b" unmarked\n");
     }
 }
 
-fn rounds(s: Session) {
+fn rounds(rt: &impl Print, s: Session) {
     for r in 0..256 {
         if (s.values[r] != 0) | s.marks[r] {
-            round(r + 1, s.values[r], s.marks[r]);
+            round(rt, r + 1, s.values[r], s.marks[r]);
         }
     }
 }
 
-fn seat(p: usize, q: Process) {
+fn seat(rt: &impl Print, p: usize, q: Process) {
     let own = q.phase;
-    word(b"seat");
-    number(p as u64);
-    phase_of(own);
-    number(q.round as u64);
-    number(q.estimate as u64);
-    word(b"\n");
+    word(rt, b"seat");
+    number(rt, p as u64);
+    phase_of(rt, own);
+    number(rt, q.round as u64);
+    number(rt, q.estimate as u64);
+    word(rt, b"\n");
 }
 
-fn seats(s: Session) {
+fn seats(rt: &impl Print, s: Session) {
     for p in 0..64 {
         let q = s.processes[p];
         if !blank_seat(q) {
-            seat(p, q);
+            seat(rt, p, q);
         }
     }
 }
 
 // A session or a poll, where it is not as opened.
-fn board(i: usize, s: Session) {
+fn board(rt: &impl Print, i: usize, s: Session) {
     if !s.closed & (s.decision == 0) & blank_rounds(s) & blank_seats(s) {
         return;
     }
-    line(b"board", i as u64, s.n as u64);
-    number(s.limit as u64);
-    number(s.decision as u64);
+    line(rt, b"board", i as u64, s.n as u64);
+    number(rt, s.limit as u64);
+    number(rt, s.decision as u64);
     if s.closed {
-        word(b" closed\n");
+        word(rt, b" closed\n");
     } else {
-        word(b" open\n");
+        word(rt, b" open\n");
     }
-    rounds(s);
-    seats(s);
+    rounds(rt, s);
+    seats(rt, s);
 }
 
 // The sessions are boards 0 to 31, the polls 32 to 39.
-fn boards(h: House) {
+fn boards(rt: &impl Print, h: House) {
     for i in 0..40 {
         if i < 32 {
-            board(i, h.sessions[i % 32]);
+            board(rt, i, h.sessions[i % 32]);
         } else {
-            board(i, h.polls[i % 8]);
+            board(rt, i, h.polls[i % 8]);
         }
     }
 }
 
-pub(crate) fn end(h: House, c: Counts) {
-    line(b"tally", c.reads as u64, c.writes as u64);
-    number(c.contested as u64);
-    word(b"\ndecision");
-    number(h.decision as u64);
-    word(b"\n");
-    table(h.table);
-    workers(h);
-    boards(h);
+pub(crate) fn end(rt: &impl Print, h: House, c: Counts) {
+    line(rt, b"tally", c.reads as u64, c.writes as u64);
+    number(rt, c.contested as u64);
+    word(rt, b"\ndecision");
+    number(rt, h.decision as u64);
+    word(rt, b"\n");
+    table(rt, h.table);
+    workers(rt, h);
+    boards(rt, h);
 }

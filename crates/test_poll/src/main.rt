@@ -8,37 +8,42 @@
 
 ghost use Rattle.std.specs.Prelude.{◌≡◌, ◌+◌, ◌*◌, ◌≤◌, ◌<◌};
 
-use io::write_all;
 use model::{Counts, Phase, Process, ProcessAnswer, Session};
 use model_poll::{Answer, PollStepped};
 use part_bytes::byte;
+use std::io::Print;
 use use_input::Input;
 
+// What cannot be written is lost, here and below: a test compares what was.
+fn write(rt: &impl Print, text: &[u8]) {
+    let _ = rt.write_all(text);
+}
+
 // A number behind a blank.
-fn print(n: u64) {
-    write_all(1, b" ");
-    io::print_decimal(1, n);
+fn print(rt: &impl Print, n: u64) {
+    write(rt, b" ");
+    let _ = rt.print(n);
 }
 
 // Two numbers behind a word.
-fn print_line(word: &[u8], a: u64, b: u64) {
-    write_all(1, word);
-    print(a);
-    print(b);
+fn print_line(rt: &impl Print, word: &[u8], a: u64, b: u64) {
+    write(rt, word);
+    print(rt, a);
+    print(rt, b);
 }
 
-fn print_answer(answer: Answer) {
+fn print_answer(rt: &impl Print, answer: Answer) {
     match answer {
         Answer::Pending => {
-            write_all(1, b" none");
+            write(rt, b" none");
         }
         Answer::Commits(v) => {
-            write_all(1, b" committed");
-            print(v as u64);
+            write(rt, b" committed");
+            print(rt, v as u64);
         }
         Answer::Adopts(v) => {
-            write_all(1, b" adopted");
-            print(v as u64);
+            write(rt, b" adopted");
+            print(rt, v as u64);
         }
     }
 }
@@ -53,52 +58,52 @@ fn unasked(code: u32, s: Session, c: Counts) -> PollStepped {
     }
 }
 
-fn propose(s: Session, c: Counts, p: u8, v: u32) -> PollStepped {
+fn propose(rt: &impl Print, s: Session, c: Counts, p: u8, v: u32) -> PollStepped {
     let r = poll_change::propose(s, p as usize, v);
-    print_line(b"propose", p as u64, v as u64);
-    print(r.code as u64);
+    print_line(rt, b"propose", p as u64, v as u64);
+    print(rt, r.code as u64);
     unasked(r.code, r.session, c)
 }
 
-fn turn(s: Session, c: Counts, p: u8) -> PollStepped {
+fn turn(rt: &impl Print, s: Session, c: Counts, p: u8) -> PollStepped {
     let r = poll_turn::turn(s, p as usize, c);
-    print_line(b"turn", p as u64, r.code as u64);
+    print_line(rt, b"turn", p as u64, r.code as u64);
     let answer = r.answer;
-    print_answer(answer);
+    print_answer(rt, answer);
     r
 }
 
-fn crash(s: Session, c: Counts, p: u8) -> PollStepped {
+fn crash(rt: &impl Print, s: Session, c: Counts, p: u8) -> PollStepped {
     let r = poll_change::crash(s, p as usize);
-    print_line(b"crash", p as u64, r.code as u64);
+    print_line(rt, b"crash", p as u64, r.code as u64);
     unasked(r.code, r.session, c)
 }
 
 // 3 where the poll is no sound session.
-fn read_as_session(s: Session, c: Counts, p: u8) -> PollStepped {
+fn read_as_session(rt: &impl Print, s: Session, c: Counts, p: u8) -> PollStepped {
     let code = session_read_process::process_record(s, p as usize).code;
-    print_line(b"session", p as u64, code as u64);
+    print_line(rt, b"session", p as u64, code as u64);
     unasked(code, s, c)
 }
 
 // Polls have no close: a poll that was closed as a session is unsound.
-fn close_as_session(s: Session, c: Counts) -> PollStepped {
+fn close_as_session(rt: &impl Print, s: Session, c: Counts) -> PollStepped {
     let r = session_close::close(s);
-    write_all(1, b"close");
-    print(r.code as u64);
+    write(rt, b"close");
+    print(rt, r.code as u64);
     unasked(r.code, r.session, c)
 }
 
 // One operation, and its line.
-fn operation(s: Session, c: Counts, kind: u8, p: u8, v: u32) -> PollStepped {
+fn operation(rt: &impl Print, s: Session, c: Counts, kind: u8, p: u8, v: u32) -> PollStepped {
     let r = match kind {
-        0 => propose(s, c, p, v),
-        1 => turn(s, c, p),
-        2 => crash(s, c, p),
-        4 => close_as_session(s, c),
-        _ => read_as_session(s, c, p),
+        0 => propose(rt, s, c, p, v),
+        1 => turn(rt, s, c, p),
+        2 => crash(rt, s, c, p),
+        4 => close_as_session(rt, s, c),
+        _ => read_as_session(rt, s, c, p),
     };
-    write_all(1, b"\n");
+    write(rt, b"\n");
     r
 }
 
@@ -109,72 +114,72 @@ fn least(a: usize, b: usize) -> usize
     if a < b { a } else { b }
 }
 
-fn print_mark(marked: bool) {
+fn print_mark(rt: &impl Print, marked: bool) {
     if marked {
-        write_all(1, b" marked\n");
+        write(rt, b" marked\n");
     } else {
-        write_all(1, b" unmarked\n");
+        write(rt, b" unmarked\n");
     }
 }
 
 // The registers of the rounds 1 to L.
-fn print_rounds(s: Session) {
+fn print_rounds(rt: &impl Print, s: Session) {
     let rounds = least(s.limit, 256);
     for r in 0..rounds {
-        print_line(b"round", r as u64 + 1, s.values[r] as u64);
-        print_mark(s.marks[r]);
+        print_line(rt, b"round", r as u64 + 1, s.values[r] as u64);
+        print_mark(rt, s.marks[r]);
     }
 }
 
 // What a record shows.
-fn print_status(q: Process) {
+fn print_status(rt: &impl Print, q: Process) {
     let phase = q.phase;
     let answer = part_poll::answer(q);
     match phase {
         Phase::Idle => {
-            write_all(1, b" out");
+            write(rt, b" out");
         }
         Phase::Crashed => {
-            write_all(1, b" crashed");
+            write(rt, b" crashed");
         }
         Phase::HasCommitted => {
-            print_answer(answer);
+            print_answer(rt, answer);
         }
         Phase::HasAdopted => {
-            print_answer(answer);
+            print_answer(rt, answer);
         }
         _ => {
-            print_line(b" working", q.round as u64, q.estimate as u64);
+            print_line(rt, b" working", q.round as u64, q.estimate as u64);
         }
     }
 }
 
 // What the read-out of a seat gives.
-fn print_seat(r: ProcessAnswer) {
+fn print_seat(rt: &impl Print, r: ProcessAnswer) {
     if r.code == 0 {
-        print_status(r.process);
+        print_status(rt, r.process);
     } else {
-        write_all(1, b" refused");
-        print(r.code as u64);
+        write(rt, b" refused");
+        print(rt, r.code as u64);
     }
 }
 
-fn print_seats(s: Session) {
+fn print_seats(rt: &impl Print, s: Session) {
     let n = s.n;
     for p in 0..n {
-        write_all(1, b"seat");
-        print(p as u64);
-        print_seat(poll_change::process_record(s, p));
-        write_all(1, b"\n");
+        write(rt, b"seat");
+        print(rt, p as u64);
+        print_seat(rt, poll_change::process_record(s, p));
+        write(rt, b"\n");
     }
 }
 
-fn print_end(s: Session, c: Counts) {
-    print_line(b"tally", c.reads as u64, c.writes as u64);
-    print(c.contested as u64);
-    write_all(1, b"\n");
-    print_rounds(s);
-    print_seats(s);
+fn print_end(rt: &impl Print, s: Session, c: Counts) {
+    print_line(rt, b"tally", c.reads as u64, c.writes as u64);
+    print(rt, c.contested as u64);
+    write(rt, b"\n");
+    print_rounds(rt, s);
+    print_seats(rt, s);
 }
 
 // How many operations of six bytes the input has from a byte on.
@@ -184,7 +189,7 @@ fn whole(bytes: &[u8], from: usize) -> usize {
 }
 
 // As many operations as are told, or as the input has whole.
-fn operations(bytes: &[u8], from: usize, told: usize, opened: Session)
+fn operations(rt: &impl Print, bytes: &[u8], from: usize, told: usize, opened: Session)
     requires { (from ≤ 65536 + 3) × (told ≤ 65535) }
 {
     let mut s = opened;
@@ -197,6 +202,7 @@ fn operations(bytes: &[u8], from: usize, told: usize, opened: Session)
     for i in 0..count {
         let at = from + 6 * i;
         let r = operation(
+            rt,
             s,
             c,
             byte(bytes, at),
@@ -206,11 +212,11 @@ fn operations(bytes: &[u8], from: usize, told: usize, opened: Session)
         s = r.session;
         c = r.counts;
     }
-    print_end(s, c);
+    print_end(rt, s, c);
 }
 
 // The poll at a byte; the byte after it.
-fn poll(bytes: &[u8], at: usize) -> usize
+fn poll(rt: &impl Print, bytes: &[u8], at: usize) -> usize
     requires { at < 65536 }
     ensures { at < result }
 {
@@ -218,23 +224,23 @@ fn poll(bytes: &[u8], at: usize) -> usize
     let n = byte(bytes, at + 1) as usize;
     let told = part_bytes::word16(bytes, at + 2) as usize;
     let opened = poll_open::open(caller, n);
-    print_line(b"poll", n as u64, opened.code as u64);
-    write_all(1, b"\n");
+    print_line(rt, b"poll", n as u64, opened.code as u64);
+    write(rt, b"\n");
     if opened.code == 0 {
-        operations(bytes, at + 4, told, opened.session);
+        operations(rt, bytes, at + 4, told, opened.session);
     }
     at + 4 + 6 * told
 }
 
 #[tactic(auto, using(use_input::specs::Input::held_bytes))]
-fn main() {
-    let mut input = io::large_buffer();
-    let Input::Bytes(n) = use_input::read(b"test_poll", &mut input) else {
+fn main(rt: HostRuntime) {
+    let mut input = [0u8; 65536];
+    let Input::Bytes(n) = use_input::read(&rt, b"test_poll", &mut input) else {
         return;
     };
     let bytes = &input[..n];
     let mut at: usize = 0;
     while at < n {
-        at = poll(bytes, at);
+        at = poll(&rt, bytes, at);
     }
 }

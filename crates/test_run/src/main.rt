@@ -9,6 +9,7 @@ ghost use Rattle.model.specs.Export.{ending_code};
 
 use model::numbers::BUDGET_ENDED;
 use model::{Ending, Session};
+use std::io::Print;
 use use_input::Input;
 
 // "0 for finished, 100 for budget ended, or the refusal."
@@ -23,21 +24,26 @@ fn code(ending: Ending) -> u32
     }
 }
 
+// What cannot be written is lost, here and below: a test compares what was.
+fn write(rt: &impl Print, text: &[u8]) {
+    let _ = rt.write_all(text);
+}
+
 // A number of the line, and what stands behind it.
-fn print(n: u64, behind: &[u8]) {
-    io::print_decimal(1, n);
-    io::write_all(1, behind);
+fn print(rt: &impl Print, n: u64, behind: &[u8]) {
+    let _ = rt.print(n);
+    write(rt, behind);
 }
 
 // A number behind a blank.
-fn print_next(n: u32) {
-    io::write_all(1, b" ");
-    io::print_decimal(1, n as u64);
+fn print_next(rt: &impl Print, n: u32) {
+    write(rt, b" ");
+    let _ = rt.print(n);
 }
 
-fn print_numbers(numbers: &[u32]) {
+fn print_numbers(rt: &impl Print, numbers: &[u32]) {
     for i in 0..numbers.len() {
-        print_next(numbers[i]);
+        print_next(rt, numbers[i]);
     }
 }
 
@@ -49,44 +55,44 @@ fn places(asked: usize) -> usize
 }
 
 // The standing values, written to the first places of a buffer full of one number, which shows the places left alone.
-fn print_standing(s: Session, asked: usize) {
+fn print_standing(rt: &impl Print, s: Session, asked: usize) {
     let mut buffer = [4294967295u32; 256];
     let n = places(asked);
     let lent = &mut buffer[..n];
     let answer = session_values::standing_values(s, lent);
-    print(answer.code as u64, b" ");
-    print(answer.count as u64, b"");
-    print_numbers(lent);
-    io::write_all(1, b"\n");
+    print(rt, answer.code as u64, b" ");
+    print(rt, answer.count as u64, b"");
+    print_numbers(rt, lent);
+    write(rt, b"\n");
 }
 
 // The sheet run as the first seven bytes of the input say, and its two lines.
-fn print_run(bytes: &[u8; 7], sheet: &[u8]) {
+fn print_run(rt: &impl Print, bytes: &[u8; 7], sheet: &[u8]) {
     let caller = test_caller_byte::caller_of(bytes[0]);
     let budget = part_bytes::word32(bytes, 1) as usize;
     let asked = part_bytes::word16(bytes, 5) as usize;
     let ran = sheet_run::run(caller, sheet, budget);
     let ending = ran.ending;
     let counts = ran.counts;
-    print(code(ending) as u64, b" ");
-    print(ran.carried as u64, b" ");
-    print(counts.reads as u64, b" ");
-    print(counts.writes as u64, b" ");
-    print(counts.contested as u64, b"\n");
+    print(rt, code(ending) as u64, b" ");
+    print(rt, ran.carried as u64, b" ");
+    print(rt, counts.reads as u64, b" ");
+    print(rt, counts.writes as u64, b" ");
+    print(rt, counts.contested as u64, b"\n");
     let left = ran.session;
-    print_standing(left, asked);
+    print_standing(rt, left, asked);
 }
 
 #[tactic(auto, using(use_input::specs::Input::held_bytes))]
-fn main() {
+fn main(rt: HostRuntime) {
     let mut bytes = [0u8; 7];
-    let Input::Bytes(_) = use_input::read(b"test_run", &mut bytes) else {
+    let Input::Bytes(_) = use_input::read(&rt, b"test_run", &mut bytes) else {
         return;
     };
     // A sheet of 65,535 bytes is the longest; one more that is read shows that it is longer.
-    let mut sheet = io::large_buffer();
-    let Input::Bytes(n) = use_input::read(b"test_run", &mut sheet) else {
+    let mut sheet = [0u8; 65536];
+    let Input::Bytes(n) = use_input::read(&rt, b"test_run", &mut sheet) else {
         return;
     };
-    print_run(&bytes, &sheet[..n]);
+    print_run(&rt, &bytes, &sheet[..n]);
 }

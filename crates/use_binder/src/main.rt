@@ -3,6 +3,7 @@
 // where it cannot read, understand or write it says so on standard error.
 #![tactic(auto)]
 
+use std::io::Print;
 use use_input::Input;
 use use_text::Bytes;
 
@@ -62,41 +63,46 @@ fn asked_by(input: &[u8]) -> Asked {
 }
 
 // The list in the buffer and all that follow it, then how many they are; whether that was written. It ends at the last list.
-fn print_lists(n: usize, length: usize, list: &mut [u8], page: &mut Bytes) -> bool {
+fn print_lists(
+    rt: &impl Print,
+    n: usize,
+    length: usize,
+    list: &mut [u8],
+    page: &mut Bytes,
+) -> bool {
     for number in 1..=MOST {
-        if !text::print_list(page, number, list) {
+        if !text::print_list(rt, page, number, list) {
             return false;
         }
         if sheet_short::next(n, length, list) != 0 {
-            return text::print_count(page, number);
+            return text::print_count(rt, page, number);
         }
     }
     true
 }
 
 // The lists of a length with the lines above and below them, or the number with which they are refused; whether that was written.
-fn print_binder(n: u8, length: usize, list: &mut [u8], page: &mut Bytes) -> bool {
+fn print_binder(rt: &impl Print, n: u8, length: usize, list: &mut [u8], page: &mut Bytes) -> bool {
     let seats = n as usize;
     let code = sheet_short::first(seats, length, list);
     if code != 0 {
-        return text::print_refused(page, code as usize);
+        return text::print_refused(rt, page, code as usize);
     }
-    if !text::print_head(page, seats, length, part_window::window(n)) {
+    if !text::print_head(rt, page, seats, length, part_window::window(n)) {
         return false;
     }
-    print_lists(seats, length, list, page)
+    print_lists(rt, seats, length, list, page)
 }
 
 #[tactic(auto, using(use_input::specs::Input::held_bytes))]
-fn main() {
+fn main(rt: HostRuntime) {
     // Two digits, a space and a newline are 4 bytes; one more that is read shows that the input is longer.
     let mut input = [0u8; 5];
-    let Input::Bytes(size) = use_input::read(b"binder", &mut input) else {
+    let Input::Bytes(size) = use_input::read(&rt, b"binder", &mut input) else {
         return;
     };
     let Asked::Lists(n, told) = asked_by(&input[..size]) else {
-        io::write_all(
-            2,
+        let _ = rt.stderr().write_all(
             b"binder: standard input must be the seats and the length, one digit each, as 2 3\n",
         );
         return;
@@ -106,7 +112,9 @@ fn main() {
     let mut space = [0u8; 36];
     let end = 6 * text::least(length, 6);
     let mut page = [0u8; use_text::SIZE];
-    if !print_binder(n, length, &mut space[..end], &mut page) {
-        io::write_all(2, b"binder: standard output cannot be written\n");
+    if !print_binder(&rt, n, length, &mut space[..end], &mut page) {
+        let _ = rt
+            .stderr()
+            .write_all(b"binder: standard output cannot be written\n");
     }
 }

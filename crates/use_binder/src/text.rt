@@ -2,6 +2,7 @@
 ghost use Rattle.std.specs.Prelude.{◌≤◌};
 
 use model_short::RawEntry;
+use std::io::Print;
 use use_text::{Bytes, put_fields, put_line, put_words};
 
 // The smaller of two numbers.
@@ -12,9 +13,9 @@ pub(crate) fn least(a: usize, b: usize) -> usize
 }
 
 // Writes what stands on the page before a place; whether that was written. So do the functions below that print.
-fn write(page: &[u8], at: usize) -> bool {
+fn write(rt: &impl Print, page: &[u8], at: usize) -> bool {
     let end = least(at, page.len());
-    io::write_all(1, &page[..end])
+    rt.write_all(&page[..end]).is_ok()
 }
 
 // Words, a number, and what it counts: one, or none or several.
@@ -55,7 +56,13 @@ fn put_entry(page: &mut Bytes, at: usize, entry: RawEntry) -> usize {
 }
 
 // The lines above the lists.
-pub(crate) fn print_head(page: &mut Bytes, n: usize, length: usize, limit: usize) -> bool {
+pub(crate) fn print_head(
+    rt: &impl Print,
+    page: &mut Bytes,
+    n: usize,
+    length: usize,
+    limit: usize,
+) -> bool {
     let seats = put_count(
         page,
         0,
@@ -68,27 +75,27 @@ pub(crate) fn print_head(page: &mut Bytes, n: usize, length: usize, limit: usize
     let sizes = put_words(page, order, b", in order.\n");
     let rounds = put_line(page, sizes, b"n", &[n]);
     let end = put_line(page, rounds, b"L", &[limit]);
-    write(page, end)
+    write(rt, page, end)
 }
 
 // A list below its number.
-pub(crate) fn print_list(page: &mut Bytes, number: usize, list: &[u8]) -> bool {
+pub(crate) fn print_list(rt: &impl Print, page: &mut Bytes, number: usize, list: &[u8]) -> bool {
     let mut at = put_line(page, 0, b"\n# list", &[number]);
     let count = list.len() / 6;
     for i in 0..count {
         at = put_entry(page, at, part_raw_entry::raw_at(list, 6 * i));
     }
-    write(page, at)
+    write(rt, page, at)
 }
 
 // The line below the lists.
-pub(crate) fn print_count(page: &mut Bytes, count: usize) -> bool {
+pub(crate) fn print_count(rt: &impl Print, page: &mut Bytes, count: usize) -> bool {
     let end = put_count(page, 0, b"\n#", count, b" list\n", b" lists\n");
-    write(page, end)
+    write(rt, page, end)
 }
 
 // The line that stands in their place.
-pub(crate) fn print_refused(page: &mut Bytes, code: usize) -> bool {
+pub(crate) fn print_refused(rt: &impl Print, page: &mut Bytes, code: usize) -> bool {
     let end = put_line(page, 0, b"lists refused", &[code]);
-    write(page, end)
+    write(rt, page, end)
 }

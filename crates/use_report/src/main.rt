@@ -2,19 +2,22 @@
 // status: where it cannot read or write it says so on standard error. Where it cannot read it prints no report.
 #![tactic(auto)]
 
+use std::io::Print;
 use use_input::Input;
 
 #[tactic(auto, using(use_input::specs::Input::held_bytes))]
-fn main() {
+fn main(rt: HostRuntime) {
     // A sheet of 65,535 bytes is the longest; one more that is read shows that it is longer.
-    let mut sheet = io::large_buffer();
-    let Input::Bytes(n) = use_input::read(b"report", &mut sheet) else {
+    let mut sheet = [0u8; 65536];
+    let Input::Bytes(n) = use_input::read(&rt, b"report", &mut sheet) else {
         return;
     };
     let text = use_report_text::report(&sheet[..n]);
     let bytes = text.bytes;
     let len = text.len;
-    if !io::write_all(1, &bytes[..len]) {
-        io::write_all(2, b"report: standard output cannot be written\n");
+    if rt.write_all(&bytes[..len]).is_err() {
+        let _ = rt
+            .stderr()
+            .write_all(b"report: standard output cannot be written\n");
     }
 }
