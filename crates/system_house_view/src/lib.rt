@@ -66,7 +66,6 @@ fn stands(v: View, stance: Stance) -> View
 }
 
 // The turn at each place, clause by clause as `turn_at` has it.
-#[tactic(auto, using(model_poll::specs::Machine::proposes, model_poll::specs::Machine::turns, model_house_laws::specs::Views::ward_left, model_house_laws::specs::Views::poll_left, model_house_laws::specs::Views::register_left), unfolding(model_house::specs::Turn::turn_at))]
 fn turn_at(v: View, p: usize, w: u8, s: usize, hint: bool, place: Place) -> View
     requires { view_fits v ≡ true }
     ensures { result ≡ turn_at_of p w s hint place v }
