@@ -2,14 +2,13 @@
 use Rattle.base.specs.Prelude.{ℕ, suc, zero, ◌+◌, ◌-◌, ◌≤◌, ◌<◌, arith, add-one, ◌≡◌, refl, sym, ◌∙◌, subst₃, Bool, true, false, cond, ◌||◌}
 use Rattle.base.specs.Prelude.{true≢false, List, ◌∷◌, length, leb, ne_eqb, leb-true, leb-false, lt-leb}
 use Rattle.base.specs.Bools.{cond_cases}
-use Rattle.model_laws.specs.Types.{Caller, Limits, Access, Session, Counts, Operation, Entry, Acts, Closes, Malformed, Finished, Refused}
+use Rattle.model_laws.specs.Types.{Caller, Limits, Session, Counts, Operation, Entry, Acts, Closes, Malformed, Finished, Refused}
 use Rattle.model_laws.specs.Types.{BudgetEnded, Rejected, Ran}
 use Rattle.model.specs.Window.{window}
 use Rattle.model.specs.Board.{limits_of, UpToServer, process_at, opened, no_counts, with_closed}
-use Rattle.model.specs.Step.{found, counted}
 use Rattle.model.specs.Numbers.{no_such_process, bad_entry}
 use Rattle.model.specs.Refusal.{refusal, full, tests}
-use Rattle.model.specs.Machine.{access_of, after, counts_after, answered, perform, execute, process_of}
+use Rattle.model.specs.Machine.{after, counts_after, answered, perform, execute, process_of}
 use Rattle.model.specs.Sound.{sound_for}
 use Rattle.model.specs.Runner.{ran, run_by, run_from, run_within, run}
 use Rattle.model.specs.Sheet.{process_count, round_limit, entries, sheet_refusal}

@@ -10,7 +10,6 @@ pub use sheet_laws::Reader;
 pub use sheet_reader_held::{attach, entry, moved};
 
 // The place of a reader that was just attached.
-#[tactic(auto, using(base_walk::proofs::Walk::gone, base_walk::proofs::Walk::asks, base_walk::proofs::Walk::proved))]
 pub fn first_place(sheet: &[u8]) -> usize
     ensures { result ≡ begin sheet.now }
 {
@@ -18,7 +17,6 @@ pub fn first_place(sheet: &[u8]) -> usize
 }
 
 // What a reader at the place hands out.
-#[tactic(auto, using(base_walk::proofs::Walk::passes_on, base_walk::proofs::Walk::gone, base_walk::proofs::Walk::asks, base_walk::proofs::Walk::proved, sheet_laws::proofs::Rows::together))]
 pub fn entry_at(sheet: &[u8], place: usize) -> Handed
     ensures { result ≡ handed sheet.now place }
 {
@@ -26,7 +24,6 @@ pub fn entry_at(sheet: &[u8], place: usize) -> Handed
 }
 
 // Where a reader at the place stands once it has moved on.
-#[tactic(auto, using(base_walk::proofs::Walk::passes_on, base_walk::proofs::Walk::gone, base_walk::proofs::Walk::asks, base_walk::proofs::Walk::proved, sheet_laws::proofs::Rows::together))]
 pub fn place_after(sheet: &[u8], place: usize) -> usize
     ensures { result ≡ advanced sheet.now place }
 {

@@ -9,7 +9,6 @@ ghost use Rattle.sheet_laws.specs.Reading.{attached, handed_by, moved_on};
 use sheet_laws::{Handed, Reader};
 
 // At the first entry's place.
-#[tactic(auto, using(base_walk::proofs::Walk::copied, base_walk::proofs::Walk::gone, base_walk::proofs::Walk::asks, base_walk::proofs::Walk::proved))]
 pub fn attach<'a>(sheet: &'a [u8]) -> Reader<'a>
     ensures { result ≡ attached sheet.entry }
 {
@@ -20,7 +19,6 @@ pub fn attach<'a>(sheet: &'a [u8]) -> Reader<'a>
 }
 
 // What the reader hands out at its place.
-#[tactic(auto, using(base_walk::proofs::Walk::passes_on, base_walk::proofs::Walk::gone, base_walk::proofs::Walk::asks, base_walk::proofs::Walk::proved, sheet_laws::proofs::Rows::apart))]
 pub fn entry<'a>(r: Reader<'a>) -> Handed
     ensures { result ≡ handed_by r.entry }
 {
@@ -28,7 +26,6 @@ pub fn entry<'a>(r: Reader<'a>) -> Handed
 }
 
 // Moves on by one entry.
-#[tactic(auto, using(base_walk::proofs::Walk::passes_on, base_walk::proofs::Walk::copied, base_walk::proofs::Walk::gone, base_walk::proofs::Walk::asks, base_walk::proofs::Walk::proved, sheet_laws::proofs::Rows::apart))]
 pub fn moved<'a>(r: Reader<'a>) -> Reader<'a>
     ensures { result ≡ moved_on r.entry }
 {
