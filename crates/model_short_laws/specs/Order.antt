@@ -13,7 +13,7 @@ use Rattle.model_short.specs.declared.RawEntry.{RawEntry}
 use Rattle.model_short.specs.Short.{choices, legal, in_front, lists_of, kept, legal_lists, same_list, is_listed, following}
 use Rattle.model_short.specs.Short.{earlier, precedes, ascending}
 use Rattle.model_short_laws.specs.Entries.{same_refl, same_list_refl, same_list_eq, or_right}
-use Rattle.model_short_laws.specs.Choosing.{Lists, legal_from, legal_from_law, legal_lists_law, later_from, later_behind}
+use Rattle.model_short_laws.specs.Choosing.{Lists, legal_from_law, legal_lists_law, later_from, later_behind}
 
 -- "One or two seats."
 abbrev pub OneOrTwo : ℕ → Type 0
