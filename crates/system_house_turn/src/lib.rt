@@ -10,7 +10,6 @@ use model_house::{House, HouseStepped, View};
 
 // 3, 4, 7, 8, 9, 16; then one turn of worker p, on what it can read and change. i is p wherever the call is accepted: where it is not, the
 // tests refuse.
-#[tactic(auto, using(base::specs::Arrays::length_mapped, model_house::specs::Machine::turns, model_house_laws::specs::Accepted::house_code_law, model_house_laws::specs::Accepted::house_refused, model_house_laws::specs::Accepted::house_known, model_house_laws::specs::Accepted::house_index, model_house_laws::specs::Accepted::house_left, model_house_laws::specs::Turns::known_at, model_house_laws::specs::Turns::turned_is, model_house_laws::specs::Turns::turned_house, model_house_laws::specs::Turns::turned_counts), unfolding(model_house::specs::Machine::view_of, model_house::specs::Machine::with_view, model_house::specs::Machine::turned, model_house::specs::Public::house_turn))]
 pub fn turn(h: House, p: usize, hint: bool, c: Counts) -> HouseStepped
     ensures { result ≡ house_turn h p hint c }
 {
