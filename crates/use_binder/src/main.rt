@@ -94,7 +94,6 @@ fn print_binder(rt: &impl Print, n: u8, length: usize, list: &mut [u8], page: &m
     print_lists(rt, seats, length, list, page)
 }
 
-#[tactic(auto, using(use_input::specs::Input::held_bytes))]
 fn main(rt: HostRuntime) {
     // Two digits, a space and a newline are 4 bytes; one more that is read shows that the input is longer.
     let mut input = [0u8; 5];
