@@ -1,7 +1,7 @@
 -- What 01 says of the standing values, and 02 of their order, is so of the list that the model gives (`values_to`). Assumes nothing.
 use Rattle.base.specs.Prelude.{ℕ, zero, suc, ◌+◌, ◌≤◌, ◌<◌, ◌≡◌, refl, sym, ap, Bool, true, false, cond, not, ◌&&◌, ◌||◌, and-false}
 use Rattle.base.specs.Prelude.{or-false, or-true, or_assoc, List, [], ◌∷◌, ◌++◌, ◌⊎◌, ⊎_elim, eq-or-lt_of_le, not-suc-le-zero, add-zero}
-use Rattle.base.specs.Prelude.{arith, length, get_or, take, drop, length-append, List·getD-append, take-suc, take-append_seam}
+use Rattle.base.specs.Prelude.{arith, length, get_or, take, drop, length-append, get_or-append, take-suc, take-append_seam}
 use Rattle.base.specs.Prelude.{get_or-append_seam, ltb, eqb, ltb-true, ltb-false, eqb-true, eq-eqb, lt-ltb, le-ltb}
 use Rattle.base.specs.Bools.{cond_cases}
 use Rattle.model.specs.declared.Session.{Session}
@@ -130,7 +130,7 @@ module _ (ts l : List ℕ) (v : ℕ) (a : Ascends ts l) where
 
   -- Of the longer list: a place before the last, and the last.
   before : (i : ℕ) → i < length l → first_round (get_or (l ++ v ∷ []) i 0) (ts ++ v ∷ []) ≡ first_round (get_or l i 0) ts
-  before i h = rw (List·getD-append l (v ∷ []) 0 i h) (kept i h)
+  before i h = rw (get_or-append l (v ∷ []) 0 i h) (kept i h)
 
   last : old v ts ≡ false → (i : ℕ) → i ≡ length l → first_round (get_or (l ++ v ∷ []) i 0) (ts ++ v ∷ []) ≡ suc (length ts)
   last o i e = rw (e, get_or-append_seam l v [] 0) (first_new v ts (fails (eqb v 0) (holds v ts) o))

@@ -16,7 +16,7 @@ use Rattle.base.specs.Walks.{own_shut}
 use Rattle.base_walk.proofs.Promise.{Row, by_value, uint, struct, Promise, own_all}
 use denote.Enum.Laws as EL
 use denote.Struct.Laws as LL
-use Rattle.sheet_laws.specs.Places.{begin, handed as handedAt, advanced}
+use Rattle.sheet_laws.specs.Places.{begin, handed as handed_at, advanced}
 use Rattle.sheet_laws.specs.contracts.Handed as H'
 use Rattle.sheet_laws.proofs.Handed.TheLaws as H''
 use Rattle.sheet_laws.specs.declared.Reader.{Reader}
@@ -56,7 +56,7 @@ abbrev pub hands : Promise 1
 hands = record {
   takes = sheet ∷ place ∷ [];
   gives = handed;
-  answer = λ κs a. handedAt a.0.now a.1.0;
+  answer = λ κs a. handed_at a.0.now a.1.0;
   ends = λ κs a. (tt, (tt, tt));
 }
 

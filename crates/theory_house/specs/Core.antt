@@ -2,7 +2,7 @@
 -- the boards, the table and the pasts have in common; of workers nothing is said here. Rounds and wards count from 0, as the arrays do; the
 -- numbers of a poll are wards, from 1.
 use Rattle.base.specs.Prelude.{ℕ, suc, zero, ◌+◌, ◌*◌, ◌-◌, ◌%◌, ◌≤◌, ◌<◌, arith, ◌≡◌, refl, sym, ◌∙◌, Bool, true, false, List, [], length}
-use Rattle.base.specs.Prelude.{get_or, List·getD-eq-default, ◌⊎◌, dec_le, dec_lt, ℕ_discrete}
+use Rattle.base.specs.Prelude.{get_or, get_or-eq_default, ◌⊎◌, dec_le, dec_lt, ℕ_discrete}
 use Rattle.model_laws.specs.Types.{Session}
 use Rattle.model.specs.Window.{window}
 use Rattle.model_laws.specs.Windows.{window_square, window_least}
@@ -58,7 +58,7 @@ pub boards_lawful : {poll : Bool} {k L size : ℕ} {l : List Session} {g : List 
 boards_lawful {k = k} {size = size} {g = g} b i =
     elim (dec_lt i size) [
       | yes low ↦ let r = (b.each i low).0 in rw r.size at r.invariant.lawful
-      | no high ↦ rw (List·getD-eq-default g [] {n = i} (omega (arith, b.many, high))) none
+      | no high ↦ rw (get_or-eq_default g [] {n = i} (omega (arith, b.many, high))) none
     ]
 
 -- The sessions, ward by ward, and the polls; n workers in c wards; d stands in the house's decision register.

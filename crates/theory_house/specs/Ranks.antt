@@ -1,6 +1,6 @@
 -- "A ward session has n - c + 1 seats, taken by its workers in number order": they are enough, and two workers of one ward have two.
 use Rattle.base.specs.Prelude.{ℕ, suc, zero, ◌+◌, ◌-◌, ◌≤◌, ◌<◌, arith, ◌≡◌, refl, sym, ◌∙◌, subst, Bool, true, cond, ◌&&◌, List, [], ◌∷◌}
-use Rattle.base.specs.Prelude.{◌++◌, length, length-append, length-replicate, replicate, get_or, take, take-append_seam, List·getD-append}
+use Rattle.base.specs.Prelude.{◌++◌, length, length-append, length-replicate, replicate, get_or, take, take-append_seam, get_or-append}
 use Rattle.base.specs.Prelude.{eqb, eq-eqb, ne_eqb, leb, leb-true, le-leb, lt-leb, ℕ_discrete, dec_le}
 use Rattle.base.specs.Bools.{and_left, and_right, cond_cases}
 use Rattle.model.specs.Sound.{every}
@@ -95,7 +95,7 @@ opened_numbers c ws some t =
     let ward : (p : ℕ) → p < n → (1 ≤ get_or wards p 0) × (get_or wards p 0 ≤ c) =
     λ p low.
     let x : in_wards (get_or ws p 0) ≡ true = below_at (λ i. in_wards (get_or ws i 0)) n p (sym (every_all in_wards ws 0 refl) ∙ parts.3) low in
-    rw (List·getD-append ws (replicate (16 - n) 0) 0 p low)
+    rw (get_or-append ws (replicate (16 - n) 0) 0 p low)
     (leb-true 1 _ (and_left (leb 1 (get_or ws p 0)) _ x), leb-true _ c (and_right (leb 1 (get_or ws p 0)) _ x)) in
     let each : (j : ℕ) → 1 ≤ j → j ≤ c → 1 ≤ members j ws =
     λ j a b.
