@@ -32,7 +32,6 @@ fn proposed(poll: bool) -> Session {
 }
 
 // A work turn and a look, each with a tally of its own that is lent, as a caller lends it.
-#[tactic(auto, using(base_walk::proofs::Walk::gone, base_walk::proofs::Walk::asks, base_walk::proofs::Walk::proved, session_lent_laws::proofs::Lent::reads, session_lent_laws::proofs::Lent::lent_out, session_lent_laws::proofs::Lent::taken_back))]
 fn step(s: Session, p: usize, leader: bool, c: Counts) -> Session
     ensures { result ≡ (step_of s p leader c).session }
 {
@@ -41,7 +40,6 @@ fn step(s: Session, p: usize, leader: bool, c: Counts) -> Session
     answer.session
 }
 
-#[tactic(auto, using(base_walk::proofs::Walk::gone, base_walk::proofs::Walk::asks, base_walk::proofs::Walk::proved, session_lent_laws::proofs::Lent::reads, session_lent_laws::proofs::Lent::lent_out, session_lent_laws::proofs::Lent::taken_back))]
 fn learn(s: Session, p: usize, c: Counts) -> Session
     ensures { result ≡ (learn_of s p c).session }
 {

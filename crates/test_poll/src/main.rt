@@ -232,7 +232,6 @@ fn poll(rt: &impl Print, bytes: &[u8], at: usize) -> usize
     at + 4 + 6 * told
 }
 
-#[tactic(auto, using(use_input::specs::Input::held_bytes))]
 fn main(rt: HostRuntime) {
     let mut input = [0u8; 65536];
     let Input::Bytes(n) = use_input::read(&rt, b"test_poll", &mut input) else {
