@@ -133,7 +133,6 @@ fn house(rt: &impl Print, bytes: &[u8], at: usize) -> usize
     from + 2 + 6 * count
 }
 
-#[tactic(auto, using(use_input::specs::Input::held_bytes))]
 fn main(rt: HostRuntime) {
     let mut input = [0u8; 65536];
     let Input::Bytes(n) = use_input::read(&rt, b"test_house", &mut input) else {

@@ -83,7 +83,6 @@ fn print_run(rt: &impl Print, bytes: &[u8; 7], sheet: &[u8]) {
     print_standing(rt, left, asked);
 }
 
-#[tactic(auto, using(use_input::specs::Input::held_bytes))]
 fn main(rt: HostRuntime) {
     let mut bytes = [0u8; 7];
     let Input::Bytes(_) = use_input::read(&rt, b"test_run", &mut bytes) else {

@@ -5,7 +5,6 @@
 use std::io::Print;
 use use_input::Input;
 
-#[tactic(auto, using(use_input::specs::Input::held_bytes))]
 fn main(rt: HostRuntime) {
     // A sheet of 65,535 bytes is the longest; one more that is read shows that it is longer.
     let mut sheet = [0u8; 65536];
