@@ -11,6 +11,7 @@ use part_registers::{mark, value};
 
 // 02, wish 6: "Each worker walks the same steps, ending with round W": one register operation, what the process becomes by the value read,
 // and the answer that it then has. i is p wherever the call is accepted: where it is not, the tests refuse.
+#[tactic(auto, using(model_laws::specs::Sounds::sound_few))]
 pub fn turn(s: Session, p: usize, c: Counts) -> PollStepped
     ensures { result ≡ poll_turn s p c }
 {

@@ -10,6 +10,7 @@ use part_registers::{mark, value};
 
 // 01, "One turn at a time": a work turn, one register operation and what the process becomes by the value read. i is p
 // wherever the call is accepted: where it is not, the tests refuse.
+#[tactic(auto, using(model_laws::specs::Sounds::sound_few))]
 pub fn step(s: Session, p: usize, leader: bool, c: Counts) -> Stepped
     ensures { result ≡ step_of s p leader c }
 {

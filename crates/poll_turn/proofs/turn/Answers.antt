@@ -1,5 +1,4 @@
--- The answer of `turn`, by the number of its first refusal, and by the registers, the record, the counts and the answer that it leaves. The
--- number n of processes of a sound poll fits a byte.
+-- The answer of `turn`, by the number of its first refusal, and by the registers, the record, the counts and the answer that it leaves.
 use Rattle.base.specs.Prelude.{◌≡◌, ◌<◌, ◌∙◌, ap, true, cond, arith, rules, length}
 use Rattle.base.specs.Arrays.{length_mapped}
 use Rattle.model.specs.Window.{window}
@@ -12,13 +11,6 @@ use Rattle.model_poll_laws.specs.Sounds.{poll_process, poll_access_range}
 use Rattle.model_poll_laws.specs.Answers.{turn_refused, turn_known, turn_index, turn_left}
 use Rattle.poll_turn.specs.Turned.{turned_counts, turned_poll, turned_answer}
 use Rattle.poll_turn.proofs.turn.Goals as goal
-
-pub overflow_cast-n : goal.overflow_cast-n
-overflow_cast-n c =
-    let a = c.args in
-    let code =
-    first_is true a.s a.p (λ φ. learn_tests φ a.c) c.sound_as.ensures c.learn_refusal-own.ensures c.first_refusal-code.ensures in
-    omega (arith, sound_few true _ (turn_known a.s a.c a.p code c.if-code-eq0.true).0)
 
 pub returns-then-code-eq0 : goal.returns-then-code-eq0
 unfolding sound_as

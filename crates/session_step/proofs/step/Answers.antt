@@ -1,6 +1,5 @@
--- The answer of `step`, by the number of its first refusal, and by the registers, the record and the counts that it leaves. The number n of
--- processes of a sound session fits a byte.
-use Rattle.base.specs.Prelude.{◌≡◌, false, ◌∙◌, ap, cond, arith}
+-- The answer of `step`, by the number of its first refusal, and by the registers, the record and the counts that it leaves.
+use Rattle.base.specs.Prelude.{◌≡◌, false, ◌∙◌, ap, cond}
 use Rattle.model_laws.specs.Types.{Step}
 use Rattle.model.specs.Window.{window}
 use Rattle.model.specs.Step.{counted}
@@ -10,15 +9,8 @@ use Rattle.model.specs.Machine.{access_of}
 use Rattle.model.specs.Public.{step_for}
 use Rattle.model_laws.specs.Answers.{code_is, operate_refused, operate_accepted, index_of, known}
 use Rattle.model_laws.specs.Operations.{access_in_arrays}
-use Rattle.model_laws.specs.Sounds.{sound_few}
 use Rattle.model_laws.specs.Registers.{counted_is, worked_is}
 use Rattle.session_step.proofs.step.Goals as goal
-
-pub overflow_cast-n : goal.overflow_cast-n
-overflow_cast-n c =
-    let o = Step c.args.p c.args.leader in
-    let code = code_is false c.args.s c.args.c o c.sound.ensures c.step_refusal-own.ensures c.first_refusal-code.ensures in
-    omega (arith, sound_few false _ (known false _ _ o code c.if-code-eq0.true).0)
 
 pub returns-then-code-eq0 : goal.returns-then-code-eq0
 unfolding step_for access_of sound_as
