@@ -40,7 +40,7 @@ fn no_counts() -> Counts
 
 // 01, "Turn sheets": the entries one after another, on a session just opened, up to the budget or the first refused entry.
 // A close (02, wish 10) is an entry as the others are.
-#[tactic(auto, using(sheet_laws::specs::PlaceLaws::begin_rest, sheet_laws::specs::PlaceLaws::begin_proper, sheet_laws::specs::Entries::step_refusal, sheet_laws::specs::Entries::step_leaves, sheet_laws::specs::Entries::step_counts, sheet_laws::specs::Entries::other_changes, sheet_laws::specs::Entries::other_stays, sheet_laws::specs::Entries::other_counts, sheet_laws::specs::Carried::entered_none, sheet_laws::specs::Carried::tallied, sheet_laws::specs::Carried::ends, sheet_laws::specs::Carried::row_low, sheet_laws::specs::Carried::shorter, sheet_laws::specs::Carried::malformed, sheet_laws::specs::Carried::close_spent, sheet_laws::specs::Carried::closes, sheet_laws::specs::Carried::halted, sheet_laws::specs::Carried::due, sheet_laws::specs::Carried::refused, sheet_laws::specs::Carried::goes_on), unfolding(model::specs::Sheet::entries, sheet_laws::specs::Places::handed, sheet_laws::specs::Places::rest))]
+#[tactic(auto, using(sheet_laws::specs::PlaceLaws::begin_rest, sheet_laws::specs::PlaceLaws::begin_proper, sheet_laws::specs::Carried::ends, sheet_laws::specs::Carried::malformed, sheet_laws::specs::Carried::close_spent))]
 fn carry(sheet: &[u8], budget: usize, window: usize, mut s: Session, mut c: Counts) -> Ran
     requires { Begun sheet.now window s }
     ensures { result ≡ run_from window budget 0 s c (entries sheet.now) }
@@ -92,7 +92,7 @@ fn carry(sheet: &[u8], budget: usize, window: usize, mut s: Session, mut c: Coun
 }
 
 // 01, "Turn sheets": the runner, within the caller's limits (02, wish 9). A refused sheet makes no session.
-#[tactic(auto, using(model_laws::specs::Callers::caller_limits, sheet_laws::specs::Carried::sheet_opens, sheet_laws::specs::Carried::run_rejected, sheet_laws::specs::Carried::run_accepted), unfolding(model::specs::Window::window, model::specs::Board::opened, model::specs::Sheet::sheet_refusal))]
+#[tactic(auto, using(sheet_laws::specs::Carried::run_rejected, sheet_laws::specs::Carried::run_accepted))]
 pub fn run(caller: Caller, sheet: &[u8], budget: usize) -> Ran
     ensures { result ≡ run_of caller sheet.now budget }
 {
