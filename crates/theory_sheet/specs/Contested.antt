@@ -32,11 +32,11 @@ module _ {n L : ℕ} (wide : 1 ≤ window n) where
   unfolding run_by
   runs_contested b k c [] i same = same
   runs_contested zero k c (e ∷ es) i same = same
-  runs_contested {s} (suc b) k c (e ∷ es) i same =
+  runs_contested {s = s} (suc b) k c (e ∷ es) i same =
       let a = entry_answer (execute (window n)) s c e in
       cond_cases (λ (r : Ran). r.counts.contested ≡ marked_rounds r.session) (eqb a.code 0)
       (λ z.
-      runs_contested b (suc k) a.counts es (entry_reached wide c e i).3 (omega (arith, entry_adds c e i)))
+      runs_contested {s = a.session} b (suc k) a.counts es (entry_reached wide c e i).3 (omega (arith, entry_adds c e i)))
       (λ z. same)
 
 pub contested : ContestedRule

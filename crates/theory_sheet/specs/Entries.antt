@@ -1,5 +1,5 @@
 -- The proposals of a sheet: which entries they were, and that their numbers have 32 bits.
-use Rattle.base.specs.Prelude.{ℕ, suc, zero, ◌+◌, ◌/◌, ◌<◌, arith, ◌≡◌, refl, ap, Bool, true, cond, ◌&&◌, List, [], ◌∷◌, ◌++◌, ◌⊎◌, inl, inr}
+use Rattle.base.specs.Prelude.{ℕ, suc, zero, ◌+◌, ◌/◌, ◌<◌, arith, ◌≡◌, refl, Bool, true, cond, ◌&&◌, List, [], ◌∷◌, ◌++◌, ◌⊎◌, inl, inr}
 use Rattle.base.specs.Prelude.{⊎_elim, get_or, take, eqb, ltb, ltb-true, lt-ltb}
 use Rattle.base.specs.Bools.{cond_cases, and_both}
 use Rattle.model_laws.specs.Types.{Session, Counts, Operation, Propose, Step, Learn, Crash, Command, acts, closes, Entry, Acts, Closes}
@@ -65,10 +65,12 @@ fed_proposed W start c (suc k) [] fs a = inr a
 fed_proposed W start c (suc k) (Malformed ∷ es) fs a =
     ⊎_elim (λ y. inl (later W start c k es fs y)) inr (fed_proposed W start c k es fs a)
 fed_proposed W start c (suc k) (Acts o ∷ es) fs a =
-    fed_by W start c k es fs (acts o) (λ p e. cc) (fed_proposed W start _ k es (told (acts o) c ∷ fs) a)
+    let d = (execute W (machine (sessions W) start fs) c (acts o)).counts in
+    fed_by W start c k es fs (acts o) (λ p e. cc) (fed_proposed W start d k es (told (acts o) c ∷ fs) a)
 fed_proposed W start c (suc k) (Closes ∷ es) fs a =
+    let d = (execute W (machine (sessions W) start fs) c closes).counts in
     fed_by W start c k es fs closes (λ p e. absurd (let z : ◌≡◌ {A = ℕ} 0 1 = cc in omega arith))
-    (fed_proposed W start _ k es (told closes c ∷ fs) a)
+    (fed_proposed W start d k es (told closes c ∷ fs) a)
 
 -- ---- its number
 

@@ -47,10 +47,10 @@ module _ {n L : ℕ} (wide : 1 ≤ window n) where
   unfolding run_by
   promised_runs b k c [] i = (refl, λ j e. let z : ◌≡◌ {A = ℕ} 0 1 = cc in omega arith)
   promised_runs zero k c (e ∷ es) i = (refl, λ j t. let z : ◌≡◌ {A = ℕ} 0 1 = cc in omega arith)
-  promised_runs {s} (suc b) k c (e ∷ es) i =
+  promised_runs {s = s} (suc b) k c (e ∷ es) i =
       let a = entry_answer (execute (window n)) s c e in
       let one = entry_reached c e i in
-      let rest = promised_runs b (suc k) a.counts es one.3 in (
+      let rest = promised_runs {s = a.session} b (suc k) a.counts es one.3 in (
         rw one.0 (ap (λ (r : Ran). cond (eqb a.code 0) r (ran k s c (Refused a.code k))) rest.0),
         λ j. cond_cases (λ (r : Ran). r.ending ≡ Refused unsound j → ⊥) (eqb a.code 0) (λ z. rest.1 j) (λ z u. one.1 (cc)),
       )
