@@ -1,6 +1,6 @@
 #!/usr/bin/env bash
 # Proves and builds the board report's program, as far as something has changed since the last time, and runs it on a sheet.
-# The first time takes about two minutes on 2 idle processors; what it is at, and how long it took, is told on standard error.
+# The first time takes minutes; what it is at, and how long it took, is told on standard error.
 #
 # usage: examples/report.sh [SHEET]      examples/two_decide.sheet where left out
 #
