@@ -1,8 +1,9 @@
 -- Arrays in structs, and stores of lists.
+use Rattle.std.specs.Prelude.{◌+◌, ◌≤◌, ◌<◌, ◌≡◌, ◌∷◌, ◌++◌}
 use Rattle.std.proofs.Math.Seq.{paste-suc}
-use Rattle.base.specs.Prelude.{ℕ, ◌+◌, zero, suc, ◌≤◌, ◌<◌, arith, add-zero, add-suc, suc-add, add-one, zero-add, le_of_lt, ◌≡◌, refl}
+use Rattle.base.specs.Prelude.{ℕ, zero, suc, arith, add-zero, add-suc, suc-add, add-one, zero-add, le_of_lt, refl}
 use Rattle.base.specs.Prelude.{sym, ◌∙◌}
-use Rattle.base.specs.Prelude.{List, [], ◌∷◌, ◌++◌, map, length, length-map, length-set, get_or, set, set_out, sets, take, take-suc}
+use Rattle.base.specs.Prelude.{List, [], map, length, length-map, length-set, get_or, set, set_out, sets, take, take-suc}
 use Rattle.base.specs.Prelude.{length-take-le, drop, get_or-set_other, ℕ_discrete}
 
 -- The length of an array in a struct, as the struct's own rule has it: that of the list of its elements' values.

@@ -1,7 +1,7 @@
 -- The names of the libraries that proofs use everywhere, passed on as they are. (The definitions of the model name the libraries
 -- themselves.)
-pub use Rattle.std.specs.Prelude.{◌%◌, ◌*◌, ◌+◌, ◌-◌, ◌/◌, ◌<◌, ◌^◌, ◌≤◌, max, min, pred, suc, zero, ℕ, ◌≡◌, refl, List, [], ◌++◌, ◌∷◌, map}
-pub use Rattle.std.specs.Prelude.{Bool, ◌&&◌, ◌||◌, cond, false, not, true, ◌⊎◌, drop, get_or, length, replicate, set, take, eqb, leb, ltb}
+pub use Rattle.std.specs.Prelude.{max, min, pred, suc, zero, ℕ, refl, List, [], map}
+pub use Rattle.std.specs.Prelude.{Bool, cond, false, not, true, drop, get_or, length, replicate, set, take, eqb, leb, ltb}
 pub use Rattle.std.proofs.Common.{◌∙◌, ap, ap₂, subst, sym, append_assoc, append-nil, true≢false, inl, inr, ⊎_elim, arith, add_assoc}
 pub use Rattle.std.proofs.Common.{add-suc, add-zero, div-add-mod', div-lt_iff_lt-mul, eq-or-lt_of_le, le_of_lt, le_of_suc-le-suc, le_refl}
 pub use Rattle.std.proofs.Common.{le_trans, lt_of_not-le, mod-eq_of_lt, mod-lt, mul-le-mul, not-suc-le-zero, pow-suc, suc-add, zero-add}

@@ -1,5 +1,6 @@
 -- Squares of natural numbers.
-use Rattle.base.specs.Prelude.{ℕ, suc, zero, ◌+◌, ◌*◌, ◌≤◌, ◌≡◌, refl, add-one, arith}
+use Rattle.std.specs.Prelude.{◌+◌, ◌*◌, ◌≤◌, ◌≡◌}
+use Rattle.base.specs.Prelude.{ℕ, suc, zero, refl, add-one, arith}
 
 -- A number is at most its square.
 pub le_square : (n : ℕ) → n ≤ n * n

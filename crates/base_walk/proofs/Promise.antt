@@ -13,7 +13,8 @@
 --                                          contract binds it
 --     had              what is had of the parameters at exit
 -- What is shown of a Row's laws takes `Logic`. The rest assumes nothing.
-use Rattle.base.specs.Prelude.{◌≡◌, refl, ℕ, List, [], ◌∷◌}
+use Rattle.std.specs.Prelude.{◌≡◌, ◌∷◌}
+use Rattle.base.specs.Prelude.{refl, ℕ, List, []}
 use Rattle.base.specs.Walks.{Ura, Logic, Width, Val, vint, vbool, SProp, emp, ex, sep, Fml, ftrue, sem, Lfts, Shares, fact}
 use Rattle.base.specs.Walks.{yes, Last, left, RattleType, Denots}
 use Rattle.base.specs.Walks.{Valss, owns, Is, Ises, Tells, Tellss, Spells, valss, Lawful, Slot, plain, types_at, Declared, row as row_of}

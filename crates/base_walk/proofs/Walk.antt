@@ -6,7 +6,8 @@
 --     gone             a local is freed, whatever it holds
 --     proved           the walk, taken to the function's own routine, for whatever its contract says that its promise gives
 -- Assumes `Logic`, and that the table of calls is monotone under a frame, as every `Tables` is.
-use Rattle.base.specs.Prelude.{◌≡◌, refl, sym, subst, ap, ℕ, zero, suc, List, [], ◌∷◌}
+use Rattle.std.specs.Prelude.{◌≡◌, ◌∷◌}
+use Rattle.base.specs.Prelude.{refl, sym, subst, ap, ℕ, zero, suc, List, []}
 use Rattle.base.specs.Walks.{Ura, Logic, full_share, Ty, Callee, Place, Operand, Code as Body, Fn, seq, call, Val, SProp, ent, emp, via}
 use Rattle.base.specs.Walks.{fst∗, mono_r}
 use Rattle.base.specs.Walks.{id⊢, fat, fdies, sem, Copies, twices}

@@ -1,6 +1,7 @@
 -- The bytes of the decided values, one process more at a time. Assumes nothing.
+use Rattle.std.specs.Prelude.{◌+◌, ◌*◌, ◌<◌, ◌≡◌, ◌∷◌, ◌++◌}
 use Prim.{tt}
-use Rattle.base.specs.Prelude.{ℕ, ◌+◌, ◌*◌, ◌<◌, ◌≡◌, refl, ◌∙◌, ap, List, [], ◌∷◌, ◌++◌, le_of_lt, zero-add, add-one, arith, length, get_or}
+use Rattle.base.specs.Prelude.{ℕ, refl, ◌∙◌, ap, List, [], le_of_lt, zero-add, add-one, arith, length, get_or}
 use Rattle.base.specs.Prelude.{take, take-suc, length-take-le, sets}
 use Rattle.base.specs.Arrays.{sets_append}
 use denote.Enum.Declared.{tag_of}

@@ -1,5 +1,6 @@
 -- A report has 16 bytes or more, so 15 is never a size.
-use Rattle.base.specs.Prelude.{ℕ, ◌≤◌, arith, List, length, length-append, ltb}
+use Rattle.std.specs.Prelude.{◌≤◌}
+use Rattle.base.specs.Prelude.{ℕ, arith, List, length, length-append, ltb}
 use Rattle.base.specs.Bools.{cond_cases}
 use Rattle.model.specs.declared.Ending.{Ending}
 use Rattle.model.specs.declared.Ending.TheVariants.{Finished, Refused, BudgetEnded, Rejected}

@@ -1,6 +1,7 @@
 -- What a caller gets where the text, the first n of the bytes, fits.
+use Rattle.std.specs.Prelude.{◌≤◌, ◌≡◌, ◌++◌}
 use Rattle.std.proofs.Common.{take_at}
-use Rattle.base.specs.Prelude.{ℕ, ◌≤◌, ◌≡◌, sym, List, ◌++◌, length, take, drop, le-leb}
+use Rattle.base.specs.Prelude.{ℕ, sym, List, length, take, drop, le-leb}
 use Rattle.model_report.specs.ReportExport.{text_code, text_buffer}
 
 pub text_written : (t b : List ℕ) {bytes : List ℕ} {n : ℕ} (rest : List ℕ) → n ≡ length t → bytes ≡ t ++ rest → n ≤ length b

@@ -1,7 +1,8 @@
 -- For each part of the rule of houses: what a house and its past may show, by computation, and that the rule is then false of them (as
 -- `model_rule_cases` has it of sessions). Theorem edits use it (tests/theorem_edits.py): their lists of calls show such things of changed
 -- machines.
-use Rattle.base.specs.Prelude.{ℕ, ◌≡◌, sym, ◌∙◌, true, false, true≢false, List, [], eqb}
+use Rattle.std.specs.Prelude.{◌≡◌}
+use Rattle.base.specs.Prelude.{ℕ, sym, ◌∙◌, true, false, true≢false, List, [], eqb}
 use Rattle.model_rule.specs.Event.{Event, proposal, decision, there}
 use Rattle.model_rule.specs.System.{inputs, past}
 use Rattle.model_rule_cases.specs.Play.{played, played_holds, at_the_end}

@@ -1,5 +1,6 @@
 -- The answer of a call on a house, by the number of its first refusal and by what is left where it is 0. Assumes nothing.
-use Rattle.base.specs.Prelude.{ℕ, suc, zero, ◌%◌, ◌<◌, arith, ◌≡◌, refl, sym, ◌∙◌, ap, Bool, true, false, cond, not, ◌∷◌, leb}
+use Rattle.std.specs.Prelude.{◌%◌, ◌<◌, ◌≡◌, ◌∷◌}
+use Rattle.base.specs.Prelude.{ℕ, suc, zero, arith, refl, sym, ◌∙◌, ap, Bool, true, false, cond, not, leb}
 use Rattle.base.specs.Prelude.{leb-false}
 use Rattle.model.specs.declared.Counts.{Counts}
 use Rattle.model.specs.declared.Phase.{Phase}

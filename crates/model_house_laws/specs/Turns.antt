@@ -1,5 +1,6 @@
 -- What an accepted turn of a house knows of its view, and what it leaves. Assumes nothing.
-use Rattle.base.specs.Prelude.{ℕ, ◌-◌, ◌*◌, ◌%◌, ◌≤◌, ◌<◌, arith, ◌≡◌, ◌∙◌, Bool, true, not, ◌&&◌, cond, eqb, length}
+use Rattle.std.specs.Prelude.{◌-◌, ◌*◌, ◌%◌, ◌≤◌, ◌<◌, ◌≡◌, ◌&&◌}
+use Rattle.base.specs.Prelude.{ℕ, arith, ◌∙◌, Bool, true, not, cond, eqb, length}
 use Rattle.base.specs.Bools.{and_left, and_right, and_both}
 use Rattle.model.specs.declared.Session.{Session}
 use Rattle.model.specs.declared.Counts.{Counts}

@@ -1,6 +1,7 @@
 -- A turn on what it can read and change. On a sound session or poll a public operation is the machine's; on another it changes nothing.
 -- Assumes nothing.
-use Rattle.base.specs.Prelude.{ℕ, ◌≡◌, ◌∙◌, ap, Bool, true, false, not, not-true, cond, ◌&&◌}
+use Rattle.std.specs.Prelude.{◌≡◌, ◌&&◌}
+use Rattle.base.specs.Prelude.{ℕ, ◌∙◌, ap, Bool, true, false, not, not-true, cond}
 use Rattle.base.specs.Bools.{and_left, and_right, cond_cases}
 use Rattle.model.specs.declared.Session.{Session}
 use Rattle.model.specs.declared.Counts.{Counts}

@@ -1,5 +1,6 @@
 -- What is known where an operation is accepted: none of its tests holds.
-use Rattle.base.specs.Prelude.{ℕ, ◌<◌, arith, ◌≡◌, refl, Bool, true, false, cond, List, [], ◌∷◌, ◌++◌, eqb, ne_eqb, leb-false, lt-leb}
+use Rattle.std.specs.Prelude.{◌<◌, ◌≡◌, ◌∷◌, ◌++◌}
+use Rattle.base.specs.Prelude.{ℕ, arith, refl, Bool, true, false, cond, List, [], eqb, ne_eqb, leb-false, lt-leb}
 use Rattle.base.specs.Bools.{cond_cases}
 use Rattle.model_laws.specs.Types.{Phase, Session, Counts, Operation, Propose, Step, Learn, Crash}
 use Rattle.model.specs.Board.{process_at}

@@ -1,5 +1,6 @@
 -- The answer of an operation, by the number of its first refusal and by what is left where it is 0.
-use Rattle.base.specs.Prelude.{ℕ, suc, zero, ◌<◌, ◌%◌, arith, ◌≡◌, refl, sym, ◌∙◌, ap, Bool, true, false, cond, not, List, ◌∷◌, leb}
+use Rattle.std.specs.Prelude.{◌<◌, ◌%◌, ◌≡◌, ◌∷◌}
+use Rattle.base.specs.Prelude.{ℕ, suc, zero, arith, refl, sym, ◌∙◌, ap, Bool, true, false, cond, not, List, leb}
 use Rattle.base.specs.Prelude.{leb-false}
 use Rattle.model_laws.specs.Types.{Phase, Waiting, Crashed, Process, Session, Counts, Operation, Propose, Step, Learn, Crash}
 use Rattle.model.specs.Board.{process_at, with_process, no_counts}

@@ -1,6 +1,7 @@
 -- Numbers in bytes: what was written is what is read.
+use Rattle.std.specs.Prelude.{◌+◌, ◌*◌, ◌/◌, ◌%◌, ◌≤◌, ◌<◌, ◌≡◌, ◌∷◌, ◌++◌}
 use Rattle.std.proofs.Common.{get_or-drop}
-use Rattle.base.specs.Prelude.{ℕ, zero, suc, ◌+◌, ◌*◌, ◌/◌, ◌%◌, ◌≤◌, ◌<◌, arith, ◌≡◌, refl, sym, ◌∙◌, ap, List, [], ◌∷◌, ◌++◌, length}
+use Rattle.base.specs.Prelude.{ℕ, zero, suc, arith, refl, sym, ◌∙◌, ap, List, [], length}
 use Rattle.base.specs.Prelude.{get_or, drop}
 use Rattle.base.specs.Prelude.{add-zero, add_assoc, add-one, add-two, div-div-eq-div-mul, mod-eq_of_lt, drop-cons, drop-drop}
 use Rattle.model.specs.declared.Process.{Process}

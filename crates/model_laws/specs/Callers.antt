@@ -1,6 +1,7 @@
 -- The limits of the callers (document 02, wish 9): both are up to the server's, and what is opened within such limits is a session as the
 -- server's.
-use Rattle.base.specs.Prelude.{ℕ, ◌≤◌, arith, ◌≡◌, sym, ◌∙◌, true, List, le-leb}
+use Rattle.std.specs.Prelude.{◌≤◌, ◌≡◌}
+use Rattle.base.specs.Prelude.{ℕ, arith, sym, ◌∙◌, true, List, le-leb}
 use Rattle.model_laws.specs.Types.{Caller, Server, Cart, Limits}
 use Rattle.model.specs.Window.{window}
 use Rattle.model.specs.Board.{limits_of, UpToServer, opened, max_processes, max_rounds}

@@ -1,5 +1,6 @@
 -- A test of every element of a list (the model's `every`).
-use Rattle.base.specs.Prelude.{ℕ, zero, suc, ◌≡◌, refl, Bool, true, ◌&&◌, and_assoc, List, [], ◌∷◌, ◌++◌, get_or, drop, set, replicate}
+use Rattle.std.specs.Prelude.{◌≡◌, ◌&&◌, ◌∷◌, ◌++◌}
+use Rattle.base.specs.Prelude.{ℕ, zero, suc, refl, Bool, true, and_assoc, List, [], get_or, drop, set, replicate}
 use Rattle.base.specs.Bools.{and_left, and_right, and_both}
 use Rattle.model.specs.Sound.{every}
 

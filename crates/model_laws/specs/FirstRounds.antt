@@ -1,6 +1,7 @@
 -- What 01 says of the standing values, and 02 of their order, is so of the list that the model gives (`values_to`). Assumes nothing.
-use Rattle.base.specs.Prelude.{ℕ, zero, suc, ◌+◌, ◌≤◌, ◌<◌, ◌≡◌, refl, sym, ap, Bool, true, false, cond, not, ◌&&◌, ◌||◌, and-false}
-use Rattle.base.specs.Prelude.{or-false, or-true, or_assoc, List, [], ◌∷◌, ◌++◌, ◌⊎◌, ⊎_elim, eq-or-lt_of_le, not-suc-le-zero, add-zero}
+use Rattle.std.specs.Prelude.{◌+◌, ◌≤◌, ◌<◌, ◌≡◌, ◌&&◌, ◌||◌, ◌∷◌, ◌++◌, ◌⊎◌}
+use Rattle.base.specs.Prelude.{ℕ, zero, suc, refl, sym, ap, Bool, true, false, cond, not, and-false}
+use Rattle.base.specs.Prelude.{or-false, or-true, or_assoc, List, [], ⊎_elim, eq-or-lt_of_le, not-suc-le-zero, add-zero}
 use Rattle.base.specs.Prelude.{arith, length, get_or, take, drop, length-append, get_or-append, take-suc, take-append_seam}
 use Rattle.base.specs.Prelude.{get_or-append_seam, ltb, eqb, ltb-true, ltb-false, eqb-true, eq-eqb, lt-ltb, le-ltb}
 use Rattle.base.specs.Bools.{cond_cases}

@@ -1,5 +1,6 @@
 -- The last round (document 02, wish 5): what its sentences say of the machine, at any window, of any session and counts.
-use Rattle.base.specs.Prelude.{ℕ, zero, suc, ◌<◌, ◌≤◌, ◌≡◌, refl, ◌⊎◌, inl, inr, ⊎_elim, Bool, false, true≢false, get_or-set_other}
+use Rattle.std.specs.Prelude.{◌<◌, ◌≤◌, ◌≡◌, ◌⊎◌}
+use Rattle.base.specs.Prelude.{ℕ, zero, suc, refl, inl, inr, ⊎_elim, Bool, false, true≢false, get_or-set_other}
 use Rattle.base.specs.Prelude.{ℕ_discrete, eqb, eqb-false, lt-leb, lt-ltb, le-ltb}
 use Rattle.std.proofs.Math.Seq.{set-get_or}
 use Rattle.base.specs.Arrays.{get_or_set_keeps}

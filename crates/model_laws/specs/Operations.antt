@@ -1,5 +1,6 @@
 -- Each accepted operation of the machine leaves a sound session, and so does each operation, accepted or refused.
-use Rattle.base.specs.Prelude.{ℕ, suc, zero, ◌≤◌, ◌<◌, arith, ◌≡◌, refl, Bool, true, false, ◌&&◌, leb, not-false, leb-true, le-leb}
+use Rattle.std.specs.Prelude.{◌≤◌, ◌<◌, ◌≡◌, ◌&&◌}
+use Rattle.base.specs.Prelude.{ℕ, suc, zero, arith, refl, Bool, true, false, leb, not-false, leb-true, le-leb}
 use Rattle.base.specs.Prelude.{eqb-false}
 use Rattle.model_laws.specs.Types.{Access, Nothing, ReadValue, WriteValue, ReadMark, SetMark, ReadDecision, WriteDecision, Process}
 use Rattle.model_laws.specs.Types.{Session, Counts, Limits, Waiting, Crashed, Operation, Propose, Step, Learn, Crash}

@@ -1,6 +1,7 @@
 -- Two tests in one pass. A test t of all places is what is left of it at place i, and that is the test of the place and what is left
 -- at i + 1. Assumes nothing.
-use Rattle.base.specs.Prelude.{ℕ, suc, ◌+◌, ◌≤◌, ◌<◌, max, ◌≡◌, refl, sym, ap, ◌∙◌, Bool, true, false, not, ◌&&◌, ◌||◌, and_assoc}
+use Rattle.std.specs.Prelude.{◌+◌, ◌≤◌, ◌<◌, ◌≡◌, ◌&&◌, ◌||◌}
+use Rattle.base.specs.Prelude.{ℕ, suc, max, refl, sym, ap, ◌∙◌, Bool, true, false, not, and_assoc}
 use Rattle.base.specs.Prelude.{and-false, List, add-one, arith, ltb-true, ltb-false, not-true, not-false, ltb, length, get_or, drop}
 use Rattle.base.specs.Prelude.{drop_of_length-le, drop-cons}
 use Rattle.model.specs.Sound.{every}

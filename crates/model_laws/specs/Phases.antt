@@ -1,5 +1,6 @@
 -- What soundness says of a process, phase by phase, as facts.
-use Rattle.base.specs.Prelude.{ℕ, min, ◌≤◌, ◌<◌, ◌≡◌, refl, sym, true, false, true≢false, cond, ltb, eqb, leb-true, ltb-true, eqb-true}
+use Rattle.std.specs.Prelude.{◌≤◌, ◌<◌, ◌≡◌}
+use Rattle.base.specs.Prelude.{ℕ, min, refl, sym, true, false, true≢false, cond, ltb, eqb, leb-true, ltb-true, eqb-true}
 use Rattle.base.specs.Prelude.{le-leb, lt-ltb, eq-eqb}
 use Rattle.model_laws.specs.Types.{Phase, Idle, Waiting, Write, Scan, Adopt, Compare, Flag, CheckMark, CheckValue, Commit, Exhausted}
 use Rattle.model_laws.specs.Types.{Crashed, Decided, HasCommitted, HasAdopted, Process}

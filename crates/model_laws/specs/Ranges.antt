@@ -1,5 +1,6 @@
 -- A sound process accesses no register outside 1 to L.
-use Rattle.base.specs.Prelude.{ℕ, ◌≤◌, arith, Bool}
+use Rattle.std.specs.Prelude.{◌≤◌}
+use Rattle.base.specs.Prelude.{ℕ, arith, Bool}
 use Rattle.model_laws.specs.Types.{Phase, Idle, Waiting, Write, Scan, Adopt, Compare, Flag, CheckMark, CheckValue, Commit, Exhausted}
 use Rattle.model_laws.specs.Types.{Crashed, Decided, HasCommitted, HasAdopted, Access, Nothing, ReadValue, WriteValue, ReadMark}
 use Rattle.model_laws.specs.Types.{SetMark, ReadDecision, WriteDecision}

@@ -1,5 +1,6 @@
 -- The registers one by one: what an access reads and leaves in each, and the turn made of them.
-use Rattle.base.specs.Prelude.{ℕ, ◌+◌, ◌-◌, ◌%◌, ◌≤◌, arith, ◌≡◌, refl, sym, ap, Bool, true, false, List, get_or, set}
+use Rattle.std.specs.Prelude.{◌+◌, ◌-◌, ◌%◌, ◌≤◌, ◌≡◌}
+use Rattle.base.specs.Prelude.{ℕ, arith, refl, sym, ap, Bool, true, false, List, get_or, set}
 use Rattle.model_laws.specs.Types.{Phase, Idle, Waiting, Write, Scan, Adopt, Compare, Flag, CheckMark, CheckValue, Commit, Exhausted}
 use Rattle.model_laws.specs.Types.{Crashed, Decided, HasCommitted, HasAdopted, Access, Nothing, ReadValue, WriteValue, ReadMark}
 use Rattle.model_laws.specs.Types.{SetMark, ReadDecision, WriteDecision, Process, Session, Counts, Step}

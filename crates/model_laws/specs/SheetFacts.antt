@@ -1,5 +1,6 @@
 -- What is known where the reader accepts a sheet, within whatever limits.
-use Rattle.base.specs.Prelude.{ℕ, ◌≤◌, arith, ◌≡◌, true, List, length, leb-true, not-false}
+use Rattle.std.specs.Prelude.{◌≤◌, ◌≡◌}
+use Rattle.base.specs.Prelude.{ℕ, arith, true, List, length, leb-true, not-false}
 use Rattle.base.specs.Bools.{and_left, and_right}
 use Rattle.model_laws.specs.Types.{Limits}
 use Rattle.model.specs.Refusal.{open_tests}

@@ -1,6 +1,7 @@
 -- The runs and the entries that are read from bytes.
+use Rattle.std.specs.Prelude.{◌+◌, ◌*◌, ◌≡◌, ◌∷◌, ◌++◌}
 use Rattle.std.proofs.Common.{get_or-drop}
-use Rattle.base.specs.Prelude.{ℕ, zero, suc, ◌+◌, ◌*◌, arith, ◌≡◌, refl, ◌∙◌, ap, ap₂, List, ◌∷◌, ◌++◌, length, drop}
+use Rattle.base.specs.Prelude.{ℕ, zero, suc, arith, refl, ◌∙◌, ap, ap₂, List, length, drop}
 use Rattle.base.specs.Prelude.{zero-add, add-zero, suc-add, add_assoc}
 use Rattle.model.specs.Sheet.{runs_from, entry_at, entries_at}
 use Rattle.model_laws.specs.ByteLaws.{word32_drop}

@@ -1,6 +1,7 @@
 -- The clauses of a session's test, or a poll's: where one fails the test does, and where the first ones hold the records are left. Assumes
 -- nothing.
-use Rattle.base.specs.Prelude.{ℕ, ◌≤◌, ◌≡◌, sym, ◌∙◌, Bool, true, false, not, ◌&&◌, and_assoc, and-false, leb-true, not-true, not-false}
+use Rattle.std.specs.Prelude.{◌≤◌, ◌≡◌, ◌&&◌}
+use Rattle.base.specs.Prelude.{ℕ, sym, ◌∙◌, Bool, true, false, not, and_assoc, and-false, leb-true, not-true, not-false}
 use Rattle.base.specs.Prelude.{leb, eqb, drop}
 use Rattle.base.specs.Bools.{and_right}
 use Rattle.model_laws.specs.Types.{Process, Session}

@@ -1,5 +1,6 @@
 -- What soundness says, clause by clause, and what keeps it.
-use Rattle.base.specs.Prelude.{ℕ, ◌-◌, ◌≤◌, ◌<◌, arith, ◌≡◌, refl, Bool, true, false, not, drop, drop-set-lt, eqb, leb-true, le-leb}
+use Rattle.std.specs.Prelude.{◌-◌, ◌≤◌, ◌<◌, ◌≡◌}
+use Rattle.base.specs.Prelude.{ℕ, arith, refl, Bool, true, false, not, drop, drop-set-lt, eqb, leb-true, le-leb}
 use Rattle.model_laws.specs.Types.{Access, Nothing, ReadValue, WriteValue, ReadMark, SetMark, ReadDecision, WriteDecision, Process}
 use Rattle.model_laws.specs.Types.{Session}
 use Rattle.model.specs.Board.{process_at, with_process, with_closed, idle, max_processes, max_rounds}

@@ -1,5 +1,6 @@
 -- The rules of a process that waits: what holds of each rule's answer, where that rule may hold, holds of the answer.
-use Rattle.base.specs.Prelude.{ℕ, ◌≤◌, ◌<◌, Bool, ltb, ltb-true, ltb-false}
+use Rattle.std.specs.Prelude.{◌≤◌, ◌<◌}
+use Rattle.base.specs.Prelude.{ℕ, Bool, ltb, ltb-true, ltb-false}
 use Rattle.base.specs.Bools.{cond_both}
 use Rattle.model.specs.Step.{waiting_rule}
 

@@ -1,5 +1,6 @@
 -- The rounded-up root, and the window made of it.
-use Rattle.base.specs.Prelude.{ℕ, suc, zero, ◌+◌, ◌*◌, ◌≤◌, arith, leb, leb-true, leb-false}
+use Rattle.std.specs.Prelude.{◌+◌, ◌*◌, ◌≤◌}
+use Rattle.base.specs.Prelude.{ℕ, suc, zero, arith, leb, leb-true, leb-false}
 use Rattle.base.specs.Bools.{cond_cases}
 use Rattle.base.specs.Squares.{le_square}
 use Rattle.model.specs.Window.{root_from, root_up, window}

@@ -1,5 +1,6 @@
 -- What a turn makes of a process that works, whatever it finds: it works on, or at the round limit it is spent.
-use Rattle.base.specs.Prelude.{ℕ, ◌+◌, min, ◌≤◌, ◌≡◌, refl, Bool, leb, ltb, eqb, arith}
+use Rattle.std.specs.Prelude.{◌+◌, ◌≤◌, ◌≡◌}
+use Rattle.base.specs.Prelude.{ℕ, min, refl, Bool, leb, ltb, eqb, arith}
 use Rattle.base.specs.Bools.{cond_cases}
 use Rattle.model_laws.specs.Types.{Phase, Idle, Waiting, Write, Scan, Adopt, Compare, Flag, CheckMark, CheckValue, Commit, Exhausted}
 use Rattle.model_laws.specs.Types.{Crashed, Decided, HasCommitted, HasAdopted, Process}

@@ -1,5 +1,6 @@
 -- The answer of a turn, by the number of its first refusal and by what is left where it is 0.
-use Rattle.base.specs.Prelude.{ℕ, suc, zero, ◌<◌, ◌%◌, arith, ◌≡◌, refl, sym, ◌∙◌, Bool, true, false, cond, not, ◌∷◌, leb-false}
+use Rattle.std.specs.Prelude.{◌<◌, ◌%◌, ◌≡◌, ◌∷◌}
+use Rattle.base.specs.Prelude.{ℕ, suc, zero, arith, refl, sym, ◌∙◌, Bool, true, false, cond, not, leb-false}
 use Rattle.model_laws.specs.Types.{Session, Counts}
 use Rattle.model.specs.Window.{window}
 use Rattle.model.specs.Board.{process_at}

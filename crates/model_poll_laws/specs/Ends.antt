@@ -1,6 +1,7 @@
 -- How a pass ends (document 02, wish 6): what its sentences say of the machine of polls, at any window, of any poll and counts; and that
 -- sessions and polls with such an end are apart.
-use Rattle.base.specs.Prelude.{ℕ, ◌+◌, ◌-◌, ◌<◌, ◌≤◌, arith, ◌≡◌, refl, sym, ◌∙◌, ap, ⊎_elim, Bool, true, false, true≢false, length}
+use Rattle.std.specs.Prelude.{◌+◌, ◌-◌, ◌<◌, ◌≤◌, ◌≡◌}
+use Rattle.base.specs.Prelude.{ℕ, arith, refl, sym, ◌∙◌, ap, ⊎_elim, Bool, true, false, true≢false, length}
 use Rattle.base.specs.Prelude.{get_or-set_same, ne_eqb, lt-leb, ltb-true}
 use Rattle.model_laws.specs.Types.{Phase, Waiting, CheckMark, CheckValue, Commit, Exhausted, Decided, HasCommitted, HasAdopted, Process}
 use Rattle.model_laws.specs.Types.{Session, Counts, Stepped, Operation, Propose}

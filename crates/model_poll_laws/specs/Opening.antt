@@ -1,5 +1,6 @@
 -- The opening of a poll: 1 alone refuses it, and what it opens is a poll.
-use Rattle.base.specs.Prelude.{ℕ, ◌≤◌, arith, ◌≡◌, refl, ◌⊎◌, inl, inr, Bool, true, false, ◌&&◌, leb, leb-true, eq-eqb}
+use Rattle.std.specs.Prelude.{◌≤◌, ◌≡◌, ◌⊎◌, ◌&&◌}
+use Rattle.base.specs.Prelude.{ℕ, arith, refl, inl, inr, Bool, true, false, leb, leb-true, eq-eqb}
 use Rattle.base.specs.Bools.{and_left, and_right, and_both}
 use Rattle.model.specs.Window.{window}
 use Rattle.model_laws.specs.Types.{Caller, Server, Cart, Limits}

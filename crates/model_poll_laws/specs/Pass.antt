@@ -1,6 +1,7 @@
 -- One pass: how many turns a process of a poll can have taken, by where it stands. From the definition of a turn alone: whatever the others
 -- do.
-use Rattle.base.specs.Prelude.{ℕ, suc, zero, ◌+◌, ◌*◌, ◌-◌, ◌≤◌, ◌<◌, min, arith, ◌≡◌, refl, sym, true, false, true≢false, leb, ltb}
+use Rattle.std.specs.Prelude.{◌+◌, ◌*◌, ◌-◌, ◌≤◌, ◌<◌, ◌≡◌}
+use Rattle.base.specs.Prelude.{ℕ, suc, zero, min, arith, refl, sym, true, false, true≢false, leb, ltb}
 use Rattle.base.specs.Prelude.{eqb, leb-true, leb-false, ltb-true, ltb-false}
 use Rattle.base.specs.Bools.{cond_cases}
 use Rattle.base.specs.Squares.{square_le}

@@ -1,6 +1,7 @@
 -- What the machine of polls does in one operation: an accepted one has the session after it, a refused one leaves the poll; and which
 -- records change.
-use Rattle.base.specs.Prelude.{ℕ, suc, zero, arith, ◌≡◌, refl, ◌⊎◌, inl, inr, false, true≢false, ◌<◌, length}
+use Rattle.std.specs.Prelude.{◌≡◌, ◌⊎◌, ◌<◌}
+use Rattle.base.specs.Prelude.{ℕ, suc, zero, arith, refl, inl, inr, false, true≢false, length}
 use Rattle.base.specs.Prelude.{get_or-set_same, get_or-set_other, not-false, ⊎_elim}
 use Rattle.model_laws.specs.Types.{Phase, Idle, Waiting, Write, Scan, Adopt, Compare, Flag, CheckMark, CheckValue, Commit, Exhausted}
 use Rattle.model_laws.specs.Types.{Crashed, Decided, HasCommitted, HasAdopted, Process, Session, Access, Counts, Propose, Crash}

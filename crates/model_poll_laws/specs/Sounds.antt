@@ -1,5 +1,6 @@
 -- What keeps a poll sound: proposals, turns and crashes of its processes.
-use Rattle.base.specs.Prelude.{ℕ, ◌+◌, min, ◌≤◌, ◌<◌, arith, ◌≡◌, refl, sym, Bool, true, false, true≢false, cond, ◌&&◌, leb, ltb, eqb}
+use Rattle.std.specs.Prelude.{◌+◌, ◌≤◌, ◌<◌, ◌≡◌, ◌&&◌}
+use Rattle.base.specs.Prelude.{ℕ, min, arith, refl, sym, Bool, true, false, true≢false, cond, leb, ltb, eqb}
 use Rattle.base.specs.Prelude.{not, leb-true, leb-false, ltb-true, eqb-true, lt-ltb, le-leb, eq-eqb, eqb-false, not-false, not-true}
 use Rattle.base.specs.Bools.{cond_cases, and_left, and_right, and_both}
 use Rattle.model_laws.specs.Types.{Phase, Idle, Waiting, Write, Scan, Adopt, Compare, Flag, CheckMark, CheckValue, Commit, Exhausted}

@@ -1,5 +1,6 @@
 -- What a turn makes of a process of a sound poll that works, whatever it finds: it works on, or has its answer.
-use Rattle.base.specs.Prelude.{ℕ, arith, ◌≡◌, refl, true, ◌⊎◌, inl, inr, ltb-true}
+use Rattle.std.specs.Prelude.{◌≡◌, ◌⊎◌}
+use Rattle.base.specs.Prelude.{ℕ, arith, refl, true, inl, inr, ltb-true}
 use Rattle.base.specs.Bools.{cond_cases}
 use Rattle.model_laws.specs.Types.{Phase, Idle, Waiting, Write, Scan, Adopt, Compare, Flag, CheckMark, CheckValue, Commit, Exhausted}
 use Rattle.model_laws.specs.Types.{Crashed, Decided, HasCommitted, HasAdopted, Process}

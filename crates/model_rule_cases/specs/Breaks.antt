@@ -1,5 +1,6 @@
 -- A list of calls that breaks the agreement rule at a window: what it shows, and that the rule is then false.
-use Rattle.base.specs.Prelude.{ℕ, ◌≡◌, refl, sym, ◌∙◌, Bool, true, not, ◌&&◌, true≢false, List, [], map, eqb, ltb, eq-eqb}
+use Rattle.std.specs.Prelude.{◌≡◌, ◌&&◌}
+use Rattle.base.specs.Prelude.{ℕ, refl, sym, ◌∙◌, Bool, true, not, true≢false, List, [], map, eqb, ltb, eq-eqb}
 use Rattle.base.specs.Bools.{and_left, and_right}
 use Rattle.model.specs.declared.Caller.TheVariants.{Server}
 use Rattle.model.specs.declared.Operation.{Operation}

@@ -1,5 +1,6 @@
 -- Which events stand in a past: a test of it, by computation, and what it says.
-use Rattle.base.specs.Prelude.{ℕ, zero, suc, ◌≡◌, refl, sym, ◌∙◌, subst, Bool, true, false, cond, ◌&&◌, true≢false, List, [], ◌∷◌, eqb}
+use Rattle.std.specs.Prelude.{◌≡◌, ◌&&◌, ◌∷◌}
+use Rattle.base.specs.Prelude.{ℕ, zero, suc, refl, sym, ◌∙◌, subst, Bool, true, false, cond, true≢false, List, [], eqb}
 use Rattle.base.specs.Prelude.{eqb-true, eq-eqb}
 use Rattle.base.specs.Bools.{and_left, and_right, cond_cases}
 use Rattle.model_rule.specs.Event.{Event, proposal, write, flag, commit, decision, Past, here, there, Happened}

@@ -1,6 +1,7 @@
 -- For each part of the rule of polls: what a list of calls and the poll after it may show, by computation, and that the rule is then false
 -- of them (as `Refuted`, of sessions).
-use Rattle.base.specs.Prelude.{ℕ, zero, suc, ◌≡◌, refl, sym, ◌∙◌, Bool, true, false, true≢false, cond, ◌&&◌, List, [], ◌∷◌, ◌++◌}
+use Rattle.std.specs.Prelude.{◌≡◌, ◌&&◌, ◌∷◌, ◌++◌}
+use Rattle.base.specs.Prelude.{ℕ, zero, suc, refl, sym, ◌∙◌, Bool, true, false, true≢false, cond, List, []}
 use Rattle.base.specs.Prelude.{ltb, eqb, ltb-true, ltb-false, eqb-true, eq-eqb, arith}
 use Rattle.base.specs.Bools.{and_left, and_right, cond_cases}
 use Rattle.model.specs.declared.Status.TheVariants.{Active}

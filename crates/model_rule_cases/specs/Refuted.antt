@@ -1,7 +1,8 @@
 -- For each part of the agreement rule: what a session and its past may show, by computation, and that the rule is then false of them; and
 -- what a list of calls may show, if the proposals do not stand after a close.
 -- Theorem edits use it (tests/theorem_edits.py): their lists of calls show such things of changed machines.
-use Rattle.base.specs.Prelude.{ℕ, ◌≡◌, refl, sym, ◌∙◌, ap, Bool, true, false, true≢false, cond, ◌&&◌, List, [], ◌∷◌, length, leb, eqb}
+use Rattle.std.specs.Prelude.{◌≡◌, ◌&&◌, ◌∷◌}
+use Rattle.base.specs.Prelude.{ℕ, refl, sym, ◌∙◌, ap, Bool, true, false, true≢false, cond, List, [], length, leb, eqb}
 use Rattle.base.specs.Prelude.{leb-true, eqb-true, eq-eqb}
 use Rattle.base.specs.Bools.{and_left, and_right, cond_cases}
 use Rattle.model.specs.declared.Phase.TheVariants.{Decided}

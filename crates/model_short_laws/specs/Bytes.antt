@@ -1,7 +1,8 @@
 -- Entries as bytes: what is written is what is read.
+use Rattle.std.specs.Prelude.{◌+◌, ◌*◌, ◌-◌, ◌≤◌, ◌<◌, ◌≡◌, ◌∷◌, ◌++◌}
 use Rattle.std.proofs.Math.Seq.{get_or-append_seam, drop-append_seam}
 use Rattle.std.proofs.Common.{get_or-append-add}
-use Rattle.base.specs.Prelude.{ℕ, suc, zero, ◌+◌, ◌*◌, ◌-◌, ◌≤◌, ◌<◌, ◌≡◌, refl, sym, ap, ◌∙◌, List, [], ◌∷◌, ◌++◌, append_assoc, length}
+use Rattle.base.specs.Prelude.{ℕ, suc, zero, refl, sym, ap, ◌∙◌, List, [], append_assoc, length}
 use Rattle.base.specs.Prelude.{length-append, arith, Bool, true, leb, leb-true, inl, inr}
 use Rattle.base.specs.Bools.{and_left, and_right, and_both}
 use Rattle.model.specs.Sound.{every}

@@ -1,7 +1,8 @@
 -- The legal lists as they are chosen, 02, wish 12: "The choice of an entry leads to the choice of the rest, which leads to the choice of an
 -- entry, with the remaining length falling." They are those of the definition, in the same order.
-use Rattle.base.specs.Prelude.{ℕ, suc, zero, ◌≡◌, refl, sym, ap, ap₂, ◌∙◌, List, [], ◌∷◌, ◌++◌, map, append_assoc, length, take, drop}
-use Rattle.base.specs.Prelude.{Bool, true, false, cond, ◌&&◌, and-false, eqb}
+use Rattle.std.specs.Prelude.{◌≡◌, ◌∷◌, ◌++◌, ◌&&◌}
+use Rattle.base.specs.Prelude.{ℕ, suc, zero, refl, sym, ap, ap₂, ◌∙◌, List, [], map, append_assoc, length, take, drop}
+use Rattle.base.specs.Prelude.{Bool, true, false, cond, and-false, eqb}
 use Rattle.base.specs.Bools.{and_left, and_right, cond_same}
 use Rattle.model.specs.declared.Session.{Session}
 use Rattle.model.specs.declared.Counts.{Counts}

@@ -1,5 +1,6 @@
 -- How many legal lists there are of each length up to 6, for one and for two processes, worked out; and so that there is a first.
-use Rattle.base.specs.Prelude.{ℕ, suc, zero, ◌<◌, ◌≤◌, ◌≡◌, refl, ap, ap₂, ◌∙◌, List, [], ◌∷◌, map, length, get_or, arith}
+use Rattle.std.specs.Prelude.{◌<◌, ◌≤◌, ◌≡◌, ◌∷◌}
+use Rattle.base.specs.Prelude.{ℕ, suc, zero, refl, ap, ap₂, ◌∙◌, List, [], map, length, get_or, arith}
 use Rattle.base.specs.Prelude.{Bool, true, false, ltb, ltb-true, inl, inr}
 use Rattle.model.specs.Window.{window, root_up, root_from}
 use Rattle.model.specs.Board.{opened, no_counts}

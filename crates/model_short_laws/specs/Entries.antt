@@ -1,6 +1,7 @@
 -- Entries, and their places in a list of entries.
-use Rattle.base.specs.Prelude.{ℕ, suc, ◌≡◌, refl, sym, ap, ap₂, ◌∙◌, List, [], ◌∷◌, ◌++◌, length, take, drop, arith}
-use Rattle.base.specs.Prelude.{Bool, true, false, cond, ◌||◌, true≢false}
+use Rattle.std.specs.Prelude.{◌≡◌, ◌∷◌, ◌++◌, ◌||◌}
+use Rattle.base.specs.Prelude.{ℕ, suc, refl, sym, ap, ap₂, ◌∙◌, List, [], length, take, drop, arith}
+use Rattle.base.specs.Prelude.{Bool, true, false, cond, true≢false}
 use Rattle.base.specs.Prelude.{eqb, ltb, eqb-true, eq-eqb, lt-ltb, le-ltb, ltb-true, ltb-false}
 use Rattle.base.specs.Bools.{and_left, and_right, and_both}
 use Rattle.model.specs.Sound.{every}

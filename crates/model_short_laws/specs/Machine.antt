@@ -1,5 +1,6 @@
 -- The sessions that the lists meet: sound ones of n processes. There what an entry gives is what the machine answers.
-use Rattle.base.specs.Prelude.{ℕ, suc, zero, ◌+◌, ◌*◌, ◌≤◌, ◌≡◌, refl, ap, ◌∙◌, true, false, inl, inr, arith}
+use Rattle.std.specs.Prelude.{◌+◌, ◌*◌, ◌≤◌, ◌≡◌}
+use Rattle.base.specs.Prelude.{ℕ, suc, zero, refl, ap, ◌∙◌, true, false, inl, inr, arith}
 use Rattle.model.specs.declared.Session.{Session}
 use Rattle.model.specs.declared.Counts.{Counts}
 use Rattle.model.specs.declared.Stepped.{Stepped}

@@ -1,6 +1,7 @@
 -- Which lists are listed: 02, wish 12, "each legal list .. and nothing else".
-use Rattle.base.specs.Prelude.{ℕ, suc, zero, ◌≡◌, refl, sym, ap, ◌∙◌, List, [], ◌∷◌, ◌++◌, map, length, get_or, ◌<◌, arith}
-use Rattle.base.specs.Prelude.{Bool, true, false, cond, ◌&&◌, ◌||◌, or_assoc, and-false, eqb, eqb-true, eqb-false, eq-eqb, ne_eqb}
+use Rattle.std.specs.Prelude.{◌≡◌, ◌∷◌, ◌++◌, ◌<◌, ◌&&◌, ◌||◌}
+use Rattle.base.specs.Prelude.{ℕ, suc, zero, refl, sym, ap, ◌∙◌, List, [], map, length, get_or, arith}
+use Rattle.base.specs.Prelude.{Bool, true, false, cond, or_assoc, and-false, eqb, eqb-true, eqb-false, eq-eqb, ne_eqb}
 use Rattle.model.specs.Sound.{every}
 use Rattle.model_short.specs.declared.RawEntry.{RawEntry}
 use Rattle.model_short.specs.Short.{choices, same, among, legal, in_front, lists_of, kept, legal_lists, same_list, is_listed}

@@ -1,8 +1,9 @@
 -- The entries that a list may have, by their numbers from 0: what stands at each.
+use Rattle.std.specs.Prelude.{◌+◌, ◌*◌, ◌-◌, ◌/◌, ◌%◌, ◌≤◌, ◌<◌, ◌≡◌, ◌∷◌, ◌++◌, ◌⊎◌}
 use Rattle.std.proofs.Math.ListN.{get_or-append, get_or-eq_default}
 use Rattle.std.proofs.Common.{get_or-append-add, drop-cons}
-use Rattle.base.specs.Prelude.{ℕ, suc, zero, ◌+◌, ◌*◌, ◌-◌, ◌/◌, ◌%◌, ◌≤◌, ◌<◌, ◌≡◌, refl, ap, ◌∙◌, List, [], ◌∷◌, ◌++◌, get_or, length}
-use Rattle.base.specs.Prelude.{length-append, append_assoc, drop, drop_of_length-le, ◌⊎◌, inl, inr, eq-or-lt_of_le, le_of_suc-le-suc, arith}
+use Rattle.base.specs.Prelude.{ℕ, suc, zero, refl, ap, ◌∙◌, List, [], get_or, length}
+use Rattle.base.specs.Prelude.{length-append, append_assoc, drop, drop_of_length-le, inl, inr, eq-or-lt_of_le, le_of_suc-le-suc, arith}
 use Rattle.base.specs.Prelude.{true, false}
 use Rattle.model_short.specs.declared.RawEntry.{RawEntry}
 use Rattle.model_short.specs.Short.{entry, each, choices, same}

@@ -1,6 +1,7 @@
 -- The numbers of the two calls, and what each gives.
-use Rattle.base.specs.Prelude.{ℕ, suc, zero, ◌*◌, ◌≤◌, ◌<◌, ◌≡◌, refl, sym, List, [], ◌∷◌, ◌++◌, length, arith}
-use Rattle.base.specs.Prelude.{true, ◌&&◌, not, leb, eqb}
+use Rattle.std.specs.Prelude.{◌*◌, ◌≤◌, ◌<◌, ◌≡◌, ◌∷◌, ◌++◌, ◌&&◌}
+use Rattle.base.specs.Prelude.{ℕ, suc, zero, refl, sym, List, [], length, arith}
+use Rattle.base.specs.Prelude.{true, not, leb, eqb}
 use Rattle.base.specs.Prelude.{le-leb, lt-leb, leb-true, lt-ltb, le-ltb, ltb-false, ne_eqb, eq-eqb, eqb-true}
 use Rattle.base.specs.Prelude.{not-false, inl, inr}
 use Rattle.base.specs.Bools.{and_left, and_right}

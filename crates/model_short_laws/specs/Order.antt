@@ -1,9 +1,10 @@
 -- The legal lists ascend (02, wish 12: "Lists are ordered by their first differing entry, entries by kind, then seat, then value"), so that
 -- each stands at one place, and those after it are the ones behind it.
+use Rattle.std.specs.Prelude.{◌<◌, ◌≡◌, ◌∷◌, ◌++◌, ◌&&◌, ◌||◌, ◌⊎◌}
 use mathlib.Core.List.{cons-ne-nil}
 use Rattle.std.proofs.Math.Seq.{split_at}
-use Rattle.base.specs.Prelude.{ℕ, suc, zero, ◌<◌, ◌≡◌, refl, sym, ap, ◌∙◌, List, [], ◌∷◌, ◌++◌, map, length, take, drop, get_or, arith}
-use Rattle.base.specs.Prelude.{Bool, true, false, cond, ◌&&◌, ◌||◌, ltb, eq-eqb, le-ltb, true≢false, ◌⊎◌, inl, inr}
+use Rattle.base.specs.Prelude.{ℕ, suc, zero, refl, sym, ap, ◌∙◌, List, [], map, length, take, drop, get_or, arith}
+use Rattle.base.specs.Prelude.{Bool, true, false, cond, ltb, eq-eqb, le-ltb, true≢false, inl, inr}
 use Rattle.base.specs.Bools.{and_left, and_right, and_both}
 use Rattle.model.specs.Window.{window}
 use Rattle.model.specs.Board.{opened, no_counts}

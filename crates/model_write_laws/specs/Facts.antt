@@ -1,5 +1,6 @@
 -- What is known where the writer accepts a call.
-use Rattle.base.specs.Prelude.{ℕ, ◌*◌, ◌/◌, ◌%◌, ◌≤◌, arith, ◌≡◌, true, List, length}
+use Rattle.std.specs.Prelude.{◌*◌, ◌/◌, ◌%◌, ◌≤◌, ◌≡◌}
+use Rattle.base.specs.Prelude.{ℕ, arith, true, List, length}
 use Rattle.base.specs.Prelude.{le-leb, leb-true, le-ltb, ltb-false, eqb-true, eq-eqb, not-false}
 use Rattle.base.specs.Bools.{and_left, and_right, and_both}
 use Rattle.model_laws.specs.Types.{Limits}

@@ -1,5 +1,6 @@
 -- Runs laid out without gaps: one run more.
-use Rattle.base.specs.Prelude.{ℕ, suc, zero, ◌+◌, ◌*◌, ◌≤◌, ◌<◌, arith, add-one, le_of_lt, ◌≡◌, ap, ◌∙◌, List, [], ◌∷◌, ◌++◌}
+use Rattle.std.specs.Prelude.{◌+◌, ◌*◌, ◌≤◌, ◌<◌, ◌≡◌, ◌∷◌, ◌++◌}
+use Rattle.base.specs.Prelude.{ℕ, suc, zero, arith, add-one, le_of_lt, ap, ◌∙◌, List, []}
 use Rattle.base.specs.Prelude.{length, get_or, take, take-suc, length-take-le, sets}
 use Rattle.base.specs.Arrays.{sets_append}
 use Rattle.model.specs.Bytes.{bytes16}

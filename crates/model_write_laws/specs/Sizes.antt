@@ -1,5 +1,6 @@
 -- How long what is written is.
-use Rattle.base.specs.Prelude.{ℕ, suc, ◌+◌, ◌*◌, arith, ◌≡◌, refl, ap, List, [], ◌∷◌, length, length-append}
+use Rattle.std.specs.Prelude.{◌+◌, ◌*◌, ◌≡◌, ◌∷◌}
+use Rattle.base.specs.Prelude.{ℕ, suc, arith, refl, ap, List, [], length, length-append}
 use Rattle.model.specs.Sheet.{EntryRun}
 use Rattle.model_write.specs.Write.{laid_out, pair_bytes, sheet_of}
 

@@ -1,5 +1,6 @@
 -- A sheet that is stored part by part, and what the call then gives.
-use Rattle.base.specs.Prelude.{ℕ, zero, suc, ◌+◌, ◌*◌, ◌≤◌, zero-add, ◌≡◌, refl, sym, ◌∙◌, ap, List, ◌∷◌, ◌++◌, length, drop, set}
+use Rattle.std.specs.Prelude.{◌+◌, ◌*◌, ◌≤◌, ◌≡◌, ◌∷◌, ◌++◌}
+use Rattle.base.specs.Prelude.{ℕ, zero, suc, zero-add, refl, sym, ◌∙◌, ap, List, length, drop, set}
 use Rattle.base.specs.Prelude.{sets, sets-eq}
 use Rattle.base.specs.Arrays.{sets_append}
 use Rattle.model_laws.specs.Types.{Caller, CountAnswer, Limits}

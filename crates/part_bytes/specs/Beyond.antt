@@ -1,5 +1,6 @@
 -- Past the end of a list of bytes every byte reads as 0, and so does every number.
-use Rattle.base.specs.Prelude.{ℕ, ◌+◌, ◌≤◌, arith, ◌≡◌, List, length, get_or-eq_default}
+use Rattle.std.specs.Prelude.{◌+◌, ◌≤◌, ◌≡◌}
+use Rattle.base.specs.Prelude.{ℕ, arith, List, length, get_or-eq_default}
 use Rattle.model.specs.Bytes.{byte_at, word16, word32}
 
 module _ (s : List ℕ) where

@@ -1,5 +1,6 @@
 -- Laws of counts that are not full. Assumes nothing.
-use Rattle.base.specs.Prelude.{ℕ, ◌<◌, ◌≡◌, refl, Bool, true, false, cond, ◌||◌, true≢false, leb-false}
+use Rattle.std.specs.Prelude.{◌<◌, ◌≡◌, ◌||◌}
+use Rattle.base.specs.Prelude.{ℕ, refl, Bool, true, false, cond, true≢false, leb-false}
 use Rattle.model.specs.declared.Access.{Access}
 use Rattle.model.specs.declared.Counts.{Counts}
 use Rattle.model.specs.Step.{counted}

@@ -1,6 +1,7 @@
 -- Document 01, "Turn sheets": "Kinds: 0 propose (any value), 1 work (value 0 is hint no, 1 is yes), 2 look (0), 3 crash (0)", as the
 -- largest value of each; and 02, wish 10: "kind 4, seat 0, value 0".
-use Rattle.base.specs.Prelude.{ℕ, zero, suc, ◌<◌, ◌≤◌, arith, ◌≡◌, refl, Bool, true, false, cond, not, ◌&&◌, List, [], ◌∷◌, get_or, leb, le-leb}
+use Rattle.std.specs.Prelude.{◌<◌, ◌≤◌, ◌≡◌, ◌&&◌, ◌∷◌}
+use Rattle.base.specs.Prelude.{ℕ, zero, suc, arith, refl, Bool, true, false, cond, not, List, [], get_or, leb, le-leb}
 use Rattle.base.specs.Prelude.{lt-leb, eqb, ne_eqb}
 use Rattle.model.specs.declared.Operation.TheVariants.{Step}
 use Rattle.model.specs.declared.Entry.TheVariants.{Acts, Closes, Malformed}

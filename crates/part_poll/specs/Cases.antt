@@ -1,6 +1,7 @@
 -- The phases that the last arm of a `match` stands for, by their tags. Assumes nothing.
+use Rattle.std.specs.Prelude.{◌≡◌, ◌∷◌}
 use Prim.{tt}
-use Rattle.base.specs.Prelude.{ℕ, ◌≡◌, refl, List, [], ◌∷◌, cond}
+use Rattle.base.specs.Prelude.{ℕ, refl, List, [], cond}
 use denote.Enum.Declared.{tag_of}
 use types.Run.{OneOf, miss}
 use Rattle.model.specs.contracts.Phase.{the_type}

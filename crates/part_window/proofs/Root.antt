@@ -1,6 +1,7 @@
 -- The search for the rounded-up root of n, by the sum s of the first m odd numbers: for the loop of `window`, with any n as its end.
 -- Assumes nothing.
-use Rattle.base.specs.Prelude.{ℕ, suc, zero, ◌+◌, ◌*◌, ◌-◌, ◌≤◌, ◌<◌, ◌≡◌, refl, add-one, arith, le-leb, lt-leb}
+use Rattle.std.specs.Prelude.{◌+◌, ◌*◌, ◌-◌, ◌≤◌, ◌<◌, ◌≡◌}
+use Rattle.base.specs.Prelude.{ℕ, suc, zero, refl, add-one, arith, le-leb, lt-leb}
 use Rattle.base.specs.Squares.{odd_sum, odd_sum_square, le_square}
 use Rattle.model.specs.Window.{root_from}
 

@@ -1,5 +1,6 @@
 -- What the code leaves after a turn of a sound poll is what the machine leaves; i is the index of process p. Assumes nothing.
-use Rattle.base.specs.Prelude.{ℕ, ◌<◌, ◌≡◌, refl, sym, ◌∙◌, ap, Bool, true, List, set, length, get_or, get_or-set_same}
+use Rattle.std.specs.Prelude.{◌<◌, ◌≡◌}
+use Rattle.base.specs.Prelude.{ℕ, refl, sym, ◌∙◌, ap, Bool, true, List, set, length, get_or, get_or-set_same}
 use Rattle.model_laws.specs.Types.{Access, Nothing, ReadValue, WriteValue, ReadMark, SetMark, ReadDecision, WriteDecision, Process, Session}
 use Rattle.model_laws.specs.Types.{Counts}
 use Rattle.model.specs.Board.{process_at, idle, with, max_rounds}

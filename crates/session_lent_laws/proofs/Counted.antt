@@ -1,6 +1,7 @@
 -- What `step` and `learn` take and give with the counts lent, and what each of them promises; and the same of any other operation on a
 -- process of a session, by value and with the counts lent.
-use Rattle.base.specs.Prelude.{refl, ℕ, [], ◌∷◌}
+use Rattle.std.specs.Prelude.{◌∷◌}
+use Rattle.base.specs.Prelude.{refl, ℕ, []}
 use Rattle.base.specs.Walks.{w64, Lfts}
 use Rattle.base_walk.proofs.Promise.{Row, uint, struct, Promise}
 use Rattle.model.specs.declared.Session.{Session}

@@ -7,9 +7,10 @@
 --     lent_out         a local that holds a value of S is lent.        taken_back      it is room again, once the reference's last value is
 --                      known
 -- Assumes `Logic`.
+use Rattle.std.specs.Prelude.{◌≡◌, ◌+◌, ◌∷◌}
 use denote.Ref.{MutBor}
 use mathlib.Core.Option.{some, get_or}
-use Rattle.base.specs.Prelude.{◌≡◌, refl, sym, subst, ℕ, zero, ◌+◌, [], ◌∷◌, List}
+use Rattle.base.specs.Prelude.{refl, sym, subst, ℕ, zero, [], List}
 use Rattle.base.specs.Walks.{Ura, Logic, full_share, named, Val, vptr, GName, Share, flft, fobs, fauth, fobor, fat, froom, flent, fres}
 use Rattle.base.specs.Walks.{fsep}
 use Rattle.base.specs.Walks.{Lfts}

@@ -7,9 +7,10 @@
 --     takes_two, lent_two, walk_two            without the hint: two parameters before the counts
 --     takes_three, lent_three, walk_three      with it
 -- Assumes `Logic`.
+use Rattle.std.specs.Prelude.{◌≡◌, ◌∷◌}
 use mir.Syntax.{Sym, tnil, ty_int, ty_ref, mut, ty_named, local, value_local, deref, assign, rv_opd, aggregate, return, w32}
 use mir.Val.{vstruct}
-use Rattle.base.specs.Prelude.{◌≡◌, refl, sym, subst, ap₂, ℕ, zero, Bool, [], ◌∷◌, map}
+use Rattle.base.specs.Prelude.{refl, sym, subst, ap₂, ℕ, zero, Bool, [], map}
 use Rattle.base.specs.Walks.{Ura, Logic, id⊢, flft, ftrue, ‵, raw, ◌⊛◌, ◌$◌, !, by, move, keep, use1, w64}
 use Rattle.base.specs.Walks.{use2, split, fsplit, fjoin, ent, SProp, Val, vint, of_list, Typed, Last, left, yes, Denots, Plains}
 use Rattle.base.specs.Walks.{layout, Declared}

@@ -1,5 +1,6 @@
 -- The answers of the read-out of the standing values, by what its tests say. Assumes nothing.
-use Rattle.base.specs.Prelude.{ℕ, ◌≤◌, ◌<◌, ◌≡◌, true, false, List, ◌++◌, length, drop, lt-ltb, le-ltb}
+use Rattle.std.specs.Prelude.{◌≤◌, ◌<◌, ◌≡◌, ◌++◌}
+use Rattle.base.specs.Prelude.{ℕ, true, false, List, length, drop, lt-ltb, le-ltb}
 use Rattle.model_laws.specs.Types.{Session, CountAnswer}
 use Rattle.model.specs.Sound.{sound}
 use Rattle.model.specs.ReadOut.{standing_values, standing_refusal, standing_answer, standing_buffer}

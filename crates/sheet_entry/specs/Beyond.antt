@@ -1,5 +1,6 @@
 -- Past the end of a sheet every entry reads as six bytes of 0.
-use Rattle.base.specs.Prelude.{ℕ, ◌+◌, ◌≤◌, arith, ◌≡◌, List, length}
+use Rattle.std.specs.Prelude.{◌+◌, ◌≤◌, ◌≡◌}
+use Rattle.base.specs.Prelude.{ℕ, arith, List, length}
 use Rattle.model.specs.Sheet.{entry_of, entry_at}
 use Rattle.part_bytes.specs.Beyond.{byte_beyond, word32_beyond}
 

@@ -7,8 +7,9 @@
 --     at, parts        a reader of a slice and a place, and the two of a reader
 --     together, apart  what its slice and its place own is what the reader owns, and the other way
 -- The promises assume nothing. What is owned takes `Logic`.
+use Rattle.std.specs.Prelude.{◌≡◌, ◌∷◌}
 use denote.Ref.{Bor}
-use Rattle.base.specs.Prelude.{◌≡◌, refl, ℕ, List, [], ◌∷◌, length}
+use Rattle.base.specs.Prelude.{refl, ℕ, List, [], length}
 use Rattle.base.specs.Walks.{Ura, Logic, named, w64, ent, sem, ‵, given, ◌$◌, ◌∵◌, !, qed, use1, move, keep, learn, fsplit}
 use Rattle.base.specs.Walks.{fjoin, done, Lfts}
 use Rattle.base.specs.Walks.{u8, named_lft, nothing, slice_val, ShrSlice, shr_slice_Tells, shr_slice_Lawful, Declared, own_open}

@@ -1,6 +1,7 @@
 -- What the runner's loop keeps, and the laws of its turns.
-use Rattle.base.specs.Prelude.{ℕ, suc, zero, ◌+◌, ◌-◌, ◌≤◌, ◌<◌, arith, add-one, ◌≡◌, refl, sym, ◌∙◌, subst₃, Bool, true, false, cond, ◌||◌}
-use Rattle.base.specs.Prelude.{true≢false, List, ◌∷◌, length, leb, ne_eqb, leb-true, leb-false, lt-leb}
+use Rattle.std.specs.Prelude.{◌+◌, ◌-◌, ◌≤◌, ◌<◌, ◌≡◌, ◌||◌, ◌∷◌}
+use Rattle.base.specs.Prelude.{ℕ, suc, zero, arith, add-one, refl, sym, ◌∙◌, subst₃, Bool, true, false, cond}
+use Rattle.base.specs.Prelude.{true≢false, List, length, leb, ne_eqb, leb-true, leb-false, lt-leb}
 use Rattle.base.specs.Bools.{cond_cases}
 use Rattle.model_laws.specs.Types.{Caller, Limits, Session, Counts, Operation, Entry, Acts, Closes, Malformed, Finished, Refused}
 use Rattle.model_laws.specs.Types.{BudgetEnded, Rejected, Ran}

@@ -1,6 +1,7 @@
 -- One entry as the runner's code takes it: a work turn has a path of its own, and of the others each is a refusal, a register operation
 -- and, where the record changes, what the process becomes. The laws say that this is what the machine does.
-use Rattle.base.specs.Prelude.{ℕ, ◌<◌, ◌≤◌, ◌≡◌, refl, ◌∙◌, ap, Bool, true, false, cond, not, true≢false, List, set, leb, eqb}
+use Rattle.std.specs.Prelude.{◌<◌, ◌≤◌, ◌≡◌}
+use Rattle.base.specs.Prelude.{ℕ, refl, ◌∙◌, ap, Bool, true, false, cond, not, true≢false, List, set, leb, eqb}
 use Rattle.base.specs.Prelude.{le-leb, lt-leb, not-false}
 use Rattle.std.proofs.Math.Seq.{set-get_or}
 use Rattle.model_laws.specs.Types.{Phase, Waiting, Crashed, Access, Nothing, ReadDecision, Process, Session, Counts, Operation, Propose}

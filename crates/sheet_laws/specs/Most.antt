@@ -1,5 +1,6 @@
 -- How many entries a sheet can have: at most 10,921, the budget of document 01's board report.
-use Rattle.base.specs.Prelude.{ℕ, suc, zero, ◌+◌, ◌*◌, ◌≤◌, arith, ◌≡◌, refl, ap, true, List, [], ◌∷◌, length, length-append}
+use Rattle.std.specs.Prelude.{◌+◌, ◌*◌, ◌≤◌, ◌≡◌, ◌∷◌}
+use Rattle.base.specs.Prelude.{ℕ, suc, zero, arith, refl, ap, true, List, [], length, length-append}
 use Rattle.model.specs.declared.Limits.{Limits}
 use Rattle.model.specs.Sheet.{EntryRun, runs, header_end, is_in_order, entries_at, entries_of, entries, sheet_refusal}
 use Rattle.model_laws.specs.SheetFacts.{sheet_facts}

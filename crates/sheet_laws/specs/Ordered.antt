@@ -1,5 +1,6 @@
 -- Runs in order, and that those of an accepted sheet, within whatever limits, end within its bytes.
-use Rattle.base.specs.Prelude.{ℕ, suc, zero, ◌+◌, ◌≤◌, ◌<◌, arith, ◌≡◌, true, List, ◌∷◌, length, leb-true}
+use Rattle.std.specs.Prelude.{◌+◌, ◌≤◌, ◌<◌, ◌≡◌, ◌∷◌}
+use Rattle.base.specs.Prelude.{ℕ, suc, zero, arith, true, List, length, leb-true}
 use Rattle.base.specs.Bools.{and_left, and_right}
 use Rattle.model.specs.declared.Limits.{Limits}
 use Rattle.model.specs.Sheet.{EntryRun, run_at, run_count, runs_from, header_end, is_in_order, sheet_refusal}

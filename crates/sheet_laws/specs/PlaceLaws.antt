@@ -1,6 +1,7 @@
 -- Document 01, "Turn sheets": the reader hands out the sheet's entries, each once and in their order.
-use Rattle.base.specs.Prelude.{ℕ, suc, zero, ◌+◌, ◌-◌, ◌*◌, ◌/◌, ◌%◌, ◌≤◌, add-one, suc-sub-suc, sub-zero, arith, ◌≡◌, refl, sym}
-use Rattle.base.specs.Prelude.{subst, ◌∙◌, true, false, true≢false, List, [], ◌∷◌, leb, leb-true, leb-false}
+use Rattle.std.specs.Prelude.{◌+◌, ◌-◌, ◌*◌, ◌/◌, ◌%◌, ◌≤◌, ◌≡◌, ◌∷◌}
+use Rattle.base.specs.Prelude.{ℕ, suc, zero, add-one, suc-sub-suc, sub-zero, arith, refl, sym}
+use Rattle.base.specs.Prelude.{subst, ◌∙◌, true, false, true≢false, List, [], leb, leb-true, leb-false}
 use Rattle.base.specs.Bools.{cond_cases}
 use Rattle.model.specs.declared.Entry.{Entry}
 use Rattle.model.specs.Sheet.{run_at, run_count, runs_from, entry_at, entries_of, entries}

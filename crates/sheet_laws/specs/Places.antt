@@ -1,6 +1,7 @@
 -- Document 01, "Turn sheets": "A reader that stays attached to the sheet's bytes and its place hands the entries out." The place is one
 -- number.
-use Rattle.base.specs.Prelude.{ℕ, suc, zero, ◌+◌, ◌-◌, ◌*◌, ◌/◌, ◌%◌, ◌≤◌, ◌<◌, ◌≡◌, Bool, false, cond, List, [], ◌∷◌, ◌++◌, leb}
+use Rattle.std.specs.Prelude.{◌+◌, ◌-◌, ◌*◌, ◌/◌, ◌%◌, ◌≤◌, ◌<◌, ◌≡◌, ◌∷◌, ◌++◌}
+use Rattle.base.specs.Prelude.{ℕ, suc, zero, Bool, false, cond, List, [], leb}
 use Rattle.model.specs.declared.Entry.{Entry}
 use Rattle.model.specs.Sheet.{EntryRun, run_at, run_count, runs_from, entry_at, entries_at, entries_of}
 use Rattle.sheet_laws.specs.declared.Handed.{Handed}

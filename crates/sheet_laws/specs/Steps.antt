@@ -1,5 +1,6 @@
 -- Document 01, "Turn sheets": where the next place is, case by case.
-use Rattle.base.specs.Prelude.{ℕ, ◌+◌, ◌-◌, ◌*◌, ◌%◌, ◌≤◌, ◌<◌, arith, ◌≡◌, List, le-leb, lt-leb}
+use Rattle.std.specs.Prelude.{◌+◌, ◌-◌, ◌*◌, ◌%◌, ◌≤◌, ◌<◌, ◌≡◌}
+use Rattle.base.specs.Prelude.{ℕ, arith, List, le-leb, lt-leb}
 use Rattle.base.specs.Bools.{cond_cases}
 use Rattle.model.specs.Sheet.{run_count}
 use Rattle.sheet_laws.specs.Places.{encode, decode, has_entry, open_from, settled, advanced}

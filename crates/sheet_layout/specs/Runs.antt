@@ -1,5 +1,6 @@
 -- Document 01, "Turn sheets": the runs of a sheet, one by one.
-use Rattle.base.specs.Prelude.{ℕ, suc, ◌+◌, ◌-◌, ◌≤◌, ◌<◌, arith, ◌≡◌, List, []}
+use Rattle.std.specs.Prelude.{◌+◌, ◌-◌, ◌≤◌, ◌<◌, ◌≡◌}
+use Rattle.base.specs.Prelude.{ℕ, suc, arith, List, []}
 use Rattle.model.specs.Sheet.{run_at, runs_from}
 
 -- What reading the numbers of run i gives: they are its offset and its length, of 16 bits each.

@@ -1,5 +1,6 @@
 -- Document 01, "Numbers returned", Order: "Sheet 10, 1, 2, 11 over all pairs, 12 over all runs", part by part.
-use Rattle.base.specs.Prelude.{ℕ, arith, ◌≡◌, ap, cond, not, List, eqb}
+use Rattle.std.specs.Prelude.{◌≡◌}
+use Rattle.base.specs.Prelude.{ℕ, arith, ap, cond, not, List, eqb}
 use Rattle.model.specs.declared.Limits.{Limits}
 use Rattle.model.specs.Refusal.{refusal, open_tests}
 use Rattle.model_laws.specs.Accepted.{refusal_append}

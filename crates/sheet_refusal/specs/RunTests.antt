@@ -1,5 +1,6 @@
 -- Document 01, "Numbers returned", Order: ".. 11 over all pairs, 12 over all runs".
-use Rattle.base.specs.Prelude.{ℕ, cond, not, List, [], ◌∷◌, length}
+use Rattle.std.specs.Prelude.{◌∷◌}
+use Rattle.base.specs.Prelude.{ℕ, cond, not, List, [], length}
 use Rattle.model.specs.Numbers.{bad_pairs, bad_run}
 use Rattle.model.specs.Refusal.{Test}
 use Rattle.model.specs.Sheet.{EntryRun, runs, header_end, is_in_order, whole_entries}

@@ -1,5 +1,6 @@
 -- What the cycle computes: the lists that it chooses among, and what it writes of the first.
-use Rattle.base.specs.Prelude.{ℕ, suc, zero, ◌+◌, ◌*◌, ◌-◌, ◌≤◌, ◌<◌, ◌≡◌, refl, sym, ◌∙◌, List, [], ◌∷◌, ◌++◌, map, drop, sets, arith}
+use Rattle.std.specs.Prelude.{◌+◌, ◌*◌, ◌-◌, ◌≤◌, ◌<◌, ◌≡◌, ◌∷◌, ◌++◌}
+use Rattle.base.specs.Prelude.{ℕ, suc, zero, refl, sym, ◌∙◌, List, [], map, drop, sets, arith}
 use Rattle.base.specs.Prelude.{Bool, true, false, not, eqb, ne_eqb, eq-eqb, true≢false, add-one}
 use Rattle.model.specs.declared.Session.{Session}
 use Rattle.model.specs.declared.Counts.{Counts}

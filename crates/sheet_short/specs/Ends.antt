@@ -1,5 +1,6 @@
 -- What the two calls answer and leave, from what the cycle does.
-use Rattle.base.specs.Prelude.{ℕ, ◌+◌, ◌≡◌, refl, sym, ap, ◌∙◌, List, [], ◌∷◌, append-nil, length, drop_of_length-le, sets, sets-eq, arith}
+use Rattle.std.specs.Prelude.{◌+◌, ◌≡◌, ◌∷◌}
+use Rattle.base.specs.Prelude.{ℕ, refl, sym, ap, ◌∙◌, List, [], append-nil, length, drop_of_length-le, sets, sets-eq, arith}
 use Rattle.base.specs.Prelude.{Bool, true, false, not, eqb, eqb-true, true≢false}
 use Rattle.base.specs.Bools.{and_left}
 use Rattle.model.specs.Window.{window}

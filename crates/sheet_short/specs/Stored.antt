@@ -1,6 +1,7 @@
 -- Entries stored in a buffer.
+use Rattle.std.specs.Prelude.{◌+◌, ◌≤◌, ◌<◌, ◌≡◌, ◌∷◌}
 use Rattle.std.proofs.lemmas.List.{set_comm}
-use Rattle.base.specs.Prelude.{ℕ, suc, ◌+◌, ◌≤◌, ◌<◌, ◌≡◌, refl, sym, ap, ◌∙◌, List, [], ◌∷◌, length, set, sets, arith}
+use Rattle.base.specs.Prelude.{ℕ, suc, refl, sym, ap, ◌∙◌, List, [], length, set, sets, arith}
 use Rattle.base.specs.Arrays.{sets_append}
 use Rattle.model_short.specs.declared.RawEntry.{RawEntry}
 use Rattle.model_short.specs.Calls.{raw_bytes, list_bytes}

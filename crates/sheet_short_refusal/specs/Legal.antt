@@ -1,5 +1,6 @@
 -- Whether the entries in a buffer are legal, one entry after the other.
-use Rattle.base.specs.Prelude.{ℕ, ◌+◌, ◌*◌, ◌-◌, ◌≤◌, ◌<◌, ◌≡◌, refl, sym, ◌∙◌, List, length, arith}
+use Rattle.std.specs.Prelude.{◌+◌, ◌*◌, ◌-◌, ◌≤◌, ◌<◌, ◌≡◌}
+use Rattle.base.specs.Prelude.{ℕ, refl, sym, ◌∙◌, List, length, arith}
 use Rattle.base.specs.Prelude.{true, false, ne_eqb, eq-eqb, lt-ltb, le-ltb}
 use Rattle.model.specs.declared.Session.{Session}
 use Rattle.model.specs.declared.Counts.{Counts}

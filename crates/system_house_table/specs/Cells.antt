@@ -1,8 +1,9 @@
 -- The value table as an array of arrays. Assumes nothing.
+use Rattle.std.specs.Prelude.{◌+◌, ◌-◌, ◌≡◌, ◌∷◌}
 use Rattle.std.proofs.lemmas.Simd.{map-map}
 use Rattle.std.proofs.Common.{map-id}
 use Rattle.std.proofs.Math.ListN.{get_or-map}
-use Rattle.base.specs.Prelude.{ℕ, suc, zero, ◌+◌, ◌-◌, arith, ◌≡◌, refl, sym, List, [], ◌∷◌, map, length, get_or, set}
+use Rattle.base.specs.Prelude.{ℕ, suc, zero, arith, refl, sym, List, [], map, length, get_or, set}
 use Rattle.base.specs.Prelude.{drop, drop-cons, drop_of_length-le}
 use Rattle.model_house.specs.declared.Row.{Row}
 use Rattle.model_house.specs.declared.Table.{Table}

@@ -1,5 +1,6 @@
 -- After a close the proposals stand (document 02, wish 10): the closed mark stays, and where it is set no proposal is accepted.
-use Rattle.base.specs.Prelude.{ℕ, suc, zero, ◌≡◌, refl, sym, ◌∙◌, ap, subst, true, true≢false, List, [], ◌∷◌, ◌++◌}
+use Rattle.std.specs.Prelude.{◌≡◌, ◌∷◌, ◌++◌}
+use Rattle.base.specs.Prelude.{ℕ, suc, zero, refl, sym, ◌∙◌, ap, subst, true, true≢false, List, []}
 use Rattle.model_laws.specs.Types.{Phase, Idle, Waiting, Write, Scan, Adopt, Compare, Flag, CheckMark, CheckValue, Commit, Exhausted}
 use Rattle.model_laws.specs.Types.{Crashed, Decided, HasCommitted, HasAdopted, Session, Counts, Operation, Propose, Step, Learn, Crash}
 use Rattle.model_laws.specs.Types.{Command, acts, closes}

@@ -1,5 +1,6 @@
 -- From the invariant to the rule, where n is below the threshold of the window.
-use Rattle.base.specs.Prelude.{ℕ, ◌*◌, ◌≤◌, ◌<◌, arith, ℕ_discrete, ◌≡◌, subst, false, List, ◌∷◌, ◌⊎◌, inl, inr, ⊎_elim}
+use Rattle.std.specs.Prelude.{◌*◌, ◌≤◌, ◌<◌, ◌≡◌, ◌∷◌, ◌⊎◌}
+use Rattle.base.specs.Prelude.{ℕ, arith, ℕ_discrete, subst, false, List, inl, inr, ⊎_elim}
 use Rattle.model_laws.specs.Types.{Phase, Session}
 use Rattle.model.specs.Board.{process_at}
 use Rattle.model_rule.specs.Event.{Event, proposal, write, flag, commit, decision, here, there, Committed}

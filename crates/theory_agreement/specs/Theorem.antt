@@ -1,5 +1,6 @@
 -- The agreement rule holds at every window that is wide enough, and so in service: the calls follow the machine, whose rule holds.
-use Rattle.base.specs.Prelude.{ℕ, ◌*◌, ◌≤◌, arith, ◌≡◌, refl, sym, ◌∙◌, ap, false, List, []}
+use Rattle.std.specs.Prelude.{◌*◌, ◌≤◌, ◌≡◌}
+use Rattle.base.specs.Prelude.{ℕ, arith, refl, sym, ◌∙◌, ap, false, List, []}
 use Rattle.model_laws.specs.Types.{Limits, Session, Counts, Operation, Propose, Step, Learn, Crash, Command, acts, closes}
 use Rattle.model.specs.Window.{window}
 use Rattle.model.specs.Numbers.{unsound}

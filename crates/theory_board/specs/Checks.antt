@@ -1,5 +1,6 @@
 -- The checks of a round that is over.
-use Rattle.base.specs.Prelude.{ℕ, suc, ◌+◌, ◌-◌, ◌≡◌, cond, List, by_cases, ltb, eqb, ltb-false, eqb-true, dec_lt, arith}
+use Rattle.std.specs.Prelude.{◌+◌, ◌-◌, ◌≡◌}
+use Rattle.base.specs.Prelude.{ℕ, suc, cond, List, by_cases, ltb, eqb, ltb-false, eqb-true, dec_lt, arith}
 use Rattle.model_laws.specs.Types.{Phase, Waiting, CheckMark, CheckValue, Commit}
 use Rattle.model_rule.specs.Event.{Event}
 use Rattle.theory_board.specs.Epoch.{Flagged}

@@ -1,5 +1,6 @@
 -- The way up to the round that a process takes part in: from waiting, through the scan, to a write or an adoption.
-use Rattle.base.specs.Prelude.{ℕ, ◌+◌, ◌-◌, ◌≤◌, ◌<◌, ◌≡◌, ◌∙◌, sym, cond, List, ltb, eqb, ltb-false, eqb-true, eqb-false, by_cases}
+use Rattle.std.specs.Prelude.{◌+◌, ◌-◌, ◌≤◌, ◌<◌, ◌≡◌}
+use Rattle.base.specs.Prelude.{ℕ, ◌∙◌, sym, cond, List, ltb, eqb, ltb-false, eqb-true, eqb-false, by_cases}
 use Rattle.base.specs.Prelude.{add_assoc, dec_le, arith}
 use Rattle.model_laws.specs.Types.{Phase, Write, Scan, Adopt, Compare, Waiting}
 use Rattle.model.specs.Step.{process}

@@ -1,6 +1,7 @@
 -- The highest written round, the registers, and what happened in which epoch of a past: the epoch of an event is the highest written
 -- round just after it.
-use Rattle.base.specs.Prelude.{ℕ, ◌+◌, ◌≤◌, ◌<◌, max, ◌≡◌, cond, List, [], ◌∷◌, ◌⊎◌, eqb}
+use Rattle.std.specs.Prelude.{◌+◌, ◌≤◌, ◌<◌, ◌≡◌, ◌∷◌, ◌⊎◌}
+use Rattle.base.specs.Prelude.{ℕ, max, cond, List, [], eqb}
 use Rattle.model_rule.specs.Event.{Event, proposal, write, flag, commit, decision, Past}
 
 -- The highest round that was written to; 0 for none.

@@ -1,5 +1,6 @@
 -- The highest filled round of a session is the highest written round of its past, and no mark stands above it.
-use Rattle.base.specs.Prelude.{ℕ, suc, ◌+◌, min, ◌≤◌, ◌<◌, arith, unary_clauses, ◌≡◌, refl, sym, ◌∙◌, true, List, [], ◌∷◌, get_or, eqb, cond}
+use Rattle.std.specs.Prelude.{◌+◌, ◌≤◌, ◌<◌, ◌≡◌, ◌∷◌}
+use Rattle.base.specs.Prelude.{ℕ, suc, min, arith, unary_clauses, refl, sym, ◌∙◌, true, List, [], get_or, eqb, cond}
 use Rattle.base.specs.Prelude.{eqb-true, eqb-false}
 use Rattle.base.specs.Bools.{cond_cases}
 use Rattle.model.specs.declared.Session.{Session}

@@ -1,6 +1,7 @@
 -- The invariant of a session and its past, and the one lemma by which every operation keeps it. Nothing here says that the session is
 -- sound: that stands beside it (`perform_sound`).
-use Rattle.base.specs.Prelude.{ℕ, ◌<◌, arith, ℕ_discrete, ◌≡◌, List, ◌++◌, length-set, get_or-set_same, get_or-set_other}
+use Rattle.std.specs.Prelude.{◌<◌, ◌≡◌, ◌++◌}
+use Rattle.base.specs.Prelude.{ℕ, arith, ℕ_discrete, List, length-set, get_or-set_same, get_or-set_other}
 use Rattle.model_laws.specs.Types.{Access, Process, Session}
 use Rattle.model.specs.Board.{process_at, with_closed, idle}
 use Rattle.model.specs.Step.{found, stored, turn}

@@ -1,5 +1,6 @@
 -- What is true of the past of every run: each event rests on what was before it.
-use Rattle.base.specs.Prelude.{ℕ, suc, ◌+◌, ◌≤◌, ◌<◌, max, ◌≡◌, List, [], ◌∷◌, inl, inr, eqb, eqb-false, arith}
+use Rattle.std.specs.Prelude.{◌+◌, ◌≤◌, ◌<◌, ◌≡◌, ◌∷◌}
+use Rattle.base.specs.Prelude.{ℕ, suc, max, List, [], inl, inr, eqb, eqb-false, arith}
 use Rattle.base.specs.Bools.{cond_cases}
 use Rattle.model_rule.specs.Event.{Event, proposal, write, flag, commit, decision, Past, Proposed, Written, Committed}
 use Rattle.model_rule.specs.Event.Past.{here, there}

@@ -1,5 +1,6 @@
 -- Lists of calls on any machine: what each operation keeps, a list keeps; and calls that answer as the machine does follow it.
-use Rattle.base.specs.Prelude.{◌≡◌, refl, sym, ◌∙◌, ap, List, [], ◌∷◌, ◌++◌}
+use Rattle.std.specs.Prelude.{◌≡◌, ◌∷◌, ◌++◌}
+use Rattle.base.specs.Prelude.{refl, sym, ◌∙◌, ap, List, []}
 use Rattle.model.specs.Numbers.{unsound}
 use Rattle.model_rule.specs.System.{System, Call, inputs, Run, none, call, machine, events, past, EachAsTheMachine, AfterEach}
 

@@ -1,5 +1,6 @@
 -- Contested and the number of marked rounds: mark by mark, in one operation of a session or a poll, and in a list of calls on one tally.
-use Rattle.base.specs.Prelude.{ℕ, suc, zero, ◌+◌, ◌-◌, ◌≤◌, ◌<◌, arith, ◌≡◌, refl, Bool, true, false, List, [], ◌∷◌, ℕ_discrete, length}
+use Rattle.std.specs.Prelude.{◌+◌, ◌-◌, ◌≤◌, ◌<◌, ◌≡◌, ◌∷◌}
+use Rattle.base.specs.Prelude.{ℕ, suc, zero, arith, refl, Bool, true, false, List, [], ℕ_discrete, length}
 use Rattle.base.specs.Prelude.{get_or, set, get_or-set_same, get_or-set_other}
 use Rattle.model_laws.specs.Types.{Access, Nothing, ReadValue, WriteValue, ReadMark, SetMark, ReadDecision, WriteDecision, Session, Counts}
 use Rattle.model_laws.specs.Types.{Operation, Command, acts, closes, Process}

@@ -1,5 +1,6 @@
 -- The registers of a session are what the past wrote; one register operation with its event keeps this.
-use Rattle.base.specs.Prelude.{ℕ, ◌-◌, ◌≤◌, arith, ℕ_discrete, ◌≡◌, refl, sym, ◌∙◌, ap, Bool, true, false, cond, List, ◌∷◌, length, get_or}
+use Rattle.std.specs.Prelude.{◌-◌, ◌≤◌, ◌≡◌, ◌∷◌}
+use Rattle.base.specs.Prelude.{ℕ, arith, ℕ_discrete, refl, sym, ◌∙◌, ap, Bool, true, false, cond, List, length, get_or}
 use Rattle.base.specs.Prelude.{set, length-set, get_or-set_same, get_or-set_other, eqb, eqb-true, eqb-false, eq-eqb, ne_eqb}
 use Rattle.base.specs.Bools.{cond_cases}
 use Rattle.model_laws.specs.Types.{Access, Nothing, ReadValue, WriteValue, ReadMark, SetMark, ReadDecision, WriteDecision, Session}

@@ -1,5 +1,6 @@
 -- A session just opened, with nothing past, keeps the invariant, at any window.
-use Rattle.base.specs.Prelude.{ℕ, suc, zero, ◌-◌, ◌≤◌, ◌≡◌, refl, sym, ◌∙◌, true≢false, [], get_or, replicate, length-replicate}
+use Rattle.std.specs.Prelude.{◌-◌, ◌≤◌, ◌≡◌}
+use Rattle.base.specs.Prelude.{ℕ, suc, zero, refl, sym, ◌∙◌, true≢false, [], get_or, replicate, length-replicate}
 use Rattle.model.specs.Board.{opened, idle, max_processes, max_rounds}
 use Rattle.theory_board.specs.Past.{past_none}
 use Rattle.theory_board.specs.Lawful.{none}

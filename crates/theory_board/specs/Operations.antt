@@ -1,5 +1,6 @@
 -- Each accepted operation of the machine, at any window, keeps the invariant: the one lemma, applied.
-use Rattle.base.specs.Prelude.{ℕ, zero, suc, ◌-◌, ◌≡◌, refl, sym, ◌∙◌, Bool, true, false, true≢false, List, [], ◌∷◌, ◌++◌, not, not-false}
+use Rattle.std.specs.Prelude.{◌-◌, ◌≡◌, ◌∷◌, ◌++◌}
+use Rattle.base.specs.Prelude.{ℕ, zero, suc, refl, sym, ◌∙◌, Bool, true, false, true≢false, List, [], not, not-false}
 use Rattle.base.specs.Prelude.{arith}
 use Rattle.model_laws.specs.Types.{Phase, Idle, Waiting, Write, Scan, Adopt, Compare, Flag, CheckMark, CheckValue, Commit, Exhausted}
 use Rattle.model_laws.specs.Types.{Crashed, Decided, HasCommitted, HasAdopted, Session, Counts, Operation, Propose, Step, Learn, Crash}

@@ -1,5 +1,6 @@
 -- Older parts of a past: what was true of one stays true, and what an event on top of it can add.
-use Rattle.base.specs.Prelude.{ℕ, ◌≤◌, ◌≡◌, refl, List, [], ◌∷◌, ◌++◌, ◌⊎◌, inl, inr, ⊎_elim, length, le_refl, arith}
+use Rattle.std.specs.Prelude.{◌≤◌, ◌≡◌, ◌∷◌, ◌++◌, ◌⊎◌}
+use Rattle.base.specs.Prelude.{ℕ, refl, List, [], inl, inr, ⊎_elim, length, le_refl, arith}
 use Rattle.model_rule.specs.Event.{Event, write, Past, Happened}
 use Rattle.model_rule.specs.Event.Past.{here, there}
 use Rattle.theory_board.specs.Epoch.{top, HappenedIn, ComparedBy, Passed, PassedBy}

@@ -1,6 +1,7 @@
 -- What is known of a session, or a poll, that the machine came to, and that one operation keeps it. (An operation of a poll:
 -- `theory_poll`.)
-use Rattle.base.specs.Prelude.{ℕ, suc, zero, ◌≤◌, ◌≡◌, refl, ◌∙◌, Bool, true, false, List, [], ◌++◌}
+use Rattle.std.specs.Prelude.{◌≤◌, ◌≡◌, ◌++◌}
+use Rattle.base.specs.Prelude.{ℕ, suc, zero, refl, ◌∙◌, Bool, true, false, List, []}
 use Rattle.model_laws.specs.Types.{Session, Counts, Operation, Command, acts, closes}
 use Rattle.model.specs.Board.{process_at, opened, max_processes, max_rounds}
 use Rattle.model.specs.Refusal.{refusal, tests, stepped}

@@ -1,5 +1,6 @@
 -- What the highest written round and the registers tell of the writes of a past.
-use Rattle.base.specs.Prelude.{ℕ, ◌≤◌, ◌<◌, ◌≡◌, refl, List, ◌∷◌, ◌⊎◌, inl, inr, ⊎_elim, eqb, eqb-true, le_refl, le_trans, arith}
+use Rattle.std.specs.Prelude.{◌≤◌, ◌<◌, ◌≡◌, ◌∷◌, ◌⊎◌}
+use Rattle.base.specs.Prelude.{ℕ, refl, List, inl, inr, ⊎_elim, eqb, eqb-true, le_refl, le_trans, arith}
 use Rattle.model_rule.specs.Event.{Event, proposal, write, flag, commit, decision, Past, Happened, Written}
 use Rattle.model_rule.specs.Event.Past.{here, there}
 use Rattle.theory_board.specs.Epoch.{top, last, HappenedIn, WrittenIn}

@@ -1,5 +1,6 @@
 -- The walk of a round: the comparisons and the flags, and what they come to.
-use Rattle.base.specs.Prelude.{ℕ, ◌+◌, ◌-◌, ◌≤◌, min, ◌≡◌, ◌∙◌, refl, sym, cond, List, ◌∷◌, inl, inr, by_cases, ltb, leb, eqb, ltb-false}
+use Rattle.std.specs.Prelude.{◌+◌, ◌-◌, ◌≤◌, ◌≡◌, ◌∷◌}
+use Rattle.base.specs.Prelude.{ℕ, min, ◌∙◌, refl, sym, cond, List, inl, inr, by_cases, ltb, leb, eqb, ltb-false}
 use Rattle.base.specs.Prelude.{eqb-true, dec_lt, arith}
 use Rattle.model_laws.specs.Types.{Phase, Compare, Flag}
 use Rattle.model.specs.Step.{go_on}

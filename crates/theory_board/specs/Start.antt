@@ -1,5 +1,6 @@
 -- The places that no step leads to: after a proposal, a crash, and a look at the decision register.
-use Rattle.base.specs.Prelude.{ℕ, zero, suc, ◌≡◌, refl, false, List, ◌∷◌, ◌++◌, ⊎_elim, ne_eqb, arith}
+use Rattle.std.specs.Prelude.{◌≡◌, ◌∷◌, ◌++◌}
+use Rattle.base.specs.Prelude.{ℕ, zero, suc, refl, false, List, ⊎_elim, ne_eqb, arith}
 use Rattle.model_laws.specs.Types.{Waiting, Crashed, Decided, Process}
 use Rattle.model.specs.Step.{process, learnt}
 use Rattle.model.specs.Refusal.{status, is_outside}

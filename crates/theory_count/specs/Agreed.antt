@@ -1,5 +1,6 @@
 -- The agreement rule of the past: one value is committed, and no other is written from the round of the commit on.
-use Rattle.base.specs.Prelude.{ℕ, ◌≤◌, ◌<◌, arith, ℕ_discrete, dec_le, ◌≡◌, sym, List}
+use Rattle.std.specs.Prelude.{◌≤◌, ◌<◌, ◌≡◌}
+use Rattle.base.specs.Prelude.{ℕ, arith, ℕ_discrete, dec_le, sym, List}
 use Rattle.model_rule.specs.Event.{Event, Written, Committed}
 use Rattle.model_rule.specs.Safe.{threshold}
 use Rattle.theory_board.specs.Lawful.{Lawful, commit_lawful}

@@ -1,5 +1,6 @@
 -- Two writes of one process.
-use Rattle.base.specs.Prelude.{ℕ, ◌+◌, ◌-◌, ◌/◌, ◌%◌, ◌≤◌, ◌<◌, arith, mod-lt, div-add-mod', ◌≡◌, List, ◌∷◌, inl, inr}
+use Rattle.std.specs.Prelude.{◌+◌, ◌-◌, ◌/◌, ◌%◌, ◌≤◌, ◌<◌, ◌≡◌, ◌∷◌}
+use Rattle.base.specs.Prelude.{ℕ, arith, mod-lt, div-add-mod', List, inl, inr}
 use Rattle.model_rule.specs.Event.{Event, write, Past}
 use Rattle.theory_board.specs.Epoch.{Wrote}
 use Rattle.theory_board.specs.Lawful.{Lawful, lawful_at}

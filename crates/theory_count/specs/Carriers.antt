@@ -1,6 +1,7 @@
 -- The processes that carry a value to the register above the middle of the window, and the last writers of the epoch before: of two values,
 -- one is carried by none of these.
-use Rattle.base.specs.Prelude.{ℕ, suc, ◌+◌, ◌≤◌, ◌<◌, arith, ◌≡◌, refl, sym, ◌∙◌, subst, List, ◌∷◌, inl, inr, ⊎_elim}
+use Rattle.std.specs.Prelude.{◌+◌, ◌≤◌, ◌<◌, ◌≡◌, ◌∷◌}
+use Rattle.base.specs.Prelude.{ℕ, suc, arith, refl, sym, ◌∙◌, subst, List, inl, inr, ⊎_elim}
 use Rattle.model_rule.specs.Event.{Event, write, Past, Written}
 use Rattle.theory_board.specs.Epoch.{top, last, Wrote}
 use Rattle.theory_board.specs.Lawful.{lawful_at}

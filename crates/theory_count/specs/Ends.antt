@@ -1,5 +1,6 @@
 -- The end of an epoch: the longest older part of a past in which no higher round is written, and the newest write to a register in a past.
-use Rattle.base.specs.Prelude.{ℕ, ◌≤◌, arith, ℕ_discrete, ◌≡◌, refl, ◌∙◌, ap, cond, List, [], ◌∷◌, ⊎_elim, leb, leb-true, leb-false, eq-eqb}
+use Rattle.std.specs.Prelude.{◌≤◌, ◌≡◌, ◌∷◌}
+use Rattle.base.specs.Prelude.{ℕ, arith, ℕ_discrete, refl, ◌∙◌, ap, cond, List, [], ⊎_elim, leb, leb-true, leb-false, eq-eqb}
 use Rattle.base.specs.Bools.{cond_cases}
 use Rattle.model_rule.specs.Event.{Event, proposal, write, flag, commit, decision, Past}
 use Rattle.model_rule.specs.Event.Past.{here, there}

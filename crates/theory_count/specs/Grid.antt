@@ -1,6 +1,7 @@
 -- The count: two values at the register of a commit take more processes than there are below the threshold.
-use Rattle.base.specs.Prelude.{ℕ, suc, zero, ◌+◌, ◌*◌, ◌-◌, ◌/◌, ◌%◌, ◌≤◌, ◌<◌, arith, ℕ_discrete, dec_le, dec_lt, mod-lt}
-use Rattle.base.specs.Prelude.{div-lt_iff_lt-mul, ◌≡◌, List}
+use Rattle.std.specs.Prelude.{◌+◌, ◌*◌, ◌-◌, ◌/◌, ◌%◌, ◌≤◌, ◌<◌, ◌≡◌}
+use Rattle.base.specs.Prelude.{ℕ, suc, zero, arith, ℕ_discrete, dec_le, dec_lt, mod-lt}
+use Rattle.base.specs.Prelude.{div-lt_iff_lt-mul, List}
 use Rattle.model_rule.specs.Event.{Event}
 use Rattle.model_rule.specs.Safe.{threshold}
 use Rattle.theory_board.specs.Epoch.{WrittenIn}

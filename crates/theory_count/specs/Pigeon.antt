@@ -1,5 +1,6 @@
 -- Pigeonholes: where each pigeon has a hole of its own and one hole is left, there are more holes than pigeons.
-use Rattle.base.specs.Prelude.{ℕ, suc, zero, pred, min, max, ◌+◌, ◌-◌, ◌≤◌, ◌<◌, ◌≡◌, arith}
+use Rattle.std.specs.Prelude.{◌+◌, ◌-◌, ◌≤◌, ◌<◌, ◌≡◌}
+use Rattle.base.specs.Prelude.{ℕ, suc, zero, pred, min, max, arith}
 
 -- The numbers other than k, moved together: those above k are lowered by one.
 abbrev without : (k x : ℕ) → ℕ

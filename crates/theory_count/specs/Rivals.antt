@@ -1,5 +1,6 @@
 -- Two values at the register of a round in which one of them was committed.
-use Rattle.base.specs.Prelude.{ℕ, suc, zero, ◌+◌, ◌≤◌, ◌<◌, arith, ℕ_discrete, ◌≡◌, refl, List, inl, inr}
+use Rattle.std.specs.Prelude.{◌+◌, ◌≤◌, ◌<◌, ◌≡◌}
+use Rattle.base.specs.Prelude.{ℕ, suc, zero, arith, ℕ_discrete, refl, List, inl, inr}
 use Rattle.model_rule.specs.Event.{Event, Written}
 use Rattle.theory_board.specs.Epoch.{Wrote, Held, Passed}
 use Rattle.theory_board.specs.Lawful.{CommitLawful, Lawful, lawful_at}

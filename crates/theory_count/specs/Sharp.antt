@@ -1,6 +1,7 @@
 -- The sharp count: beside the writes of the grid, the processes that carry one of the two values to the register above it.
-use Rattle.base.specs.Prelude.{ℕ, suc, zero, ◌+◌, ◌*◌, ◌-◌, ◌/◌, ◌%◌, ◌≤◌, ◌<◌, arith, ℕ_discrete, dec_le, dec_lt, mod-lt, div-lt_iff_lt-mul}
-use Rattle.base.specs.Prelude.{◌≡◌, sym, List, ◌⊎◌, inl, inr}
+use Rattle.std.specs.Prelude.{◌+◌, ◌*◌, ◌-◌, ◌/◌, ◌%◌, ◌≤◌, ◌<◌, ◌≡◌, ◌⊎◌}
+use Rattle.base.specs.Prelude.{ℕ, suc, zero, arith, ℕ_discrete, dec_le, dec_lt, mod-lt, div-lt_iff_lt-mul}
+use Rattle.base.specs.Prelude.{sym, List, inl, inr}
 use Rattle.model_rule.specs.Event.{Event, Written}
 use Rattle.theory_board.specs.Epoch.{Wrote}
 use Rattle.theory_board.specs.Lawful.{lawful_at}

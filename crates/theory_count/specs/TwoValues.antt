@@ -1,5 +1,6 @@
 -- A register that held two values in one epoch was written to in that epoch.
-use Rattle.base.specs.Prelude.{ℕ, max, arith, ◌≡◌, sym, List, inl, inr, ⊎_elim}
+use Rattle.std.specs.Prelude.{◌≡◌}
+use Rattle.base.specs.Prelude.{ℕ, max, arith, sym, List, inl, inr, ⊎_elim}
 use Rattle.model_rule.specs.Event.{Event, Past}
 use Rattle.theory_board.specs.Epoch.{top, Wrote, Held}
 use Rattle.theory_board.specs.Past.{past_trans, past_total}

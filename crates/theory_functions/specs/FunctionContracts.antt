@@ -1,7 +1,8 @@
 -- The contracts of the functions whose calls the agreement rule and the rule of polls take, read off the functions: each one requires
 -- nothing, and ensures what the rule takes for granted of its call (`promised`, `poll_promised`, and the accepted opening). Any other
 -- contract is refused here. (`Houses` has those that the rule of houses takes.)
-use Rattle.base.specs.Prelude.{◌≡◌, refl, ap, ℕ, Bool}
+use Rattle.std.specs.Prelude.{◌≡◌}
+use Rattle.base.specs.Prelude.{refl, ap, ℕ, Bool}
 use seplogic.Ra.Ura.{Ura}
 use base.Logic.{SProp, emp}
 use base.Fml.{Lft}

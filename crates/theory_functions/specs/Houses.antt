@@ -1,6 +1,7 @@
 -- The same of houses: what the rule of houses takes for granted of an accepted opening and of its calls (`house_promised`) is what the
 -- functions' contracts ensure, and they require nothing.
-use Rattle.base.specs.Prelude.{◌≡◌, refl, ap, ℕ, Bool, List}
+use Rattle.std.specs.Prelude.{◌≡◌}
+use Rattle.base.specs.Prelude.{refl, ap, ℕ, Bool, List}
 use seplogic.Ra.Ura.{Ura}
 use base.Logic.{SProp}
 use base.Fml.{Lft}

@@ -1,6 +1,7 @@
 -- Contested and the marked rounds of all boards of a house: they grow alike in every call, so that on one tally that began empty they are
 -- equal (02, wish 2: "Here and below, each call of a run or order gets the session (later: poll, house) that the one before left").
-use Rattle.base.specs.Prelude.{ℕ, suc, zero, ◌+◌, ◌<◌, arith, ◌≡◌, refl, sym, ap, subst, Bool, List, [], ◌∷◌, length, get_or, set, replicate}
+use Rattle.std.specs.Prelude.{◌+◌, ◌<◌, ◌≡◌, ◌∷◌}
+use Rattle.base.specs.Prelude.{ℕ, suc, zero, arith, refl, sym, ap, subst, Bool, List, [], length, get_or, set, replicate}
 use Rattle.model_laws.specs.Types.{Session, Counts, Operation}
 use Rattle.model.specs.Window.{window}
 use Rattle.model.specs.Board.{opened}

@@ -1,8 +1,9 @@
 -- Lemmas 13 and 14 of source document 002 (02, wish 11): what is committed for the house was proposed to it, and is one number. From what
 -- the boards, the table and the pasts have in common; of workers nothing is said here. Rounds and wards count from 0, as the arrays do; the
 -- numbers of a poll are wards, from 1.
-use Rattle.base.specs.Prelude.{ℕ, suc, zero, ◌+◌, ◌*◌, ◌-◌, ◌%◌, ◌≤◌, ◌<◌, arith, ◌≡◌, refl, sym, ◌∙◌, Bool, true, false, List, [], length}
-use Rattle.base.specs.Prelude.{get_or, get_or-eq_default, ◌⊎◌, dec_le, dec_lt, ℕ_discrete}
+use Rattle.std.specs.Prelude.{◌+◌, ◌*◌, ◌-◌, ◌%◌, ◌≤◌, ◌<◌, ◌≡◌, ◌⊎◌}
+use Rattle.base.specs.Prelude.{ℕ, suc, zero, arith, refl, sym, ◌∙◌, Bool, true, false, List, [], length}
+use Rattle.base.specs.Prelude.{get_or, get_or-eq_default, dec_le, dec_lt, ℕ_discrete}
 use Rattle.model_laws.specs.Types.{Session}
 use Rattle.model.specs.Window.{window}
 use Rattle.model_laws.specs.Windows.{window_square, window_least}

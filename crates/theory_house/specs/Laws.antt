@@ -1,5 +1,6 @@
 -- What an operation of any house counts and leaves, sound or not.
-use Rattle.base.specs.Prelude.{ℕ, suc, zero, ◌+◌, ◌≤◌, arith, ◌≡◌, refl, Bool, List}
+use Rattle.std.specs.Prelude.{◌+◌, ◌≤◌, ◌≡◌}
+use Rattle.base.specs.Prelude.{ℕ, suc, zero, arith, refl, Bool, List}
 use Rattle.model_laws.specs.Types.{Access, Nothing, ReadValue, WriteValue, ReadMark, SetMark, ReadDecision, WriteDecision, Session, Counts}
 use Rattle.model_laws.specs.Types.{Operation}
 use Rattle.model.specs.Board.{no_counts}

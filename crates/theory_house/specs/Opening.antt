@@ -1,6 +1,7 @@
 -- A house just opened, with nothing past, is held.
+use Rattle.std.specs.Prelude.{◌+◌, ◌-◌, ◌*◌, ◌≡◌, ◌++◌}
 use Rattle.std.proofs.lemmas.List.{get_or-replicate}
-use Rattle.base.specs.Prelude.{ℕ, zero, suc, ◌+◌, ◌-◌, ◌*◌, arith, ◌≡◌, refl, ap, Bool, true≢false, List, [], ◌++◌, length, get_or, replicate}
+use Rattle.base.specs.Prelude.{ℕ, zero, suc, arith, refl, ap, Bool, true≢false, List, [], length, get_or, replicate}
 use Rattle.base.specs.Prelude.{length-replicate, inl}
 use Rattle.model_laws.specs.Types.{Session}
 use Rattle.model.specs.Window.{window}

@@ -1,6 +1,7 @@
 -- An accepted turn, at each of its eight places, keeps the invariant.
-use Rattle.base.specs.Prelude.{ℕ, suc, zero, arith, ◌≡◌, refl, sym, ◌∙◌, Bool, true, false, true≢false, List, [], ◌++◌, eqb, ne_eqb, ltb}
-use Rattle.base.specs.Prelude.{◌⊎◌, inl, inr, ⊎_elim}
+use Rattle.std.specs.Prelude.{◌≡◌, ◌++◌, ◌⊎◌}
+use Rattle.base.specs.Prelude.{ℕ, suc, zero, arith, refl, sym, ◌∙◌, Bool, true, false, true≢false, List, [], eqb, ne_eqb, ltb}
+use Rattle.base.specs.Prelude.{inl, inr, ⊎_elim}
 use Rattle.base.specs.Bools.{cond_cases}
 use Rattle.model_laws.specs.Types.{Process, Session, Counts, Operation, Propose, Step, Learn}
 use Rattle.model.specs.declared.Status.TheVariants.{Active, Spent}

@@ -1,6 +1,7 @@
 -- "A ward session has n - c + 1 seats, taken by its workers in number order": they are enough, and two workers of one ward have two.
-use Rattle.base.specs.Prelude.{ℕ, suc, zero, ◌+◌, ◌-◌, ◌≤◌, ◌<◌, arith, ◌≡◌, refl, sym, ◌∙◌, subst, Bool, true, cond, ◌&&◌, List, [], ◌∷◌}
-use Rattle.base.specs.Prelude.{◌++◌, length, length-append, length-replicate, replicate, get_or, take, take-append_seam, get_or-append}
+use Rattle.std.specs.Prelude.{◌+◌, ◌-◌, ◌≤◌, ◌<◌, ◌≡◌, ◌&&◌, ◌∷◌, ◌++◌}
+use Rattle.base.specs.Prelude.{ℕ, suc, zero, arith, refl, sym, ◌∙◌, subst, Bool, true, cond, List, []}
+use Rattle.base.specs.Prelude.{length, length-append, length-replicate, replicate, get_or, take, take-append_seam, get_or-append}
 use Rattle.base.specs.Prelude.{eqb, eq-eqb, ne_eqb, leb, leb-true, le-leb, lt-leb, ℕ_discrete, dec_le}
 use Rattle.base.specs.Bools.{and_left, and_right, cond_cases}
 use Rattle.model.specs.Sound.{every}

@@ -1,6 +1,7 @@
 -- Accepted proposals, house looks and crashes keep the invariant: they change the record of their worker, and no board.
+use Rattle.std.specs.Prelude.{◌<◌, ◌≡◌, ◌∷◌, ◌++◌}
 use Rattle.std.proofs.lemmas.List.{set-get_or}
-use Rattle.base.specs.Prelude.{ℕ, suc, zero, ◌<◌, arith, ◌≡◌, refl, sym, true, true≢false, List, [], ◌∷◌, ◌++◌, eqb-false, not-false}
+use Rattle.base.specs.Prelude.{ℕ, suc, zero, arith, refl, sym, true, true≢false, List, [], eqb-false, not-false}
 use Rattle.base.specs.Prelude.{ne_eqb, ⊎_elim}
 use Rattle.model_laws.specs.Types.{Counts}
 use Rattle.model.specs.Window.{window}

@@ -1,5 +1,6 @@
 -- A house that is held is sound: no call returns 3.
-use Rattle.base.specs.Prelude.{ℕ, suc, ◌-◌, ◌*◌, ◌≤◌, ◌<◌, arith, ◌≡◌, refl, ◌∙◌, ap, Bool, true, false, ◌||◌, List, length, get_or, leb, ltb}
+use Rattle.std.specs.Prelude.{◌-◌, ◌*◌, ◌≤◌, ◌<◌, ◌≡◌, ◌||◌}
+use Rattle.base.specs.Prelude.{ℕ, suc, arith, refl, ◌∙◌, ap, Bool, true, false, List, length, get_or, leb, ltb}
 use Rattle.base.specs.Prelude.{le-leb, lt-ltb, eq-eqb, eqb-true, ℕ_discrete}
 use Rattle.base.specs.Bools.{and_both}
 use Rattle.model_laws.specs.Types.{Process, Session}

@@ -1,7 +1,8 @@
 -- What one operation may store so that the boards and the table stay known, and the house held: a session with a longer past, a poll with a
 -- longer past, an entry that was committed, and the record of its own worker.
-use Rattle.base.specs.Prelude.{ℕ, ◌+◌, ◌-◌, ◌*◌, ◌%◌, ◌≤◌, ◌<◌, arith, ◌≡◌, refl, ◌∙◌, ap, Bool, true, false, List, [], ◌++◌, length}
-use Rattle.base.specs.Prelude.{length-set, set, get_or, get_or-set_same, get_or-set_other, ◌⊎◌, inl, inr, ⊎_elim, ℕ_discrete}
+use Rattle.std.specs.Prelude.{◌+◌, ◌-◌, ◌*◌, ◌%◌, ◌≤◌, ◌<◌, ◌≡◌, ◌++◌, ◌⊎◌}
+use Rattle.base.specs.Prelude.{ℕ, arith, refl, ◌∙◌, ap, Bool, true, false, List, [], length}
+use Rattle.base.specs.Prelude.{length-set, set, get_or, get_or-set_same, get_or-set_other, inl, inr, ⊎_elim, ℕ_discrete}
 use Rattle.base.specs.Arrays.{get_or_set_cases}
 use Rattle.model_laws.specs.Types.{Session}
 use Rattle.model_laws.specs.Windows.{window_square, window_least}

@@ -1,6 +1,7 @@
 -- The rule of houses (document 02, wish 11): every operation keeps the invariant, which tells the rule; and the calls follow the machine.
-use Rattle.base.specs.Prelude.{ℕ, suc, zero, ◌≤◌, arith, ◌≡◌, refl, sym, ◌∙◌, ap, Bool, true, false, true≢false, not-false, ◌&&◌, List, []}
-use Rattle.base.specs.Prelude.{◌++◌, length, leb, leb-true}
+use Rattle.std.specs.Prelude.{◌≤◌, ◌≡◌, ◌&&◌, ◌++◌}
+use Rattle.base.specs.Prelude.{ℕ, suc, zero, arith, refl, sym, ◌∙◌, ap, Bool, true, false, true≢false, not-false, List, []}
+use Rattle.base.specs.Prelude.{length, leb, leb-true}
 use Rattle.base.specs.Bools.{and_left}
 use Rattle.model_laws.specs.Types.{Counts}
 use Rattle.model.specs.Numbers.{unsound}

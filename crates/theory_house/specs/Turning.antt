@@ -1,5 +1,6 @@
 -- A worker that is to take its turn: what the invariant tells of it, its seats and its boards.
-use Rattle.base.specs.Prelude.{ℕ, ◌-◌, ◌≤◌, ◌<◌, arith, ◌≡◌, refl, true, false, List}
+use Rattle.std.specs.Prelude.{◌-◌, ◌≤◌, ◌<◌, ◌≡◌}
+use Rattle.base.specs.Prelude.{ℕ, arith, refl, true, false, List}
 use Rattle.model_laws.specs.Types.{Process, Session}
 use Rattle.model.specs.Window.{window}
 use Rattle.model.specs.Board.{process_at}

@@ -1,7 +1,8 @@
 -- A turn of a worker that works, by what it touches: no board, its ward's session, or the poll of its round.
+use Rattle.std.specs.Prelude.{◌+◌, ◌-◌, ◌*◌, ◌%◌, ◌≤◌, ◌<◌, ◌≡◌, ◌++◌, ◌⊎◌}
 use Rattle.std.proofs.Math.Seq.{set-get_or}
-use Rattle.base.specs.Prelude.{ℕ, ◌+◌, ◌-◌, ◌*◌, ◌%◌, ◌≤◌, ◌<◌, arith, ◌≡◌, refl, ◌∙◌, ap, true, false, true≢false, List, [], ◌++◌, length}
-use Rattle.base.specs.Prelude.{set, get_or, get_or-set_same, ◌⊎◌}
+use Rattle.base.specs.Prelude.{ℕ, arith, refl, ◌∙◌, ap, true, false, true≢false, List, [], length}
+use Rattle.base.specs.Prelude.{set, get_or, get_or-set_same}
 use Rattle.base.specs.Arrays.{get_or_set_cases}
 use Rattle.model_laws.specs.Types.{Session, Counts, Stepped, Operation}
 use Rattle.model.specs.Window.{window}

@@ -1,5 +1,6 @@
 -- The record of one worker changes, with what its operation stores: the others stay as they were, and the house is held.
-use Rattle.base.specs.Prelude.{ℕ, suc, ◌+◌, ◌-◌, ◌≤◌, ◌<◌, arith, ◌≡◌, refl, sym, ◌∙◌, true, List, ◌∷◌, ◌++◌, length, length-set, set}
+use Rattle.std.specs.Prelude.{◌+◌, ◌-◌, ◌≤◌, ◌<◌, ◌≡◌, ◌∷◌, ◌++◌}
+use Rattle.base.specs.Prelude.{ℕ, suc, arith, refl, sym, ◌∙◌, true, List, length, length-set, set}
 use Rattle.base.specs.Prelude.{get_or-set_same, get_or-set_other, ℕ_discrete, ltb, ltb-true}
 use Rattle.base.specs.Bools.{cond_cases}
 use Rattle.model_laws.specs.Types.{Process, Session}

@@ -1,5 +1,6 @@
 -- The calls follow the machine, and what they answered stands in the records.
-use Rattle.base.specs.Prelude.{ℕ, ◌≤◌, arith, ◌≡◌, refl, sym, ◌∙◌, ap, subst, ℕ_discrete, true, List, [], ◌∷◌, ◌⊎◌, inl, inr, ⊎_elim}
+use Rattle.std.specs.Prelude.{◌≤◌, ◌≡◌, ◌∷◌, ◌⊎◌}
+use Rattle.base.specs.Prelude.{ℕ, arith, refl, sym, ◌∙◌, ap, subst, ℕ_discrete, true, List, [], inl, inr, ⊎_elim}
 use Rattle.model_laws.specs.Types.{Session, Counts, Process, Propose, Crash}
 use Rattle.model.specs.Board.{process_at, idle}
 use Rattle.model.specs.Machine.{answered, perform}

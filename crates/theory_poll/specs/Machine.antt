@@ -1,5 +1,6 @@
 -- What is known of a poll that the machine came to, at any window W, and of the answers that its records hold.
-use Rattle.base.specs.Prelude.{ℕ, ◌≤◌, ◌<◌, arith, ◌≡◌, refl, ◌∙◌, List, [], ◌++◌, ◌⊎◌, inl, inr, ⊎_elim, true, eqb-true}
+use Rattle.std.specs.Prelude.{◌≤◌, ◌<◌, ◌≡◌, ◌++◌, ◌⊎◌}
+use Rattle.base.specs.Prelude.{ℕ, arith, refl, ◌∙◌, List, [], inl, inr, ⊎_elim, true, eqb-true}
 use Rattle.model_laws.specs.Types.{HasCommitted, HasAdopted, Session, Counts, Process, Propose, Crash}
 use Rattle.model.specs.Board.{process_at, opened, max_processes, max_rounds}
 use Rattle.model.specs.Sound.{sound_phase_as}

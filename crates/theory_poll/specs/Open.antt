@@ -1,5 +1,6 @@
 -- A sound poll is open (document 02, wish 10), so no call on a poll, sound or not, is refused with 18.
-use Rattle.base.specs.Prelude.{ℕ, arith, ◌≡◌, refl, sym, ◌∙◌, Bool, true, false, not, cond, List, ◌∷◌, leb, eqb}
+use Rattle.std.specs.Prelude.{◌≡◌, ◌∷◌}
+use Rattle.base.specs.Prelude.{ℕ, arith, refl, sym, ◌∙◌, Bool, true, false, not, cond, List, leb, eqb}
 use Rattle.model_laws.specs.Types.{Session, Counts, Propose, Crash}
 use Rattle.model.specs.Board.{process_at, no_counts}
 use Rattle.model.specs.Numbers.{unsound, closed_to_proposals}

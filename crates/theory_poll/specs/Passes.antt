@@ -1,5 +1,6 @@
 -- One pass: the turns that each process took, by where it stands.
-use Rattle.base.specs.Prelude.{ℕ, suc, ◌≤◌, ◌<◌, arith, ◌≡◌, refl, sym, ap, ℕ_discrete, true, false, cond, ◌&&◌, List, [], ◌∷◌, not-false}
+use Rattle.std.specs.Prelude.{◌≤◌, ◌<◌, ◌≡◌, ◌&&◌, ◌∷◌}
+use Rattle.base.specs.Prelude.{ℕ, suc, arith, refl, sym, ap, ℕ_discrete, true, false, cond, List, [], not-false}
 use Rattle.base.specs.Prelude.{eqb, eq-eqb, ne_eqb}
 use Rattle.model_laws.specs.Types.{Session, Counts, Process}
 use Rattle.model.specs.declared.Status.TheVariants.{Active}

@@ -1,5 +1,6 @@
 -- The rule of polls holds at every window that is wide enough, and so in service; and contested is the number of marked rounds.
-use Rattle.base.specs.Prelude.{ℕ, ◌*◌, ◌≤◌, ◌<◌, arith, ◌≡◌, refl, sym, ◌∙◌, subst, List, [], true}
+use Rattle.std.specs.Prelude.{◌*◌, ◌≤◌, ◌<◌, ◌≡◌}
+use Rattle.base.specs.Prelude.{ℕ, arith, refl, sym, ◌∙◌, subst, List, [], true}
 use Rattle.model_laws.specs.Types.{Session, Counts, Propose, Crash}
 use Rattle.model.specs.Window.{window}
 use Rattle.model.specs.Board.{limits_of, process_at, idle, opened, max_processes}

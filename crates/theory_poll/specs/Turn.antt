@@ -1,5 +1,6 @@
 -- A turn of a poll keeps the board's invariant: by the facts of a session's turn, at the two places that differ.
-use Rattle.base.specs.Prelude.{ℕ, ◌+◌, ◌≤◌, arith, ◌≡◌, refl, true, List, ◌++◌, eqb, ltb}
+use Rattle.std.specs.Prelude.{◌+◌, ◌≤◌, ◌≡◌, ◌++◌}
+use Rattle.base.specs.Prelude.{ℕ, arith, refl, true, List, eqb, ltb}
 use Rattle.base.specs.Bools.{cond_cases}
 use Rattle.model_laws.specs.Types.{Phase, Idle, Waiting, Write, Scan, Adopt, Compare, Flag, CheckMark, CheckValue, Commit, Exhausted}
 use Rattle.model_laws.specs.Types.{Crashed, Decided, HasCommitted, HasAdopted, Access, Nothing, ReadValue, WriteValue, ReadMark, SetMark}

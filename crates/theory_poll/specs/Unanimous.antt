@@ -1,6 +1,7 @@
 -- "If all proposals are v, every answer is committed v": then every register holds v or is blank, no process finds another value, no round
 -- is flagged, and no check fails.
-use Rattle.base.specs.Prelude.{ℕ, ◌+◌, ◌-◌, ◌≤◌, arith, ◌≡◌, refl, sym, ◌∙◌, min, ℕ_discrete, Bool, true, false, List, [], ◌∷◌, ◌++◌}
+use Rattle.std.specs.Prelude.{◌+◌, ◌-◌, ◌≤◌, ◌≡◌, ◌∷◌, ◌++◌}
+use Rattle.base.specs.Prelude.{ℕ, arith, refl, sym, ◌∙◌, min, ℕ_discrete, Bool, true, false, List, []}
 use Rattle.base.specs.Prelude.{⊎_elim, eqb, ltb, leb, eq-eqb}
 use Rattle.base.specs.Bools.{cond_cases}
 use Rattle.model_laws.specs.Types.{Phase, Idle, Waiting, Write, Scan, Adopt, Compare, Flag, CheckMark, CheckValue, Commit, Exhausted}

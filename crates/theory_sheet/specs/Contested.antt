@@ -1,5 +1,6 @@
 -- Contested is the number of marked rounds, after every list of calls on one tally and after every sheet.
-use Rattle.base.specs.Prelude.{ℕ, suc, zero, ◌≤◌, arith, ◌≡◌, refl, sym, false, List, [], ◌∷◌, eqb}
+use Rattle.std.specs.Prelude.{◌≤◌, ◌≡◌, ◌∷◌}
+use Rattle.base.specs.Prelude.{ℕ, suc, zero, arith, refl, sym, false, List, [], eqb}
 use Rattle.base.specs.Bools.{cond_cases}
 use Rattle.model_laws.specs.Types.{Session, Counts, acts, closes, Entry, Acts, Closes, Malformed, Ran, Stepped}
 use Rattle.model.specs.Window.{window}

@@ -1,5 +1,6 @@
 -- The proposals of a sheet: which entries they were, and that their numbers have 32 bits.
-use Rattle.base.specs.Prelude.{ℕ, suc, zero, ◌+◌, ◌/◌, ◌<◌, arith, ◌≡◌, refl, Bool, true, cond, ◌&&◌, List, [], ◌∷◌, ◌++◌, ◌⊎◌, inl, inr}
+use Rattle.std.specs.Prelude.{◌+◌, ◌/◌, ◌<◌, ◌≡◌, ◌&&◌, ◌∷◌, ◌++◌, ◌⊎◌}
+use Rattle.base.specs.Prelude.{ℕ, suc, zero, arith, refl, Bool, true, cond, List, [], inl, inr}
 use Rattle.base.specs.Prelude.{⊎_elim, get_or, take, eqb, ltb, ltb-true, lt-ltb}
 use Rattle.base.specs.Bools.{cond_cases, and_both}
 use Rattle.model_laws.specs.Types.{Session, Counts, Operation, Propose, Step, Learn, Crash, Command, acts, closes, Entry, Acts, Closes}

@@ -1,5 +1,6 @@
 -- What the C entry writes to its buffer, in the words of the agreement rule.
-use Rattle.base.specs.Prelude.{ℕ, ◌*◌, ◌<◌, arith, ℕ_discrete, ◌≡◌, refl, List, [], ⊎_elim, length}
+use Rattle.std.specs.Prelude.{◌*◌, ◌<◌, ◌≡◌}
+use Rattle.base.specs.Prelude.{ℕ, arith, ℕ_discrete, refl, List, [], ⊎_elim, length}
 use Rattle.model_laws.specs.Types.{Server, Phase, Idle, Waiting, Write, Scan, Adopt, Compare, Flag, CheckMark, CheckValue, Commit}
 use Rattle.model_laws.specs.Types.{Exhausted, Crashed, Decided, HasCommitted, HasAdopted}
 use Rattle.model.specs.Board.{limits_of, process_at, no_counts, max_processes}

@@ -1,5 +1,6 @@
 -- A run of a sheet is the public operations, one after another, and the machine after the entries that were carried out.
-use Rattle.base.specs.Prelude.{ℕ, suc, zero, ◌+◌, ◌≤◌, arith, ◌≡◌, refl, sym, ◌∙◌, ap, cond, List, [], ◌∷◌, length, take, eqb, eq-eqb}
+use Rattle.std.specs.Prelude.{◌+◌, ◌≤◌, ◌≡◌, ◌∷◌}
+use Rattle.base.specs.Prelude.{ℕ, suc, zero, arith, refl, sym, ◌∙◌, ap, cond, List, [], length, take, eqb, eq-eqb}
 use Rattle.base.specs.Prelude.{false}
 use Rattle.base.specs.Bools.{cond_cases}
 use Rattle.model_laws.specs.Types.{Limits, Server, Session, Counts, Command, acts, closes, Entry, Acts, Closes, Malformed, Ending, Finished, Refused}

@@ -1,6 +1,7 @@
 -- The contracts of the two functions, read off them: what the theorem of short lists takes for the two calls (`first_result`, `next_result`)
 -- is what they ensure, and they require nothing.
-use Rattle.base.specs.Prelude.{◌≡◌, refl, ℕ, List}
+use Rattle.std.specs.Prelude.{◌≡◌}
+use Rattle.base.specs.Prelude.{refl, ℕ, List}
 use seplogic.Ra.Ura.{Ura}
 use base.Logic.{SProp}
 use base.Fml.{Lft}

@@ -1,5 +1,6 @@
 -- Document 02, wish 12: "Going on from the first gives each legal list once and nothing else." The claim is `ShortClaim`.
-use Rattle.base.specs.Prelude.{ℕ, suc, zero, ◌*◌, ◌≤◌, ◌<◌, ◌≡◌, refl, sym, ap, ◌∙◌, List, [], ◌∷◌, length, drop, get_or, arith}
+use Rattle.std.specs.Prelude.{◌*◌, ◌≤◌, ◌<◌, ◌≡◌, ◌∷◌}
+use Rattle.base.specs.Prelude.{ℕ, suc, zero, refl, sym, ap, ◌∙◌, List, [], length, drop, get_or, arith}
 use Rattle.base.specs.Prelude.{Bool, true, false, eqb, eqb-true}
 use Rattle.base.specs.Bools.{and_left, and_right}
 use Rattle.model.specs.Refusal.{refusal}

@@ -1,5 +1,6 @@
 -- Windows that are too short for polls (document 02, wish 7), and which windows are safe for how many processes.
-use Rattle.base.specs.Prelude.{ℕ, ◌+◌, ◌-◌, ◌≤◌, arith, lt_of_not-le, add-zero, ◌≡◌, refl, sym, ◌∙◌, ap, ap₂, List, [], true}
+use Rattle.std.specs.Prelude.{◌+◌, ◌-◌, ◌≤◌, ◌≡◌}
+use Rattle.base.specs.Prelude.{ℕ, arith, lt_of_not-le, add-zero, refl, sym, ◌∙◌, ap, ap₂, List, [], true}
 use Rattle.base.specs.Bools.{and_left, and_right}
 use Rattle.model_laws.specs.Types.{Limits, Session}
 use Rattle.model.specs.Board.{opened, process_at}

@@ -1,6 +1,7 @@
 -- Windows that are too short (document 02, wish 7), and which windows are safe for how many processes.
-use Rattle.base.specs.Prelude.{ℕ, suc, zero, ◌+◌, ◌*◌, ◌-◌, ◌/◌, ◌≤◌, ◌<◌, arith, mul-le-mul, add-zero, add_assoc, ◌≡◌, refl, sym, ◌∙◌, ap}
-use Rattle.base.specs.Prelude.{ap₂, subst, ℕ_discrete, dec_le, lt_of_not-le, Bool, true, cond, ◌&&◌, List, [], ◌∷◌, ◌++◌, leb, ltb, le-leb}
+use Rattle.std.specs.Prelude.{◌+◌, ◌*◌, ◌-◌, ◌/◌, ◌≤◌, ◌<◌, ◌≡◌, ◌&&◌, ◌∷◌, ◌++◌}
+use Rattle.base.specs.Prelude.{ℕ, suc, zero, arith, mul-le-mul, add-zero, add_assoc, refl, sym, ◌∙◌, ap}
+use Rattle.base.specs.Prelude.{ap₂, subst, ℕ_discrete, dec_le, lt_of_not-le, Bool, true, cond, List, [], leb, ltb, le-leb}
 use Rattle.base.specs.Bools.{and_left, and_right}
 use Rattle.model_laws.specs.Types.{Limits, Session}
 use Rattle.model.specs.Window.{window, root_up, root_from}

@@ -1,5 +1,6 @@
 -- More processes, which take no part, and more rounds, where no process comes to the limit, change nothing of what happens.
-use Rattle.base.specs.Prelude.{ℕ, suc, zero, ◌+◌, ◌-◌, ◌<◌, arith, ◌≡◌, refl, sym, ◌∙◌, ap, Bool, true, false, cond, ◌&&◌, List, [], ◌∷◌, ◌++◌}
+use Rattle.std.specs.Prelude.{◌+◌, ◌-◌, ◌<◌, ◌≡◌, ◌&&◌, ◌∷◌, ◌++◌}
+use Rattle.base.specs.Prelude.{ℕ, suc, zero, arith, refl, sym, ◌∙◌, ap, Bool, true, false, cond, List, []}
 use Rattle.base.specs.Prelude.{true≢false, eqb, ltb, lt-leb, le-leb, ltb-true}
 use Rattle.base.specs.Bools.{and_left, and_right}
 use Rattle.model.specs.declared.Access.{Access}

@@ -1,5 +1,6 @@
 -- More processes, which take no part in a poll, change nothing of what it comes to.
-use Rattle.base.specs.Prelude.{ℕ, ◌+◌, ◌<◌, arith, add-zero, ◌≡◌, refl, ◌∙◌, ap, Bool, true, List, ltb, lt-leb, ltb-true}
+use Rattle.std.specs.Prelude.{◌+◌, ◌<◌, ◌≡◌}
+use Rattle.base.specs.Prelude.{ℕ, arith, add-zero, refl, ◌∙◌, ap, Bool, true, List, ltb, lt-leb, ltb-true}
 use Rattle.model_laws.specs.Types.{Session, Propose, Crash}
 use Rattle.model.specs.Board.{process_at, no_counts}
 use Rattle.model.specs.Step.{turn}

@@ -1,6 +1,7 @@
 -- Runs without gaps: each starts where the one before it ends.
+use Rattle.std.specs.Prelude.{◌+◌, ◌*◌, ◌/◌, ◌%◌, ◌≤◌, ◌≡◌, ◌∷◌}
 use Rattle.std.proofs.Common.{take-add}
-use Rattle.base.specs.Prelude.{ℕ, ◌+◌, ◌*◌, ◌/◌, ◌%◌, ◌≤◌, arith, ◌≡◌, refl, sym, ap, ap₂, true, List, [], ◌∷◌, take, drop, drop-drop}
+use Rattle.base.specs.Prelude.{ℕ, arith, refl, sym, ap, ap₂, true, List, [], take, drop, drop-drop}
 use Rattle.base.specs.Prelude.{le-leb, eqb-true, eq-eqb}
 use Rattle.base.specs.Bools.{and_left, and_right, and_both}
 use Rattle.model.specs.Sheet.{EntryRun, is_in_order, whole_entries, entries_at, entries_of}

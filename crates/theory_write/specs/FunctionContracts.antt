@@ -1,7 +1,8 @@
 -- What the functions of the round trips promise of a call, read off the functions: the writer, the refusal of a sheet, a reader that goes
 -- from place to place, and what reads the header and the pairs. Each one requires nothing, and ensures what the round trips start from. Any
 -- other contract is refused here.
-use Rattle.base.specs.Prelude.{ℕ, ◌≡◌, refl, List}
+use Rattle.std.specs.Prelude.{◌≡◌}
+use Rattle.base.specs.Prelude.{ℕ, refl, List}
 use seplogic.Ra.Ura.{Ura}
 use base.Logic.{SProp}
 use base.Fml.{Lft}

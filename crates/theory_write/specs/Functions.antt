@@ -1,8 +1,8 @@
 -- Document 02, wish 3, the two round trips of the functions: `sheet_refusal::refusal` and a reader find again what a call of
 -- `sheet_write::write` wrote, and what they read is written again. Of each call nothing is used but its contract (`Contracts`).
-use Rattle.std.specs.Prelude.{get_or}
-use Rattle.base.specs.Prelude.{ℕ, suc, zero, ◌+◌, ◌/◌, ◌≤◌, ◌<◌, arith, add-zero, zero-add, ◌≡◌, refl, ap, sym, subst, ◌∙◌, true}
-use Rattle.base.specs.Prelude.{List, [], ◌∷◌, ◌++◌, length, take, drop}
+use Rattle.std.specs.Prelude.{get_or, ◌+◌, ◌/◌, ◌≤◌, ◌<◌, ◌≡◌, ◌∷◌, ◌++◌}
+use Rattle.base.specs.Prelude.{ℕ, suc, zero, arith, add-zero, zero-add, refl, ap, sym, subst, ◌∙◌, true}
+use Rattle.base.specs.Prelude.{List, [], length, take, drop}
 use Rattle.model_laws.specs.Types.{Caller, CountAnswer, Entry}
 use Rattle.model.specs.Board.{limits_of}
 use Rattle.model.specs.Bytes.{byte_at}

@@ -1,5 +1,6 @@
 -- The pairs: runs that were written are read, and runs that were read are written.
-use Rattle.base.specs.Prelude.{ℕ, suc, zero, ◌+◌, ◌*◌, ◌≤◌, ◌<◌, arith, zero-add, add-zero, ◌≡◌, refl, ap, true, List, [], ◌∷◌, ◌++◌}
+use Rattle.std.specs.Prelude.{◌+◌, ◌*◌, ◌≤◌, ◌<◌, ◌≡◌, ◌∷◌, ◌++◌}
+use Rattle.base.specs.Prelude.{ℕ, suc, zero, arith, zero-add, add-zero, refl, ap, true, List, []}
 use Rattle.base.specs.Prelude.{length, drop, drop-cons}
 use Rattle.model.specs.Bytes.{bytes16}
 use Rattle.model.specs.Sheet.{EntryRun, process_count, run_count, round_limit, runs_from, runs, header_end}

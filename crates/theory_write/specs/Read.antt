@@ -1,6 +1,7 @@
 -- Document 02, wish 3: what is read is written again.
+use Rattle.std.specs.Prelude.{◌+◌, ◌*◌, ◌≤◌, ◌≡◌}
 use Rattle.std.proofs.Common.{length-drop}
-use Rattle.base.specs.Prelude.{ℕ, ◌+◌, ◌*◌, ◌≤◌, arith, ◌≡◌, sym, ◌∙◌, ap, true, List, length, length-map, drop, take_all}
+use Rattle.base.specs.Prelude.{ℕ, arith, sym, ◌∙◌, ap, true, List, length, length-map, drop, take_all}
 use Rattle.model.specs.Sheet.{process_count, run_count, round_limit, runs, header_end, whole_entries}
 use Rattle.model.specs.Sound.{every}
 use Rattle.model_laws.specs.ByteLaws.{AreBytes}

@@ -1,6 +1,7 @@
 -- A sheet as it is written: what is read of it.
+use Rattle.std.specs.Prelude.{◌+◌, ◌*◌, ◌/◌, ◌≤◌, ◌<◌, ◌≡◌}
 use Rattle.std.proofs.Math.Seq.{drop_at}
-use Rattle.base.specs.Prelude.{ℕ, ◌+◌, ◌*◌, ◌/◌, ◌≤◌, ◌<◌, arith, add-zero, ◌≡◌, refl, sym, ◌∙◌, ap, true, List, length, drop, drop-drop}
+use Rattle.base.specs.Prelude.{ℕ, arith, add-zero, refl, sym, ◌∙◌, ap, true, List, length, drop, drop-drop}
 use Rattle.base.specs.Prelude.{take_all}
 use Rattle.model.specs.Sheet.{process_count, run_count, round_limit, runs, whole_entries, entries_of, entries}
 use Rattle.model.specs.Sound.{every}

@@ -1,5 +1,6 @@
 -- Document 02, wish 3: what is written is read again.
-use Rattle.base.specs.Prelude.{ℕ, zero, suc, ◌≤◌, ◌<◌, arith, ◌≡◌, refl, sym, ◌∙◌, true, List, length, take-append_seam, leb-true, le-leb}
+use Rattle.std.specs.Prelude.{◌≤◌, ◌<◌, ◌≡◌}
+use Rattle.base.specs.Prelude.{ℕ, zero, suc, arith, refl, sym, ◌∙◌, true, List, length, take-append_seam, leb-true, le-leb}
 use Rattle.base.specs.Prelude.{not-false}
 use Rattle.base.specs.Bools.{and_right, and_both}
 use Rattle.model_laws.specs.Types.{Limits}

@@ -1,5 +1,6 @@
 -- The highest filled round, register by register.
-use Rattle.base.specs.Prelude.{ℕ, ◌+◌, ◌<◌, add-one, ◌≡◌, cond, List, length, get_or, drop, drop-cons, eqb}
+use Rattle.std.specs.Prelude.{◌+◌, ◌<◌, ◌≡◌}
+use Rattle.base.specs.Prelude.{ℕ, add-one, cond, List, length, get_or, drop, drop-cons, eqb}
 use Rattle.model.specs.Board.{highest_from}
 
 pub highest_next : (l : List ℕ) (top r : ℕ) → r < length l

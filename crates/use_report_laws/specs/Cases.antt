@@ -1,6 +1,7 @@
 -- The endings and phases that the last arm of a `match` stands for, by their tags.
+use Rattle.std.specs.Prelude.{◌≡◌, ◌∷◌, ◌++◌}
 use Prim.{tt}
-use Rattle.base.specs.Prelude.{ℕ, ◌≡◌, refl, List, [], ◌∷◌, ◌++◌, take}
+use Rattle.base.specs.Prelude.{ℕ, refl, List, [], take}
 use denote.Enum.Declared.{tag_of}
 use types.Run.{OneOf, miss}
 use Rattle.model.specs.declared.Phase.{Phase}

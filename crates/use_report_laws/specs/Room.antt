@@ -1,6 +1,7 @@
 -- The longest report: what each line takes at most, and that the whole fits on a page.
+use Rattle.std.specs.Prelude.{◌+◌, ◌*◌, ◌≤◌, ◌≡◌, ◌∷◌, ◌++◌}
 use Prim.Native.String.{String}
-use Rattle.base.specs.Prelude.{ℕ, suc, ◌+◌, ◌*◌, ◌≤◌, arith, ◌≡◌, Bool, true, false, List, [], ◌∷◌, ◌++◌}
+use Rattle.base.specs.Prelude.{ℕ, suc, arith, Bool, true, false, List, []}
 use Rattle.base.specs.Prelude.{length, take, length-append, length-take}
 use Rattle.model.specs.declared.Phase.{Phase}
 use Rattle.model.specs.declared.Phase.TheVariants.{Idle, Waiting, Write, Scan, Adopt, Compare, Flag, CheckMark}

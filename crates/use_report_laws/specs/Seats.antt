@@ -1,6 +1,7 @@
 -- The seats' lines, one after another.
-use Rattle.base.specs.Prelude.{ℕ, zero, suc, ◌+◌, ◌≤◌, ◌<◌, zero-add, add-zero, add-suc, suc-add, not-suc-le-zero, le_of_suc-le-suc}
-use Rattle.base.specs.Prelude.{add-one, arith, ◌≡◌, List, [], ◌∷◌, ◌++◌, append_assoc, append-nil, length, get_or, take, take_all}
+use Rattle.std.specs.Prelude.{◌+◌, ◌≤◌, ◌<◌, ◌≡◌, ◌∷◌, ◌++◌}
+use Rattle.base.specs.Prelude.{ℕ, zero, suc, zero-add, add-zero, add-suc, suc-add, not-suc-le-zero, le_of_suc-le-suc}
+use Rattle.base.specs.Prelude.{add-one, arith, List, [], append_assoc, append-nil, length, get_or, take, take_all}
 use Rattle.model.specs.declared.Process.{Process}
 use Rattle.model_report.specs.Report.{bytes, field, newline, status_words, seat_line, seat_lines}
 use Rattle.use_text.specs.Page.{Put, after, after_parts}

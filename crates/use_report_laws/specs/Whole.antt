@@ -1,5 +1,6 @@
 -- The whole report, put on a blank page.
-use Rattle.base.specs.Prelude.{ℕ, ◌-◌, ◌≤◌, arith, ◌≡◌, ap, List, ◌++◌, length, replicate}
+use Rattle.std.specs.Prelude.{◌-◌, ◌≤◌, ◌≡◌, ◌++◌}
+use Rattle.base.specs.Prelude.{ℕ, arith, ap, List, length, replicate}
 use Rattle.model.specs.declared.Ran.{Ran}
 use Rattle.model.specs.Board.{max_processes}
 use Rattle.model.specs.declared.Caller.TheVariants.{Server}

@@ -1,5 +1,6 @@
 -- Numbers in decimal, as the report has them (01, "The board report").
-use Rattle.base.specs.Prelude.{ℕ, zero, suc, ◌+◌, ◌/◌, ◌%◌, ◌^◌, ◌≤◌, ◌<◌, pow-suc, arith, ◌≡◌, refl, sym, ap, cond, List, [], ◌∷◌, ◌++◌}
+use Rattle.std.specs.Prelude.{◌+◌, ◌/◌, ◌%◌, ◌^◌, ◌≤◌, ◌<◌, ◌≡◌, ◌∷◌, ◌++◌}
+use Rattle.base.specs.Prelude.{ℕ, zero, suc, pow-suc, arith, refl, sym, ap, cond, List, []}
 use Rattle.base.specs.Prelude.{length, length-append, ltb, lt-ltb, le-ltb}
 use Rattle.base.specs.Bools.{cond_cases}
 use Rattle.model_report.specs.Report.{digits, field}

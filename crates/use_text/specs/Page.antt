@@ -1,6 +1,7 @@
 -- A text put on a page, from a place on.
-use Rattle.base.specs.Prelude.{ℕ, zero, suc, ◌+◌, ◌-◌, ◌≤◌, add-zero, add-suc, suc-add, zero-add, zero-sub, suc-sub-suc, sub-zero}
-use Rattle.base.specs.Prelude.{add-one, arith, ◌≡◌, refl, sym, ap, ◌∙◌, cond, List, [], ◌∷◌, ◌++◌, append_assoc}
+use Rattle.std.specs.Prelude.{◌+◌, ◌-◌, ◌≤◌, ◌≡◌, ◌∷◌, ◌++◌}
+use Rattle.base.specs.Prelude.{ℕ, zero, suc, add-zero, add-suc, suc-add, zero-add, zero-sub, suc-sub-suc, sub-zero}
+use Rattle.base.specs.Prelude.{add-one, arith, refl, sym, ap, ◌∙◌, cond, List, [], append_assoc}
 use Rattle.base.specs.Prelude.{length, set, drop, replicate, length-replicate, sets, sets-eq, ltb, lt-ltb}
 
 -- How many bytes a page has.

@@ -1,4 +1,5 @@
-use Rattle.base.specs.Prelude.{◌≡◌, false, add-one, arith, refl}
+use Rattle.std.specs.Prelude.{◌≡◌}
+use Rattle.base.specs.Prelude.{false, add-one, arith, refl}
 use Rattle.model_short.specs.Short.{same}
 use Rattle.model_short_laws.specs.Numbered.{index_next, choice}
 use Rattle.part_raw_entry.proofs.number_of.Goals as goal

@@ -1,4 +1,5 @@
-use Rattle.base.specs.Prelude.{◌≡◌, ◌∙◌, ap, ap₂, sub-zero, refl, arith, ◌+◌}
+use Rattle.std.specs.Prelude.{◌≡◌, ◌+◌}
+use Rattle.base.specs.Prelude.{◌∙◌, ap, ap₂, sub-zero, refl, arith}
 use Rattle.base.specs.Squares.{odd_sum, odd_sum_next}
 use Rattle.model.specs.Window.{root_from, root_up, window}
 use Rattle.part_window.proofs.Root.{root_found, root_below, root_above}

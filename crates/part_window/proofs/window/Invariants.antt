@@ -1,6 +1,6 @@
 -- The loop of `window`: `square` is the sum of the first `root` odd numbers, `odd` is the next one, and the search from `root`, which is at
 -- most `end`, finds the root of `end`. What `square` lacks to be above `end` falls.
-use Rattle.base.specs.Prelude.{◌+◌, ◌*◌, ◌-◌, ◌≤◌, ◌≡◌}
+use Rattle.std.specs.Prelude.{◌+◌, ◌*◌, ◌-◌, ◌≤◌, ◌≡◌}
 use Rattle.base.specs.Squares.{odd_sum}
 use Rattle.model.specs.Window.{root_from, root_up}
 use Rattle.part_window.proofs.window.Given as goal

@@ -1,5 +1,6 @@
 -- The answer of `turn`, by the number of its first refusal, and by the registers, the record, the counts and the answer that it leaves.
-use Rattle.base.specs.Prelude.{◌≡◌, ◌<◌, ◌∙◌, ap, true, cond, arith, rules, length}
+use Rattle.std.specs.Prelude.{◌≡◌, ◌<◌}
+use Rattle.base.specs.Prelude.{◌∙◌, ap, true, cond, arith, rules, length}
 use Rattle.base.specs.Arrays.{length_mapped}
 use Rattle.model.specs.Window.{window}
 use Rattle.model.specs.Step.{counted}

@@ -1,5 +1,6 @@
 -- The loop of `blank_from`: the test of the places from `from` on is that of those from `i` on. The places left fall.
-use Rattle.base.specs.Prelude.{ℕ, ◌-◌, ◌≡◌, Bool, not, eqb}
+use Rattle.std.specs.Prelude.{◌-◌, ◌≡◌}
+use Rattle.base.specs.Prelude.{ℕ, Bool, not, eqb}
 use Rattle.model_laws.specs.Passes.{both}
 use Rattle.session_sound.proofs.blank_from.Given as goal
 

@@ -1,5 +1,6 @@
 -- The loop of `sound_as`, over the records: the whole test is that of the records from `i` on. The records left fall.
-use Rattle.base.specs.Prelude.{◌-◌, ◌≡◌, length}
+use Rattle.std.specs.Prelude.{◌-◌, ◌≡◌}
+use Rattle.base.specs.Prelude.{length}
 use Rattle.model.specs.Sound.{sound_process_as, sound_as}
 use Rattle.model_laws.specs.Passes.{rest}
 use Rattle.model_laws.specs.SoundTests.{outside}

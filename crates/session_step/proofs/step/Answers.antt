@@ -1,5 +1,6 @@
 -- The answer of `step`, by the number of its first refusal, and by the registers, the record and the counts that it leaves.
-use Rattle.base.specs.Prelude.{◌≡◌, false, ◌∙◌, ap, cond}
+use Rattle.std.specs.Prelude.{◌≡◌}
+use Rattle.base.specs.Prelude.{false, ◌∙◌, ap, cond}
 use Rattle.model_laws.specs.Types.{Step}
 use Rattle.model.specs.Window.{window}
 use Rattle.model.specs.Step.{counted}

@@ -1,7 +1,8 @@
 -- The tests that led to an answer say which it is. Past the first test the session is sound: the list goes over all L rounds, its length is
 -- the count, and it stands in the first places.
+use Rattle.std.specs.Prelude.{◌≡◌}
 use Rattle.std.proofs.Common.{take_at}
-use Rattle.base.specs.Prelude.{false, min, ◌≡◌, sym, ◌∙◌, ap, arith, take}
+use Rattle.base.specs.Prelude.{false, min, sym, ◌∙◌, ap, arith, take}
 use Rattle.model.specs.ReadOut.{standing_values}
 use Rattle.model_laws.specs.Sounds.{sound_low}
 use Rattle.session_values.proofs.Standing.{unsound, short, list_written}

@@ -1,5 +1,6 @@
 -- A round with a new value: it goes to the list's end, and the places behind stay blank.
-use Rattle.base.specs.Prelude.{◌+◌, ◌≡◌, sym, ◌∙◌, ap, arith, length-set, drop, drop-drop, drop-set-lt}
+use Rattle.std.specs.Prelude.{◌+◌, ◌≡◌}
+use Rattle.base.specs.Prelude.{sym, ◌∙◌, ap, arith, length-set, drop, drop-drop, drop-set-lt}
 use Rattle.model_laws.specs.ListedRounds.{round_new}
 use Rattle.session_values_list.proofs.list.Goals as goal
 

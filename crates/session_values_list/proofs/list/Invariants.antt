@@ -1,6 +1,7 @@
 -- The loops of `list`. The outer one: the first `count` values are those of the first r rounds, and the places behind them are blank. The
 -- inner one: none of the first e rounds holds the value of round r.
-use Rattle.base.specs.Prelude.{◌≤◌, ◌≡◌, false, length, take, drop, replicate}
+use Rattle.std.specs.Prelude.{◌≤◌, ◌≡◌}
+use Rattle.base.specs.Prelude.{false, length, take, drop, replicate}
 use Rattle.model.specs.ReadOut.{holds, values_to}
 use Rattle.session_values_list.proofs.list.Given as goal
 

@@ -1,5 +1,6 @@
 -- Run i is the first of those that are left. Its offset and its length decide.
-use Rattle.base.specs.Prelude.{◌%◌, add-one, le-leb, eq-eqb, ne_eqb}
+use Rattle.std.specs.Prelude.{◌%◌}
+use Rattle.base.specs.Prelude.{add-one, le-leb, eq-eqb, ne_eqb}
 use Rattle.base.specs.Bools.{cond_same}
 use Rattle.sheet_layout.specs.Runs.{left_next}
 use Rattle.sheet_refusal.proofs.runs_refusal.Goals as goal

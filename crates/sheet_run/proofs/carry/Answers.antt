@@ -1,5 +1,6 @@
 -- Each entry as the laws of `Entries` and `Carried` say it: a work turn, any other operation, whose record changes or does not, and a close.
-use Rattle.base.specs.Prelude.{ℕ, Bool, arith, ◌≡◌, refl, sym, ◌∙◌, ap, false}
+use Rattle.std.specs.Prelude.{◌≡◌}
+use Rattle.base.specs.Prelude.{ℕ, Bool, arith, refl, sym, ◌∙◌, ap, false}
 use Rattle.model_laws.specs.Types.{Operation, Propose, Step, Learn, Crash}
 use Rattle.sheet_laws.specs.declared.Handed.TheVariants.{Next}
 use Rattle.sheet_laws.specs.Entries.{is_step, step_refusal, step_leaves, step_counts, other_changes, other_stays, other_counts}

@@ -1,5 +1,6 @@
 -- Each way out is a law of the lists chosen among (`Cycle`).
-use Rattle.base.specs.Prelude.{◌+◌, ◌-◌, arith}
+use Rattle.std.specs.Prelude.{◌+◌, ◌-◌}
+use Rattle.base.specs.Prelude.{arith}
 use Rattle.model_short.specs.Calls.{raws_at}
 use Rattle.model_short_laws.specs.Machine.{applied, met_after}
 use Rattle.model_short_laws.specs.Numbers.{one_or_two}

@@ -1,5 +1,5 @@
 -- The recursion of `choose_entry` and `choose_rest`: 16 left + (10 - e), and 16 left + 15, fall.
-use Rattle.base.specs.Prelude.{◌+◌, ◌*◌, ◌-◌}
+use Rattle.std.specs.Prelude.{◌+◌, ◌*◌, ◌-◌}
 use Rattle.sheet_short.proofs.+choose_entry_choose_rest.Given as goal
 
 abbrev pub decreases-choose_entry : goal.decreases-choose_entry

@@ -1,5 +1,6 @@
 -- Where the tests accept, there is a first list.
-use Rattle.base.specs.Prelude.{◌≡◌, sym, ◌∙◌}
+use Rattle.std.specs.Prelude.{◌≡◌}
+use Rattle.base.specs.Prelude.{sym, ◌∙◌}
 use Rattle.model.specs.Refusal.{refusal}
 use Rattle.model_short.specs.Calls.{first_tests}
 use Rattle.sheet_short.specs.Ends.{first_done}

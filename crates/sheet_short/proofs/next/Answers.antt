@@ -1,6 +1,7 @@
 -- Where the tests accept, there is a next list or none. Each return rewrites the result and ends in `refl`, so that a contract that says
 -- less is met too (tests/theorem-edits/short_contract_says_less.edit).
-use Rattle.base.specs.Prelude.{◌≡◌, refl, sym, ◌∙◌}
+use Rattle.std.specs.Prelude.{◌≡◌}
+use Rattle.base.specs.Prelude.{refl, sym, ◌∙◌}
 use Rattle.model.specs.Refusal.{refusal}
 use Rattle.model_short.specs.Calls.{first_tests, given_tests}
 use Rattle.model_short_laws.specs.Numbers.{given_accepted}

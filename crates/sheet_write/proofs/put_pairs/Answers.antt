@@ -1,5 +1,6 @@
 -- The next run ends within 65,535 bytes.
-use Rattle.base.specs.Prelude.{ℕ, ◌+◌, ◌*◌, ◌≤◌, ◌<◌, arith, ◌≡◌, List, length, get_or, take}
+use Rattle.std.specs.Prelude.{◌+◌, ◌*◌, ◌≤◌, ◌<◌, ◌≡◌}
+use Rattle.base.specs.Prelude.{ℕ, arith, List, length, get_or, take}
 use Rattle.model_write.specs.Write.{total}
 use Rattle.model_write_laws.specs.Laid.{total_taken, total_part}
 use Rattle.sheet_write.proofs.put_pairs.Goals as goal

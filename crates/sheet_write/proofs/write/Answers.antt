@@ -1,5 +1,6 @@
 -- The sheet's size, which is 65,535 at most, fits in, and what is stored before the entries leaves the output as long as it was.
-use Rattle.base.specs.Prelude.{ℕ, ◌+◌, ◌*◌, ◌≤◌, arith, ◌≡◌, sym, ◌∙◌, List, length, length-set}
+use Rattle.std.specs.Prelude.{◌+◌, ◌*◌, ◌≤◌, ◌≡◌}
+use Rattle.base.specs.Prelude.{ℕ, arith, sym, ◌∙◌, List, length, length-set}
 use Rattle.std.proofs.Math.Seq.{length-sets}
 use Rattle.model_laws.specs.Types.{Limits}
 use Rattle.model.specs.Board.{limits_of}

@@ -1,5 +1,6 @@
 -- A length above what is left: the first i + 1 lengths are above the entries.
-use Rattle.base.specs.Prelude.{◌+◌, arith, sym, ne_eqb}
+use Rattle.std.specs.Prelude.{◌+◌}
+use Rattle.base.specs.Prelude.{arith, sym, ne_eqb}
 use Rattle.model_write.specs.Write.{total}
 use Rattle.model_write_laws.specs.Laid.{total_taken, total_part}
 use Rattle.sheet_write_refusal.proofs.add_up.Goals as goal

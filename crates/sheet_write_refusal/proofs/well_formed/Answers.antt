@@ -1,5 +1,6 @@
 -- The entry that is read is the first of those from i on: it and those behind it decide.
-use Rattle.base.specs.Prelude.{ℕ, suc, ◌+◌, ◌-◌, ◌*◌, ◌/◌, ◌<◌, min, arith, ◌≡◌, sym, ◌∙◌, ap, not, ◌&&◌, List, length, true, false}
+use Rattle.std.specs.Prelude.{◌+◌, ◌-◌, ◌*◌, ◌/◌, ◌<◌, ◌≡◌, ◌&&◌}
+use Rattle.base.specs.Prelude.{ℕ, suc, min, arith, sym, ◌∙◌, ap, not, List, length, true, false}
 use Rattle.model.specs.Bytes.{byte_at}
 use Rattle.model.specs.Sheet.{entry_of, entry_at, entries_at, is_malformed}
 use Rattle.model_write.specs.Write.{well_formed}

@@ -1,5 +1,6 @@
 -- Each part is tested in its turn.
-use Rattle.base.specs.Prelude.{ℕ, ◌+◌, ◌*◌, ◌/◌, ◌%◌, min, arith, ◌≡◌, sym, ◌∙◌, refl, cond, not, Bool, true, ◌&&◌, List, length, leb, ltb, eqb, eq-eqb}
+use Rattle.std.specs.Prelude.{◌+◌, ◌*◌, ◌/◌, ◌%◌, ◌≡◌, ◌&&◌}
+use Rattle.base.specs.Prelude.{ℕ, min, arith, sym, ◌∙◌, refl, cond, not, Bool, true, List, length, leb, ltb, eqb, eq-eqb}
 use Rattle.base.specs.Prelude.{le-ltb, lt-ltb, leb-true}
 use Rattle.base.specs.Bools.{and_left, and_right}
 use Rattle.model.specs.Sheet.{entries_at}
