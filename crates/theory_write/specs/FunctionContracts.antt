@@ -10,7 +10,7 @@ use prog.Memory.{Memory}
 use prog.Routine.{Routine}
 use types.Logic.{Logic}
 use contract.Monad.{Fun}
-use Rattle.std.specs.Borrow.{Bor}
+use Rattle.std.specs.Borrow.{Bor, MutBor}
 use Rattle.model_laws.specs.Types.{Caller, CountAnswer}
 use Rattle.model.specs.Board.{limits_of}
 use Rattle.model.specs.Bytes.{byte_at, word16}
@@ -60,7 +60,7 @@ RunAt sheet i x = IsRun sheet i x.offset x.size
 
 module _ {M : Type 1} {𝓤 : Ura M} (𝓛 : Logic 𝓤) (mem : Memory → SProp 𝓤) (run : Routine → Fun 𝓤) where
   -- The writer is lent the output: e has it as it stands at exit.
-  pub write_contract : (κ κ₁ κ₂ : Lft) (caller : Caller) (n L : ℕ) (es ms out : Bor (List ℕ)) →
+  pub write_contract : (κ κ₁ κ₂ : Lft) (caller : Caller) (n L : ℕ) (es ms : Bor (List ℕ)) (out : MutBor (List ℕ)) →
       write.clauses 𝓛 mem run (κ, (κ₁, (κ₂, tt))) (caller, (n, (L, (es, (ms, (out, tt))))))
       ≡ ensures 𝓤 (λ r e. Writes caller n L es.now ms.now out.now r e.1.1.1.1.1.0.now)
   write_contract κ κ₁ κ₂ caller n L es ms out = refl

@@ -1,25 +1,14 @@
--- Document 02, wish 3, the two round trips of the functions: `sheet_refusal::refusal` and a reader find again what a call of
--- `sheet_write::write` wrote, and what they read is written again. Of each call nothing is used but its contract (`Contracts`).
-use Rattle.std.specs.Prelude.{get_or, ◌+◌, ◌/◌, ◌≤◌, ◌<◌, ◌≡◌, ◌∷◌, ◌++◌}
-use Rattle.base.specs.Prelude.{ℕ, suc, zero, arith, add-zero, zero-add, refl, ap, sym, subst, ◌∙◌, true}
-use Rattle.base.specs.Prelude.{List, [], length, take, drop}
-use Rattle.model_laws.specs.Types.{Caller, CountAnswer, Entry}
+-- Document 02, wish 3: what it means that a reader hands out entries, and that the functions find in a sheet what it was written from. The
+-- two round trips of the functions say it; they stand in proofs/Functions.antt.
+use Rattle.std.specs.Prelude.{get_or, ◌/◌, ◌<◌, ◌≡◌, ◌∷◌}
+use Rattle.base.specs.Prelude.{ℕ, List, [], length}
+use Rattle.model_laws.specs.Types.{Caller, Entry}
 use Rattle.model.specs.Board.{limits_of}
-use Rattle.model.specs.Bytes.{byte_at}
-use Rattle.model.specs.ReadOut.{count_answer}
-use Rattle.model.specs.Sheet.{run_at, runs_from, run_count, process_count, round_limit, entries}
-use Rattle.model_laws.specs.Callers.{caller_limits}
-use Rattle.model_write.specs.Write.{WriteResult, buffer_entries, well_formed, wrote}
-use Rattle.model_write.specs.RoundTrip.{lengths, lengths_of, entry_bytes, gapless, ReadsAs}
+use Rattle.model_write.specs.Write.{buffer_entries}
+use Rattle.model_write.specs.RoundTrip.{ReadsAs}
 use Rattle.sheet_layout.specs.declared.Span.{Span}
-use Rattle.sheet_laws.specs.declared.Handed.{Handed}
 use Rattle.sheet_laws.specs.declared.Handed.TheVariants.{Next, End}
-use Rattle.sheet_laws.specs.Places.{begin, handed, advanced, rest, Inside, Proper}
-use Rattle.sheet_laws.specs.PlaceLaws.{begin_rest, begin_proper, advanced_proper, rest_next, rest_end}
-use Rattle.sheet_laws.specs.Ordered.{accepted_inside}
-use Rattle.theory_write.specs.FunctionContracts.{Writes, Refuses, FirstPlace, EntryAt, PlaceAfter, ByteAt, Word16At, RunAt}
-use Rattle.theory_write.specs.Written.{written_reads}
-use Rattle.theory_write.specs.Read.{length_lengths_of, read_writes}
+use Rattle.theory_write.specs.FunctionContracts.{Refuses, FirstPlace, EntryAt, PlaceAfter, ByteAt, Word16At, RunAt}
 
 -- ---- a reader that goes from place to place
 
@@ -28,51 +17,6 @@ use Rattle.theory_write.specs.Read.{length_lengths_of, read_writes}
 abbrev pub HandsOut : (sheet : List ℕ) (place : ℕ) → List Entry → Type 0
 HandsOut sheet place [] = EntryAt sheet place End
 HandsOut sheet place (e ∷ es) = EntryAt sheet place (Next e) × ((next : ℕ) × (PlaceAfter sheet place next × HandsOut sheet next es))
-
-module _ (sheet : List ℕ) where
-  -- They are the entries from that place on, and no others.
-  handed_rest : (place : ℕ) → Proper sheet place → (es : List Entry) → HandsOut sheet place es → es ≡ rest sheet place
-  handed_rest place h [] end = sym (rest_end sheet place h (sym end))
-  handed_rest place h (e ∷ es) (first, (next, (after, others))) =
-      let q : Proper sheet next = rw after (advanced_proper sheet place h) in
-      sym (rest_next sheet place h (sym first) ∙ rw (← after, ← handed_rest next q es others))
-
-  -- And they are handed out.
-  abbrev AllHandedOut : (place : ℕ) → Type 0
-  AllHandedOut place = HandsOut sheet place (rest sheet place)
-
-  -- By what the place hands out: from the next one on there are fewer.
-  handed_out : (place : ℕ) → Proper sheet place → (x : Handed) → handed sheet place ≡ x
-      → (length (rest sheet (advanced sheet place)) < length (rest sheet place) → AllHandedOut (advanced sheet place))
-      → AllHandedOut place
-  handed_out place h End e others = subst (HandsOut sheet place) (sym (rest_end sheet place h e)) (sym e)
-  handed_out place h (Next o) e others =
-      let next = rest_next sheet place h e in
-      subst (HandsOut sheet place) (sym next) (sym e, (_, (refl, others (rw next (omega arith)))))
-
-  -- k bounds how many there are.
-  rest_handed_out : (k place : ℕ) → Proper sheet place → length (rest sheet place) < k → AllHandedOut place
-  rest_handed_out zero place h low = absurd (omega arith)
-  rest_handed_out (suc k) place h low =
-      handed_out place h (handed sheet place) refl (λ fewer. rest_handed_out k _ (advanced_proper sheet place h) (omega arith))
-
-  -- From the first place on these are the entries of the sheet, where its runs lie inside it.
-  module _ (h : Inside sheet) (first : ℕ) (e : FirstPlace sheet first) where
-    entries_handed : HandsOut sheet first (entries sheet)
-    entries_handed =
-        rw (e, ← begin_rest sheet h)
-        (rest_handed_out (suc (length (rest sheet (begin sheet)))) (begin sheet) (begin_proper sheet h) (omega arith))
-
-    handed_entries : (os : List Entry) → HandsOut sheet first os → os ≡ entries sheet
-    handed_entries os hands = handed_rest first (rw e (begin_proper sheet h)) os hands ∙ rw e (begin_rest sheet h)
-
-  -- The cuts, one by one.
-  lengths_at : (k i j : ℕ) → j < k → get_or (lengths (runs_from sheet i k)) j 0 ≡ (run_at sheet (i + j)).size / 6
-  lengths_at zero i j low = absurd (omega arith)
-  lengths_at (suc k) i zero low = rw add-zero
-  lengths_at (suc k) i (suc j) low =
-      let same : suc i + j ≡ i + suc j = omega arith in
-      lengths_at k (suc i) j (omega arith) ∙ ap (λ r. (run_at sheet r).size / 6) same
 
 -- ---- written, then read
 
@@ -88,53 +32,3 @@ pub record Finds (caller : Caller) (n L : ℕ) (es ms sheet : List ℕ) : Type 0
   pub nothing_else : (first : ℕ) → FirstPlace sheet first → (os : List Entry) → HandsOut sheet first os → os ≡ buffer_entries es
   -- By the definitions also: its entries have the bytes given, there are no gaps, and running it is running the entries.
   pub reads : ReadsAs (limits_of caller) n L es ms sheet
-
--- Of a sheet that reads as what was given, by the definitions.
-module _ (caller : Caller) (n L : ℕ) (es ms sheet : List ℕ) (a : ReadsAs (limits_of caller) n L es ms sheet) where
-  reads_count : run_count sheet ≡ length ms
-  reads_count = sym (length_lengths_of sheet) ∙ ap length a.cuts
-
-  reads_finds : Finds caller n L es ms sheet
-  reads_finds =
-      let inside = accepted_inside (limits_of caller) sheet a.accepted in
-      record {
-        accepted = λ code e. e ∙ a.accepted;
-        processes = λ value e. e ∙ a.processes;
-        limit = λ value e. e ∙ a.limit;
-        cut_count = λ value e. e ∙ reads_count;
-        cuts = λ i low x e. rw (e.size_is, ← a.cuts) (sym (rw zero-add at (lengths_at sheet (run_count sheet) 0 i (rw reads_count low))));
-        hands_out = λ first e. rw (← a.operations) (entries_handed sheet inside first e);
-        nothing_else = λ first e os hands. handed_entries sheet inside first e os hands ∙ a.operations;
-        reads = a;
-      }
-
--- So the functions find in the sheet that an accepted call of the writer wrote what the call was given, by the same caller. The sheet is
--- the first bytes of the output, as many as the call answers.
-pub write_finds : (caller : Caller) (n L : ℕ) (es ms out : List ℕ) (answer : CountAnswer) (after : List ℕ)
-    → Writes caller n L es ms out answer after → answer.code ≡ 0
-    → Finds caller n L es ms (take answer.count after)
-write_finds caller n L es ms out answer after e ok =
-    let low : (limits_of caller).rounds < 65536 = omega (arith, (caller_limits caller).rounds) in
-    let code = sym (ap (λ (w : WriteResult). w.answer.code) e) ∙ ok in
-    reads_finds caller n L es ms _
-    (rw (ap (λ (w : WriteResult). w.answer.count) e, ap (λ (w : WriteResult). w.buffer) e)
-    (written_reads (limits_of caller) n L es ms out low code))
-
--- ---- read, then written
-
--- "A sheet with an accepted header, well-formed entries, no gaps and no trailing bytes, read and written again, comes back byte for byte":
--- where the refusal answers 0 and a reader hands out well-formed entries, a call of the writer on what was read writes the same sheet, to
--- every output that is long enough.
-pub read_writes_again : (caller : Caller) (s out : List ℕ) (code first : ℕ) (os : List Entry) (answer : CountAnswer) (after : List ℕ)
-    → ((i : ℕ) → byte_at s i < 256)
-    → Refuses caller s code → code ≡ 0
-    → FirstPlace s first → HandsOut s first os → well_formed os ≡ true
-    → gapless s ≡ true
-    → length s ≤ length out
-    → Writes caller (process_count s) (round_limit s) (entry_bytes s) (lengths_of s) out answer after
-    → wrote answer after ≡ wrote (count_answer 0 (length s)) (s ++ drop (length s) out)
-read_writes_again caller s out code first os answer after bytes refuses ok begins hands formed gap room writes =
-    let accepted = sym refuses ∙ ok in
-    let inside = accepted_inside (limits_of caller) s accepted in
-    let same : os ≡ entries s = handed_entries s inside first begins os hands in
-    writes ∙ read_writes (limits_of caller) s out bytes accepted (rw (← same) formed) gap room

@@ -1,4 +1,4 @@
--- The round trips of the sheet writer and the reader: of the definitions, and of the functions by their contracts.
+-- The round trips of the sheet writer and the reader: of the definitions, and of the functions by their contracts (these in proofs/).
 pub mod Follow
 pub mod Pairs
 pub mod SheetOf
