@@ -11,7 +11,7 @@ use prog.Routine.{Routine}
 use types.Logic.{Logic}
 use contract.Lifetimes.{Lfts}
 use contract.Monad.{Fun, fact}
-use Rattle.std.specs.Borrow.{Bor}
+use Rattle.std.specs.Borrow.{MutBor}
 use denote.Triple.Entry.{Res}
 use denote.Triple.Clauses.{Ended, AtExit, ClausesAt}
 use Rattle.model.specs.declared.Caller.{Caller}
@@ -75,17 +75,17 @@ module _ {M : Type 1} {𝓤 : Ura M} (𝓛 : Logic 𝓤) (mem : Memory → SProp
     poll_crash_contract = refl
 
     -- A work turn, a look and a poll's turn are: e has the counts as they stand at exit.
-    pub step_contract : (κ : Lft) (leader : Bool) (counts : Bor Counts) →
+    pub step_contract : (κ : Lft) (leader : Bool) (counts : MutBor Counts) →
         step.clauses 𝓛 mem run (κ, tt) (s, (p, (leader, (counts, tt))))
         ≡ ensures 𝓤 (λ r e. with_counts r e.1.1.1.0.now ≡ promised s counts.now (acts (Step p leader)))
     step_contract κ leader counts = refl
 
-    pub learn_contract : (κ : Lft) (counts : Bor Counts) →
+    pub learn_contract : (κ : Lft) (counts : MutBor Counts) →
         learn.clauses 𝓛 mem run (κ, tt) (s, (p, (counts, tt)))
         ≡ ensures 𝓤 (λ r e. with_counts r e.1.1.0.now ≡ promised s counts.now (acts (Learn p)))
     learn_contract κ counts = refl
 
-    pub turn_contract : (κ : Lft) (counts : Bor Counts) →
+    pub turn_contract : (κ : Lft) (counts : MutBor Counts) →
         turn.clauses 𝓛 mem run (κ, tt) (s, (p, (counts, tt)))
         ≡ ensures 𝓤 (λ r e. with_lent r e.1.1.0.now ≡ poll_promised s counts.now (turns p))
     turn_contract κ counts = refl

@@ -9,7 +9,7 @@ use prog.Memory.{Memory}
 use prog.Routine.{Routine}
 use types.Logic.{Logic}
 use contract.Monad.{Fun}
-use Rattle.std.specs.Borrow.{Bor}
+use Rattle.std.specs.Borrow.{Bor, MutBor}
 use Rattle.model.specs.declared.Counts.{Counts}
 use Rattle.model_house.specs.declared.House.{House}
 use Rattle.model_house.specs.declared.HouseChanged.{HouseChanged}
@@ -41,12 +41,12 @@ module _ {M : Type 1} {𝓤 : Ura M} (𝓛 : Logic 𝓤) (mem : Memory → SProp
     house_crash_contract = refl
 
     -- A turn and a house look are: e has the counts as they stand at exit.
-    pub house_turn_contract : (κ : Lft) (hint : Bool) (counts : Bor Counts) →
+    pub house_turn_contract : (κ : Lft) (hint : Bool) (counts : MutBor Counts) →
         turn.clauses 𝓛 mem run (κ, tt) (h, (p, (hint, (counts, tt))))
         ≡ ensures 𝓤 (λ r e. with_house_counts r e.1.1.1.0.now ≡ house_promised h counts.now (turns p hint))
     house_turn_contract κ hint counts = refl
 
-    pub house_learn_contract : (κ : Lft) (counts : Bor Counts) →
+    pub house_learn_contract : (κ : Lft) (counts : MutBor Counts) →
         learn.clauses 𝓛 mem run (κ, tt) (h, (p, (counts, tt)))
         ≡ ensures 𝓤 (λ r e. with_house_counts r e.1.1.0.now ≡ house_promised h counts.now (learns p))
     house_learn_contract κ counts = refl
