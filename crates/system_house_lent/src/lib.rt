@@ -9,7 +9,6 @@ use model::Counts;
 use model_house::{House, HouseChanged};
 
 // 02, wish 11: a turn of a worker: "Each turn makes at most one register operation, table and house register included".
-#[tactic(auto, using(base_walk::proofs::Walk::proved, session_lent_laws::proofs::Thin::walk_three), unfolding(model_house::specs::Public::house_turn))]
 pub fn turn(h: House, p: usize, hint: bool, counts: &mut Counts) -> HouseChanged
     ensures { with_house_counts result counts.new ≡ house_turn h p hint counts.old }
 {
@@ -22,7 +21,6 @@ pub fn turn(h: House, p: usize, hint: bool, counts: &mut Counts) -> HouseChanged
 }
 
 // 02, wish 11: "A house look at the house register, taken instead of a turn by a working or spent worker".
-#[tactic(auto, using(base_walk::proofs::Walk::proved, session_lent_laws::proofs::Thin::walk_two), unfolding(model_house::specs::Public::house_learn))]
 pub fn learn(h: House, p: usize, counts: &mut Counts) -> HouseChanged
     ensures { with_house_counts result counts.new ≡ house_learn h p counts.old }
 {
