@@ -1,4 +1,4 @@
-use Rattle.std.proofs.Common.{ap, sym, ◌∙◌, arith, refl, not, false, ◌≡◌, ◌<◌}
+use Rattle.std.proofs.Common.{ap, sym, ◌∙◌, arith, not, false, ◌≡◌, ◌<◌}
 use Rattle.model_house.specs.Sound.{sound_worker}
 use Rattle.model_house_laws.specs.Below.{below_fails}
 use Rattle.model_house_laws.specs.Sounds.{wards_facts, worker_numbers_fail, worker_told}
@@ -7,9 +7,8 @@ use Rattle.system_house_sound.proofs.workers_sound.Goals as goal
 pub returns-then-not-numbers_sound : goal.returns-then-not-numbers_sound
 returns-then-not-numbers_sound c =
     let h = c.args.h in
-    let p = c.loop-p.p in
-    sym (below_fails (sound_worker h) h.n p c.loop-p-test.true
-    (worker_numbers_fail h p c.numbers_sound.ensures (ap not c.if-not-numbers_sound.true)))
+    let fails = worker_numbers_fail h _ c.numbers_sound.ensures (ap not c.if-not-numbers_sound.true) in
+    sym (below_fails (sound_worker h) h.n _ (omega (arith, c.loop-p-test.true)) fails)
 
 pub returns-then-not-seats_fit : goal.returns-then-not-seats_fit
 returns-then-not-seats_fit c =
