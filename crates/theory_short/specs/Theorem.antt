@@ -1,20 +1,20 @@
 -- Document 02, wish 12: "Going on from the first gives each legal list once and nothing else." The claim is `ShortClaim`.
-use Rattle.std.specs.Prelude.{◌*◌, ◌≤◌, ◌<◌, ◌≡◌, ◌∷◌}
+use Rattle.std.specs.Prelude.{◌≤◌, ◌<◌, ◌≡◌, ◌∷◌}
 use Rattle.base.specs.Prelude.{ℕ, suc, zero, refl, sym, ap, ◌∙◌, List, [], length, drop, get_or, arith}
-use Rattle.base.specs.Prelude.{Bool, true, false, eqb, eqb-true}
+use Rattle.base.specs.Prelude.{true, false, eqb, eqb-true}
 use Rattle.base.specs.Bools.{and_left, and_right}
 use Rattle.model.specs.Refusal.{refusal}
 use Rattle.model.specs.Numbers.{last_list}
 use Rattle.model_short.specs.declared.RawEntry.{RawEntry}
-use Rattle.model_short.specs.Short.{legal, legal_lists, following, is_listed, ascending}
-use Rattle.model_short.specs.Calls.{none, head_of, list_bytes, given_list, first_tests, given_tests, listed, list_result, first_result, next_result}
-use Rattle.model_short.specs.Claim.{ShortClaim, ShortCounts, EachOnce, going_on, how_many, place}
+use Rattle.model_short.specs.Short.{legal, legal_lists, following}
+use Rattle.model_short.specs.Calls.{none, head_of, list_bytes, given_list, first_tests, given_tests, listed, first_result, next_result}
+use Rattle.model_short.specs.Claim.{ShortClaim, ShortCounts, going_on, how_many, place}
 use Rattle.model_short_laws.specs.Choosing.{Lists}
 use Rattle.model_short_laws.specs.Members.{listed_legal, place_listed}
 use Rattle.model_short_laws.specs.Order.{OneOrTwo, legal_ascending, following_place}
 use Rattle.model_short_laws.specs.Counts.{counts_one, counts_two}
 use Rattle.model_short_laws.specs.Bytes.{length_list_bytes, given_written}
-use Rattle.model_short_laws.specs.Numbers.{CallFits, call_fits, one_or_two, tests_none, given_legal, next_last, result_code}
+use Rattle.model_short_laws.specs.Numbers.{call_fits, one_or_two, tests_none, given_legal, next_last, result_code}
 
 -- ---- what stands behind a place
 
