@@ -1,4 +1,4 @@
--- Document 02, wish 3, the two round trips of writer and reader, as claims about the definitions. `theory_write/specs/Functions.antt` has
+-- Document 02, wish 3, the two round trips of writer and reader, as claims about the definitions. `theory_write/proofs/Functions.antt` has
 -- them of the functions.
 use Rattle.std.specs.Prelude.{ℕ, ◌+◌, ◌/◌, ◌≤◌, ◌<◌, ◌≡◌, Bool, true, ◌&&◌, List, [], ◌∷◌, ◌++◌, map, length, take, drop, eqb}
 use Rattle.model.specs.declared.Limits.{Limits}
