@@ -16,7 +16,6 @@ pub struct Text {
 }
 
 // The report of a run.
-#[tactic(auto, using(base::specs::Arrays::length_mapped, use_report_laws::specs::Whole::whole))]
 pub fn report_of(ran: Ran) -> Text
     ensures len_value { (result.len ≡ length (report_for ran)) × (result.len ≤ page_size) }
     ensures bytes_value { result.bytes ≡ report_for ran ++ replicate (page_size - result.len) 0 }

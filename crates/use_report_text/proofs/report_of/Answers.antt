@@ -1,0 +1,15 @@
+-- The lines are put on a blank page. The records are 64, as the session's own type has it.
+use Rattle.std.proofs.Common.{rules, ◌≡◌, length}
+use Rattle.base.specs.Arrays.{length_mapped}
+use Rattle.use_report_laws.specs.Whole.{whole}
+use Rattle.use_report_text.proofs.report_of.Goals as goal
+
+pub returns-clause-len_value : goal.returns-clause-len_value
+returns-clause-len_value c =
+    let long : length c.args.ran.session.processes ≡ 64 = search (rules, length_mapped) in
+    (whole c.args.ran long c.put_lines-len.ensures).0
+
+pub returns-clause-bytes_value : goal.returns-clause-bytes_value
+returns-clause-bytes_value c =
+    let long : length c.args.ran.session.processes ≡ 64 = search (rules, length_mapped) in
+    (whole c.args.ran long c.put_lines-len.ensures).1
