@@ -1,7 +1,7 @@
 use Rattle.std.specs.Prelude.{◌≡◌, ◌+◌}
 use Rattle.base.specs.Prelude.{◌∙◌, ap, ap₂, sub-zero, refl, arith}
 use Rattle.base.specs.Squares.{odd_sum, odd_sum_next}
-use Rattle.model.specs.Window.{root_up, window}
+use Rattle.model.specs.Window.{root_from, root_up, window}
 use Rattle.part_window.proofs.Root.{root_found, root_below, root_above}
 use Rattle.part_window.proofs.window.Goals as goal
 
