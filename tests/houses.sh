@@ -25,9 +25,9 @@ mkdir -p "$out"
 grep -q '^40 houses are too few for full coverage, [0-9]* short of it; 800 are enough$' "$out/short.log"
 echo "houses: a run of 40 houses says that it is too short"
 
-# test_house calls the functions that take the counts by value; a call that lends them would be proved by hand. A copy of it that calls
-# those of system_house_lent, compiled with no proof, must print the same of 6 houses. (The interpreter, which rt tries too, is too slow: it is stopped
-# at once.)
+# test_house calls the functions that take the counts by value. A copy of it that calls those of system_house_lent, compiled with no proof,
+# must print the same of 6 houses; and a text that differs from it must be found. (The interpreter, which rt tries too, is too slow: it is
+# stopped at once.)
 # The copy stands outside the repository, where rt ci takes no second one.
 printf '#!/bin/sh\ntee -a input | %s\n' "$proved" >"$out/kept"
 chmod +x "$out/kept"
@@ -43,13 +43,20 @@ sed -i -E 's/^    let r = system_house_(turn|change)::(turn|learn)\((.*), c\);$/
     let house = answer.house;\
     let r = HouseStepped { code: answer.code, house: house, counts: counts };/' "$copy/src/main.rt"
 [[ $(grep -c 'system_house_lent::[a-z]*(.*, &mut counts)' "$copy/src/main.rt") == 2 ]]
-lent() { # whether the copy, compiled with no proof, prints what test_house does of the input
-    cp "$out/input" "$room/cases/houses"
-    "$proved" <"$out/input" >"$room/cases/houses.stdout"
-    (cd "$copy" && rt try --steps 1000 --cases "$room/cases") >"$out/lent.log" 2>&1
+cp "$out/input" "$room/cases/houses"
+"$proved" <"$out/input" >"$room/cases/houses.stdout"
+lent() { # VERDICT: whether rt says that of what the copy, compiled with no proof, prints of the input
+    (cd "$copy" && rt try --steps 1000 --cases "$room/cases") >"$out/lent.log" 2>&1 || true
+    grep -qE "^case=houses run=ended status=0 .* output=$1 " "$out/lent.log"
 }
-if ! lent; then
+if ! lent expected; then
     echo "houses: with the counts lent something else is printed"
+    cat "$out/lent.log"
+    exit 1
+fi
+echo "one line more" >>"$room/cases/houses.stdout"
+if ! lent differs; then
+    echo "houses: a text that differs from what is printed with the counts lent is not found"
     cat "$out/lent.log"
     exit 1
 fi
