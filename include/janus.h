@@ -183,7 +183,7 @@ size_t janus_report(const uint8_t *sheet, size_t sheet_length, uint8_t *buffer, 
  * THREADS. The functions keep no state, allocate nothing, take no lock, make no system call and call nothing but memcpy and
  * memset. Any number of threads may call them at once, each with a buffer of its own; they may share what is only read.
  *
- * STACK. A call of janus_run takes about 18 KB, one of janus_report about 31 KB, one of janus_write less than 1 KB, and some 3 KB
+ * STACK. A call of janus_run takes about 18 KB, one of janus_report about 26 KB, one of janus_write less than 1 KB, and some 3 KB
  * more if the dynamic linker binds memcpy and memset during the call (measured with glibc 2.36 on a processor with AVX-512); each
  * takes less than JANUS_STACK. The C library keeps data of its own on a thread's stack. Give a thread JANUS_THREAD_STACK and what
  * your own functions take. A call on a stack that is too short ends in the guard page, if there is one, never beyond it.
