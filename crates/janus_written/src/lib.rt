@@ -8,6 +8,7 @@ use model::Caller;
 
 // Writes a sheet of the entries, cut into runs of the given lengths in entries, to the lent buffer, within the caller's limits (02, wish
 // 9): 0, and its size to the lent number; or the refusal's number and nothing changed.
+#[tactic(auto, unfolding(model_write::specs::WriteExport::write_export))]
 pub fn write(
     caller: Caller,
     n: usize,
