@@ -38,11 +38,8 @@ mkdir "$room/cases"
 tar -c --exclude='crates/*/out' crates | tar -x -C "$room"
 copy=$room/crates/test_house
 sed 's/^test_house: .* system_house_turn/& system_house_lent/' crates.txt >"$room/crates.txt"
-sed -i -E 's/^    let r = system_house_(turn|change)::(turn|learn)\((.*), c\);$/    let mut counts = c;\
-    let answer = system_house_lent::\2(\3, \&mut counts);\
-    let house = answer.house;\
-    let r = HouseStepped { code: answer.code, house: house, counts: counts };/' "$copy/src/main.rt"
-[[ $(grep -c 'system_house_lent::[a-z]*(.*, &mut counts)' "$copy/src/main.rt") == 2 ]]
+sed -i -E 's/\*left = system_house_(turn|change)::(turn|learn)\((.*), left\.counts\)\?;$/left.house = system_house_lent::\2(\3, \&mut left.counts)?;/' "$copy/src/call.rt"
+[[ $(grep -c 'system_house_lent::[a-z]*(.*, &mut left.counts)' "$copy/src/call.rt") == 2 ]]
 cp "$out/input" "$room/cases/houses"
 "$proved" <"$out/input" >"$room/cases/houses.stdout"
 lent() { # VERDICT: whether rt says that of what the copy, compiled with no proof, prints of the input

@@ -5,7 +5,7 @@
 - A line has at most 100 columns. Rows of tables and blocks of code may be wider, except in README.
 - A link leads to a file, and to a heading of it where it names one. TESTING names every test of the gate, and README links every page.
 - In backticks: a path is a file or a pattern that finds one; `crate::name` is declared in that crate; `crate/label` is an edit of it; any
-  single word is a word of the code or the scripts. Words in capitals stand for something. CHANGES and PORT may name what is gone.
+  single word is a word of the code or the scripts. Words in capitals stand for something. CHANGES, PORT and DESIGN-PASS may name what is gone.
 """
 import os
 import re
@@ -65,7 +65,7 @@ def main():
     for name, text in PAGES.items():
         faults += columns(name, text)
         plain = re.sub(r"^```.*?^```", "", text, flags=re.S | re.M)
-        cited = sorted(set(re.findall(r"`([^`]+)`", plain))) if name not in ("CHANGES.md", "PORT.md") else []
+        cited = sorted(set(re.findall(r"`([^`]+)`", plain))) if name not in ("CHANGES.md", "PORT.md", "DESIGN-PASS.md") else []
         faults += [f"{name}: `{text}`: {fault}" for text in cited if (fault := fault_of(text, known))]
         for file, part in re.findall(r"\]\(([^)#]*)#?([^)]*)\)", plain):
             to = (ROOT if name == "README.md" else ROOT / "docs") / (file or name)

@@ -3,7 +3,7 @@
 
     refusals.py     fails if one of the five has another name or number, or if the code returns a bare number
 
-The definitions write a name bad_sheet, the code and the page BAD_SHEET, the separate program BadSheet, the header JANUS_BAD_SHEET, with
+The definitions write a name bad_sheet, the page BAD_SHEET, the code and the separate program BadSheet, the header JANUS_BAD_SHEET, with
 SEAT for PROCESS. The header has those that its functions return. 100, which refuses nothing, is no row of the page and of the program.
 """
 import re
@@ -13,7 +13,7 @@ from pathlib import Path
 ROOT = Path(__file__).resolve().parent.parent
 PLACES = {
     "definitions": ("crates/model/specs/Numbers.antt", r"^(\w+) = (\d+)$"),
-    "code": ("crates/model/src/numbers.rt", r"^pub const (\w+): u32 = (\d+);$"),
+    "code": ("crates/model/src/refusal.rt", r"^            Refusal::(\w+) => (\d+),$"),
     "separate program": ("reference/src/refusal.rs", r"^    (\w+) = (\d+),$"),
     "header": ("include/janus.h", r"^    X\(JANUS_(\w+), (\d+), "),
     "page": ("docs/REFUSALS.md", r"^\| (?P<number>\d+) \| `(?P<name>\w+)` \|"),

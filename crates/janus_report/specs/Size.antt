@@ -2,8 +2,7 @@
 use Rattle.std.specs.Prelude.{◌≤◌}
 use Rattle.base.specs.Prelude.{ℕ, arith, List, length, length-append, ltb}
 use Rattle.base.specs.Bools.{cond_cases}
-use Rattle.model.specs.declared.Ending.{Ending}
-use Rattle.model.specs.declared.Ending.TheVariants.{Finished, Refused, BudgetEnded, Rejected}
+use Rattle.model.specs.Answers.{Ending, Finished, Refused, BudgetEnded, Rejected}
 use Rattle.model.specs.declared.Caller.TheVariants.{Server}
 use Rattle.model.specs.Runner.{run}
 use Rattle.model_report.specs.Report.{decimal, digits, outcome_line, report, report_budget}

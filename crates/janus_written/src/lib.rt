@@ -2,12 +2,13 @@
 #![tactic(auto)]
 
 ghost use Rattle.std.specs.Prelude.{◌≡◌};
+ghost use Rattle.model.specs.Answers.{code};
 ghost use Rattle.model_write.specs.WriteExport.{export_of, write_export};
 
-use model::Caller;
+use model::{Caller, Refusal};
 
 // Writes a sheet of the entries, cut into runs of the given lengths in entries, to the lent buffer, within the caller's limits (02, wish
-// 9): 0, and its size to the lent number; or the refusal's number and nothing changed.
+// 9), and its size to the lent number; refused, it changes nothing.
 #[tactic(auto, unfolding(model_write::specs::WriteExport::write_export))]
 pub fn write(
     caller: Caller,
@@ -17,14 +18,10 @@ pub fn write(
     lengths: &[usize],
     sheet: &mut [u8],
     size: &mut usize,
-) -> u32
-    ensures { export_of result sheet.new size.new
+) -> Result<(), Refusal>
+    ensures { export_of (code result) sheet.new size.new
         ≡ write_export caller n limit entries.now lengths.now sheet.old size.old }
 {
-    let answer = sheet_write::write(caller, n, limit, entries, lengths, sheet);
-    let code = answer.code;
-    if code == 0 {
-        *size = answer.count;
-    }
-    code
+    *size = sheet_write::write(caller, n, limit, entries, lengths, sheet)?;
+    Ok(())
 }

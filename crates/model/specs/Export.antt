@@ -5,8 +5,7 @@ use Rattle.model.specs.declared.Phase.TheVariants.{Idle, Waiting, Write, Scan, A
 use Rattle.model.specs.declared.Phase.TheVariants.{CheckValue, Commit, Exhausted, Crashed, Decided, HasCommitted, HasAdopted}
 use Rattle.model.specs.declared.Process.{Process}
 use Rattle.model.specs.declared.Caller.TheVariants.{Server}
-use Rattle.model.specs.declared.Ending.{Ending}
-use Rattle.model.specs.declared.Ending.TheVariants.{Finished, Refused, BudgetEnded, Rejected}
+use Rattle.model.specs.Answers.{Ending, Finished, Refused, BudgetEnded, Rejected}
 use Rattle.model.specs.Bytes.{bytes32}
 use Rattle.model.specs.Numbers.{bad_buffer, budget_ended}
 use Rattle.model.specs.Runner.{run}

@@ -3,6 +3,7 @@ pub mod Window
 pub mod Board
 pub mod Step
 pub mod Numbers
+pub mod Answers
 pub mod Refusal
 pub mod Machine
 pub mod Sound

@@ -11,8 +11,7 @@ use Rattle.model.specs.declared.Caller.{Caller}
 use Rattle.model.specs.declared.Limits.{Limits}
 use Rattle.model.specs.declared.Operation.{Operation}
 use Rattle.model.specs.declared.Operation.TheVariants.{Propose, Step, Learn, Crash}
-use Rattle.model.specs.declared.Changed.{Changed}
-use Rattle.model.specs.declared.Stepped.{Stepped}
+use Rattle.model.specs.Answers.{Changed, Stepped}
 use Rattle.model.specs.Window.{window}
 use Rattle.model.specs.Board.{process_at, opened, limits_of, with_closed}
 use Rattle.model.specs.Step.{access, next, learnt, found, turn, counted, process}

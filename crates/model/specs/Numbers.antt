@@ -1,6 +1,10 @@
 -- Document 01, "Numbers returned": a name for each number, with the row's words beside it. 0 is accepted. The code has the same names
--- (`model::numbers`), and docs/REFUSALS.md the order in which each operation tests them.
+-- (`model::Refusal`), and docs/REFUSALS.md the order in which each operation tests them.
 use Rattle.std.specs.Prelude.{ℕ}
+use Rattle.model.specs.declared.refusal.Refusal.{Refusal}
+use Rattle.model.specs.declared.refusal.Refusal.TheVariants.{BadProcessCount, BadRoundLimit, Unsound, NoSuchProcess, BlankProposal, SecondProposal, ProcessOut, ProcessGone}
+use Rattle.model.specs.declared.refusal.Refusal.TheVariants.{ProcessSpent, BadSheet, BadPairs, BadRun, BadEntry, NoSuchRound, BadBuffer}
+use Rattle.model.specs.declared.refusal.Refusal.TheVariants.{CountsFull, BadCuts, ClosedToProposals, BadWards, IllegalList, LastList}
 
 -- 1: "seats not 1 to 64". 02, wish 9: "1 and 2 speak of the caller's limits"; wish 12: "1 for a seat count other than 1 or 2".
 abbrev pub bad_process_count : ℕ
@@ -90,3 +94,27 @@ last_list = 21
 -- 100: "100 for budget ended". No refusal: what the clinic server gets for a run that its budget ended.
 abbrev pub budget_ended : ℕ
 budget_ended = 100
+
+-- The number of a refusal.
+abbrev pub number : Refusal → ℕ
+number BadProcessCount = bad_process_count
+number BadRoundLimit = bad_round_limit
+number Unsound = unsound
+number NoSuchProcess = no_such_process
+number BlankProposal = blank_proposal
+number SecondProposal = second_proposal
+number ProcessOut = process_out
+number ProcessGone = process_gone
+number ProcessSpent = process_spent
+number BadSheet = bad_sheet
+number BadPairs = bad_pairs
+number BadRun = bad_run
+number BadEntry = bad_entry
+number NoSuchRound = no_such_round
+number BadBuffer = bad_buffer
+number CountsFull = counts_full
+number BadCuts = bad_cuts
+number ClosedToProposals = closed_to_proposals
+number BadWards = bad_wards
+number IllegalList = illegal_list
+number LastList = last_list

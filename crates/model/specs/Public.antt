@@ -6,8 +6,7 @@ use Rattle.model.specs.declared.Session.{Session}
 use Rattle.model.specs.declared.Counts.{Counts}
 use Rattle.model.specs.declared.Operation.{Operation}
 use Rattle.model.specs.declared.Operation.TheVariants.{Propose, Step, Learn, Crash}
-use Rattle.model.specs.declared.Changed.{Changed}
-use Rattle.model.specs.declared.Stepped.{Stepped}
+use Rattle.model.specs.Answers.{Changed, Stepped}
 use Rattle.model.specs.Window.{window}
 use Rattle.model.specs.Board.{no_counts, with_closed}
 use Rattle.model.specs.Numbers.{unsound}

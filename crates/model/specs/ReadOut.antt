@@ -1,12 +1,9 @@
 -- Document 01, "Standing values", and 02, wish 1: the read-outs. "Read-outs 3, then 4, 14 or 15 as the read-out has a seat, a round or a
 -- buffer."
-use Rattle.std.specs.Prelude.{ℕ, suc, zero, ◌+◌, Bool, false, cond, not, ◌&&◌, ◌||◌, List, [], ◌∷◌, ◌++◌, length, get_or, take, drop, leb, ltb, eqb}
+use Rattle.std.specs.Prelude.{ℕ, suc, zero, Bool, false, cond, not, ◌&&◌, ◌||◌, List, [], ◌∷◌, ◌++◌, length, get_or, take, drop, leb, ltb, eqb}
 use Rattle.model.specs.declared.Process.{Process}
 use Rattle.model.specs.declared.Session.{Session}
-use Rattle.model.specs.declared.RegisterAnswer.{RegisterAnswer}
-use Rattle.model.specs.declared.ProcessAnswer.{ProcessAnswer}
-use Rattle.model.specs.declared.DecisionAnswer.{DecisionAnswer}
-use Rattle.model.specs.declared.CountAnswer.{CountAnswer}
+use Rattle.model.specs.Answers.{RegisterAnswer, ProcessAnswer, DecisionAnswer, CountAnswer}
 use Rattle.model.specs.Board.{value_at, mark_at, process_at, idle}
 use Rattle.model.specs.Numbers.{unsound, no_such_process, no_such_round, bad_buffer}
 use Rattle.model.specs.Refusal.{refusal}

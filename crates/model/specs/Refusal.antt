@@ -10,8 +10,7 @@ use Rattle.model.specs.declared.Counts.{Counts}
 use Rattle.model.specs.declared.Limits.{Limits}
 use Rattle.model.specs.declared.Operation.{Operation}
 use Rattle.model.specs.declared.Operation.TheVariants.{Propose, Step, Learn, Crash}
-use Rattle.model.specs.declared.Changed.{Changed}
-use Rattle.model.specs.declared.Stepped.{Stepped}
+use Rattle.model.specs.Answers.{Changed, Stepped}
 use Rattle.model.specs.Window.{window}
 use Rattle.model.specs.Board.{process_at}
 use Rattle.model.specs.Numbers.{bad_process_count, bad_round_limit, no_such_process, blank_proposal, second_proposal}

@@ -6,10 +6,7 @@ use Rattle.model.specs.declared.Caller.{Caller}
 use Rattle.model.specs.declared.Limits.{Limits}
 use Rattle.model.specs.declared.Entry.{Entry}
 use Rattle.model.specs.declared.Entry.TheVariants.{Acts, Closes, Malformed}
-use Rattle.model.specs.declared.Stepped.{Stepped}
-use Rattle.model.specs.declared.Ending.{Ending}
-use Rattle.model.specs.declared.Ending.TheVariants.{Finished, Refused, BudgetEnded, Rejected}
-use Rattle.model.specs.declared.Ran.{Ran}
+use Rattle.model.specs.Answers.{Stepped, Ending, Finished, Refused, BudgetEnded, Rejected, Ran}
 use Rattle.model.specs.Window.{window}
 use Rattle.model.specs.Board.{opened, no_counts, limits_of}
 use Rattle.model.specs.Numbers.{bad_entry}

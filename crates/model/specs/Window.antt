@@ -1,5 +1,5 @@
 -- Document 01, "The board and the seats", and 02, wish 8: the window W.
-use Rattle.std.specs.Prelude.{ℕ, suc, zero, ◌+◌, ◌*◌, cond, leb}
+use Rattle.std.specs.Prelude.{ℕ, suc, zero, ◌*◌, cond, leb}
 
 -- The first of m, m + 1, .., m + fuel whose square is at least n.
 unfoldable pub root_from : ℕ → ℕ → ℕ → ℕ

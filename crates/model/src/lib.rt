@@ -1,8 +1,13 @@
-// The data of a Janus session and the numbers that are returned, with no function: what the definitions in specs/ and every other crate
-// speak of.
+// The data of a Janus session and the refusals: what the definitions in specs/ and every other crate speak of.
 #![tactic(auto)]
 
-pub mod numbers;
+ghost use Rattle.std.specs.Prelude.{◌≡◌};
+ghost use Rattle.model.specs.Answers.{told_ended};
+ghost use Rattle.model.specs.Export.{ending_code};
+
+mod refusal;
+
+pub use refusal::{Refusal, code};
 
 // Where a process stands in its walk (document 01: the stance of a seat; 01's word for each is behind it).
 // k is a round that it reads on the way up, i a distance below its own round.
@@ -58,7 +63,7 @@ pub struct Session {
 }
 
 // Counts of register operations (01: the tally).
-#[derive(Clone, Copy)]
+#[derive(Clone, Copy, Default)]
 pub struct Counts {
     pub reads: u32,
     pub writes: u32,
@@ -109,64 +114,47 @@ pub struct Limits {
     pub rounds: u16,
 }
 
-// The answer of an operation that changes a session: 0 and the session after it, or the refusal's number (01, "Numbers
-// returned") and the session as it was.
+// What an accepted operation that counts its register operation leaves: the session and the counts after it. (One that counts nothing
+// leaves a session alone.)
 #[derive(Clone, Copy)]
-pub struct Changed {
-    pub code: u32,
-    pub session: Session,
-}
-
-// The answer of an operation that also counts its register operation.
-#[derive(Clone, Copy)]
-pub struct Stepped {
-    pub code: u32,
+pub struct After {
     pub session: Session,
     pub counts: Counts,
 }
 
-// The answers of the read-outs: 0 and what was asked for, or the refusal's number and blank data.
+// What the read-out of a round gives: T[r] and C[r].
 #[derive(Clone, Copy)]
-pub struct RegisterAnswer {
-    pub code: u32,
+pub struct Register {
     pub value: u32,
     pub marked: bool,
 }
 
+// How the run of a sheet that is not refused ended (01: finished; the refusal and the entry's index; budget ended).
 #[derive(Clone, Copy)]
-pub struct ProcessAnswer {
-    pub code: u32,
-    pub process: Process,
-}
-
-#[derive(Clone, Copy)]
-pub struct DecisionAnswer {
-    pub code: u32,
-    pub value: u32,
-}
-
-// How many: values that are listed; of the sheet writer (02, wish 3), bytes that are written.
-#[derive(Clone, Copy)]
-pub struct CountAnswer {
-    pub code: u32,
-    pub count: usize,
-}
-
-// How a run of a sheet ended (01: finished; the refusal and the entry's index; budget ended), or the refusal of the
-// sheet itself, in which case no session was made.
-#[derive(Clone, Copy)]
-pub enum Ending {
+pub enum Ended {
     Finished,
-    Refused(u32, usize),
+    Refused(Refusal, usize),
     BudgetEnded,
-    Rejected(u32),
 }
 
-// What a run of a sheet gives: how many entries were carried out, the session and the counts after them, and the ending.
+impl Ended {
+    // What the clinic server gets: "0 for finished, 100 for budget ended, or the refusal".
+    pub fn number(self) -> u32
+        ensures { result ≡ ending_code (told_ended self) }
+    {
+        match self {
+            Ended::Finished => 0,
+            Ended::Refused(refusal, _) => refusal.number(),
+            Ended::BudgetEnded => 100,
+        }
+    }
+}
+
+// What such a run gives: how many entries were carried out, the session and the counts after them, and how it ended.
 #[derive(Clone, Copy)]
-pub struct Ran {
+pub struct Run {
     pub carried: usize,
     pub session: Session,
     pub counts: Counts,
-    pub ending: Ending,
+    pub ended: Ended,
 }

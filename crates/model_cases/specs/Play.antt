@@ -4,7 +4,7 @@ use Rattle.model.specs.declared.Phase.{Phase}
 use Rattle.model.specs.declared.Phase.TheVariants.{Idle, Waiting, Write, Scan, Adopt, Compare, Flag, CheckMark}
 use Rattle.model.specs.declared.Phase.TheVariants.{CheckValue, Commit, Exhausted, Crashed, Decided, HasCommitted, HasAdopted}
 use Rattle.model.specs.declared.Caller.TheVariants.{Server}
-use Rattle.model.specs.declared.Stepped.{Stepped}
+use Rattle.model.specs.Answers.{Stepped}
 use Rattle.model.specs.Window.{window}
 use Rattle.model.specs.Board.{value_at, mark_at, process_at, no_counts}
 use Rattle.model.specs.Machine.{Command, opening, execute}

@@ -1,5 +1,6 @@
 -- Document 02, wish 11, "Workers with ward names": what a house holds, and a house just opened.
-use Rattle.std.specs.Prelude.{ℕ, suc, zero, ◌+◌, ◌*◌, ◌-◌, Bool, true, false, cond, not, ◌&&◌, List, [], ◌∷◌, ◌++◌, length, get_or, set, replicate, take, leb, eqb}
+use Rattle.std.specs.Prelude.{ℕ, suc, zero, ◌+◌, ◌*◌, ◌-◌, Bool, true, false, cond, not, ◌&&◌, Result, List, [], ◌∷◌, ◌++◌, length, get_or, set, replicate, take, leb, eqb}
+use Rattle.model.specs.declared.refusal.Refusal.{Refusal}
 use Rattle.model.specs.declared.Session.{Session}
 use Rattle.model.specs.Window.{window}
 use Rattle.model.specs.Numbers.{bad_process_count, bad_wards}
@@ -9,10 +10,8 @@ use Rattle.model.specs.Sound.{every}
 use Rattle.model_house.specs.declared.Stance.{Stance}
 use Rattle.model_house.specs.declared.Stance.TheVariants.{Idle}
 use Rattle.model_house.specs.declared.Worker.{Worker}
-use Rattle.model_house.specs.declared.Row.{Row}
-use Rattle.model_house.specs.declared.Table.{Table}
 use Rattle.model_house.specs.declared.House.{House}
-use Rattle.model_house.specs.declared.HouseChanged.{HouseChanged}
+use Rattle.model_house.specs.Answers.{HouseChanged, told_house}
 
 -- "Each worker knows its ward, numbered 1 to c: c at most 4, at most 16 workers"; "each outer round, 1 to 8".
 abbrev pub max_wards : ℕ
@@ -36,6 +35,10 @@ abbrev pub all_below : ℕ → (ℕ → Bool) → Bool
 all_below zero test = true
 all_below (suc k) test = all_below k test && test k
 
+-- The value table: a row for each outer round, of an entry for each ward.
+abbrev pub Table : Type 0
+Table = List (List ℕ)
+
 -- ---- what it holds (past the end of an array: a session, a record and a row of no house)
 
 abbrev pub no_session : Session
@@ -47,8 +50,8 @@ worker a o v = record { stance = a; outer = o; value = v }
 abbrev pub no_worker : Worker
 no_worker = worker Idle 0 0
 
-abbrev pub no_row : Row
-no_row = record { entries = [] }
+abbrev pub no_row : List ℕ
+no_row = []
 
 abbrev pub ward_of : House → (p : ℕ) → ℕ
 ward_of h p = get_or h.wards p 0
@@ -69,13 +72,13 @@ poll_at h o = get_or h.polls (o - 1) no_session
 -- "The value table has one row for each outer round and one entry per ward": the entry of outer round o and ward w, and the table with v
 -- there.
 abbrev pub entries_of : Table → (o : ℕ) → List ℕ
-entries_of t o = (get_or t.rows (o - 1) no_row).entries
+entries_of t o = get_or t (o - 1) no_row
 
 abbrev pub table_at : Table → (o w : ℕ) → ℕ
 table_at t o w = get_or (entries_of t o) (w - 1) 0
 
 abbrev pub with_entry : Table → (o w v : ℕ) → Table
-with_entry t o w v = record { rows = set t.rows (o - 1) (record { entries = set (entries_of t o) (w - 1) v }) }
+with_entry t o w v = set t (o - 1) (set (entries_of t o) (w - 1) v)
 
 -- A ward session's seats are "taken by its workers in number order": the seat of worker p is the number of workers of its ward with a lower
 -- number. (In a poll, which "has n seats", worker p has seat p.)
@@ -126,7 +129,7 @@ opened_house c wards =
       workers = replicate max_workers (worker Idle 1 0);
       sessions = replicate (outer_rounds * max_wards) (opened (ward_seats n c) ward_rounds);
       polls = replicate outer_rounds (opened n (window n));
-      table = record { rows = replicate outer_rounds (record { entries = replicate max_wards 0 }) };
+      table = replicate outer_rounds (replicate max_wards 0);
       decision = 0;
     }
 
@@ -139,3 +142,7 @@ house_changed (suc k) before after = record { code = suc k; house = before }
 -- of no worker, which is not sound.
 unfoldable pub house_opening : (c : ℕ) → (wards : List ℕ) → HouseChanged
 house_opening c wards = house_changed (refusal (house_open_tests c wards)) (opened_house 0 []) (opened_house c wards)
+
+-- What the code's answer says of it (`Answers`).
+abbrev pub told_house_opened : Result House Refusal → HouseChanged
+told_house_opened r = told_house (opened_house 0 []) r

@@ -1,3 +1,4 @@
+pub mod Answers
 pub mod House
 pub mod Turn
 pub mod Machine

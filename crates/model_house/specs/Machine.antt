@@ -11,7 +11,7 @@ use Rattle.model_house.specs.declared.Stance.TheVariants.{Idle, Working, Exhaust
 use Rattle.model_house.specs.declared.Worker.{Worker}
 use Rattle.model_house.specs.declared.House.{House}
 use Rattle.model_house.specs.declared.View.{View}
-use Rattle.model_house.specs.declared.HouseStepped.{HouseStepped}
+use Rattle.model_house.specs.Answers.{HouseStepped}
 use Rattle.model_house.specs.House.{worker, ward_of, worker_at, session_index, session_at, poll_at, seat_of, with_worker}
 use Rattle.model_house.specs.Turn.{view, one_read, standing, turn_at}
 

@@ -5,8 +5,7 @@ use Rattle.model.specs.declared.Counts.{Counts}
 use Rattle.model.specs.Numbers.{unsound}
 use Rattle.model.specs.Board.{no_counts}
 use Rattle.model_house.specs.declared.House.{House}
-use Rattle.model_house.specs.declared.HouseChanged.{HouseChanged}
-use Rattle.model_house.specs.declared.HouseStepped.{HouseStepped}
+use Rattle.model_house.specs.Answers.{HouseChanged, HouseStepped}
 use Rattle.model_house.specs.Machine.{HouseOperation, proposes, turns, learns, crashes, house_tests, house_answered}
 use Rattle.model_house.specs.Sound.{sound_house}
 

@@ -8,7 +8,7 @@ use Rattle.model_rule.specs.System.{System, Call, Run, inputs, machine, past, Ea
 use Rattle.model_rule.specs.Calls.{Input}
 use Rattle.model_house.specs.declared.Stance.TheVariants.{Decided}
 use Rattle.model_house.specs.declared.House.{House}
-use Rattle.model_house.specs.declared.HouseStepped.{HouseStepped}
+use Rattle.model_house.specs.Answers.{HouseStepped}
 use Rattle.model_house.specs.House.{worker_at, house_opening}
 use Rattle.model_house.specs.Machine.{HouseOperation, proposes, turns, learns, crashes, house_perform}
 use Rattle.model_house.specs.Public.{with_house_counts, house_propose, house_turn, house_learn, house_crash}

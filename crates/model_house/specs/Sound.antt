@@ -1,7 +1,7 @@
 -- When a house is sound. Document 02, wish 11: "3 is tested first in each call on a house: wards not as opening allows, a session or poll
 -- unsound, closed or of another size, a poll number above c, an outer round not 1 to 8, a proposed worker without a value, or a seat not
 -- out, working, decided or answered (committed, before a house write) as a working worker's next turn needs." Nothing else is tested.
-use Rattle.std.specs.Prelude.{ℕ, ◌*◌, Bool, true, false, not, ◌&&◌, ◌||◌, get_or, take, leb, ltb, eqb}
+use Rattle.std.specs.Prelude.{ℕ, ◌*◌, Bool, true, not, ◌&&◌, ◌||◌, get_or, take, leb, ltb, eqb}
 use Rattle.model.specs.declared.Process.{Process}
 use Rattle.model.specs.declared.Session.{Session}
 use Rattle.model.specs.Board.{process_at}

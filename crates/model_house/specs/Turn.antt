@@ -1,6 +1,6 @@
 -- Document 02, wish 11: one turn of a worker, on what the turn can read and change, its `View`. "Each turn makes at most one register
 -- operation, table and house register included, and one lent tally counts these."
-use Rattle.std.specs.Prelude.{ℕ, ◌+◌, Bool, true, false, cond, eqb, ltb}
+use Rattle.std.specs.Prelude.{ℕ, ◌+◌, Bool, cond, eqb, ltb}
 use Rattle.model.specs.declared.Access.TheVariants.{ReadDecision, WriteDecision}
 use Rattle.model.specs.declared.Process.{Process}
 use Rattle.model.specs.declared.Session.{Session}
@@ -22,9 +22,8 @@ use Rattle.model_house.specs.declared.Place.TheVariants.{ReadTable, WriteHouse}
 use Rattle.model_house.specs.declared.Stance.{Stance}
 use Rattle.model_house.specs.declared.Stance.TheVariants.{Working, Exhausted}
 use Rattle.model_house.specs.declared.Worker.{Worker}
-use Rattle.model_house.specs.declared.Table.{Table}
 use Rattle.model_house.specs.declared.View.{View}
-use Rattle.model_house.specs.House.{outer_rounds, worker, table_at, with_entry}
+use Rattle.model_house.specs.House.{outer_rounds, worker, Table, table_at, with_entry}
 
 -- ---- what a turn changes of its view
 

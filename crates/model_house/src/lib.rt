@@ -35,17 +35,8 @@ pub struct Worker {
     pub value: u32,
 }
 
-// "The value table has one row for each outer round and one entry per ward"; 0 is blank. The functions pass it and return it by value as
-// [[u32; 4]; 8] (`system_house_table`); a struct cannot hold that, so that here its rows are structs.
-#[derive(Clone, Copy)]
-pub struct Row {
-    pub entries: [u32; 4],
-}
-
-#[derive(Clone, Copy)]
-pub struct Table {
-    pub rows: [Row; 8],
-}
+// "The value table has one row for each outer round and one entry per ward"; 0 is blank.
+pub type Table = [[u32; 4]; 8];
 
 // A house of n workers in c wards. wards[p] is the ward of worker p, 1 to c. The session of outer round o and ward w is
 // sessions[8 * (w - 1) + o - 1], so that the first 8c are those of wards 1 to c; the poll of outer round o is polls[o - 1]. decision is
@@ -74,16 +65,10 @@ pub struct View {
     pub counts: Counts,
 }
 
-// The answers: 0 and the house after, or the refusal's number and the house as it was; and the same with the counts.
+// What an accepted turn or house look leaves: the house and the counts after it. (A proposal and a crash count nothing, and leave a house
+// alone.)
 #[derive(Clone, Copy)]
-pub struct HouseChanged {
-    pub code: u32,
-    pub house: House,
-}
-
-#[derive(Clone, Copy)]
-pub struct HouseStepped {
-    pub code: u32,
+pub struct HouseAfter {
     pub house: House,
     pub counts: Counts,
 }

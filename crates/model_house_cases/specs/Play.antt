@@ -10,10 +10,9 @@ use Rattle.model_house.specs.declared.Place.TheVariants.{ReadTable, WriteHouse}
 use Rattle.model_house.specs.declared.Stance.{Stance}
 use Rattle.model_house.specs.declared.Stance.TheVariants.{Idle, Working, Exhausted, Crashed, Decided}
 use Rattle.model_house.specs.declared.Worker.{Worker}
-use Rattle.model_house.specs.declared.Table.{Table}
 use Rattle.model_house.specs.declared.House.{House}
-use Rattle.model_house.specs.declared.HouseStepped.{HouseStepped}
-use Rattle.model_house.specs.House.{worker_at, session_at, poll_at, table_at, with_entry, with_worker, house_opening}
+use Rattle.model_house.specs.Answers.{HouseStepped}
+use Rattle.model_house.specs.House.{Table, worker_at, session_at, poll_at, table_at, with_entry, with_worker, house_opening}
 use Rattle.model_house.specs.Machine.{HouseOperation, house_perform}
 use Rattle.model_house.specs.Public.{house_operate}
 use Rattle.model_house.specs.Sound.{sound_house}

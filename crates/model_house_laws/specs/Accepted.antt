@@ -57,11 +57,11 @@ tests_known h c o e =
     (leb-false h.n (worker_of o) a.0, a.1)
 
 module _ (h : House) (c : Counts) (o : HouseOperation) where
-  -- The number, with the own tests made on the record that the code reads.
-  pub house_code_law : {b : Bool} {own k : ℕ} → b ≡ sound_house h →
-      own ≡ refusal (worker_tests (phase_of (worker_at h (worker_of o % 16)).stance) c o) →
+  -- The number, with the own tests made by the phase of the record that the code reads.
+  pub house_code_law : {b : Bool} {φ : Phase} {own k : ℕ} → b ≡ sound_house h →
+      φ ≡ phase_of (worker_at h (worker_of o % 16)).stance → own ≡ refusal (worker_tests φ c o) →
       k ≡ cond (not b) unsound (cond (leb h.n (worker_of o)) no_such_process own) → k ≡ house_code h c o
-  house_code_law eb eo ek = ek ∙ rw (eb, eo) (go (sound_house h) (leb h.n (worker_of o)) refl refl)
+  house_code_law eb eφ eo ek = ek ∙ rw (eb, eo, eφ) (go (sound_house h) (leb h.n (worker_of o)) refl refl)
     where
       go : (b t : Bool) → sound_house h ≡ b → leb h.n (worker_of o) ≡ t →
           cond (not b) unsound (cond t no_such_process (refusal (worker_tests (phase_of (worker_at h (worker_of o % 16)).stance) c o)))

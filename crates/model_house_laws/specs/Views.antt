@@ -5,8 +5,7 @@ use Rattle.base.specs.Prelude.{ℕ, ◌∙◌, ap, Bool, true, false, not, not-t
 use Rattle.base.specs.Bools.{and_left, and_right, cond_cases}
 use Rattle.model.specs.declared.Session.{Session}
 use Rattle.model.specs.declared.Counts.{Counts}
-use Rattle.model.specs.declared.Changed.{Changed}
-use Rattle.model.specs.declared.Stepped.{Stepped}
+use Rattle.model.specs.Answers.{Changed, Stepped}
 use Rattle.model.specs.declared.Operation.{Operation}
 use Rattle.model.specs.declared.Operation.TheVariants.{Propose}
 use Rattle.model.specs.Window.{window}
@@ -15,7 +14,7 @@ use Rattle.model.specs.Machine.{perform, answered}
 use Rattle.model.specs.Sound.{sound_as, sound, sound_poll}
 use Rattle.model.specs.Public.{operate_for_as, operate, operate_as}
 use Rattle.model_laws.specs.Answers.{propose_counts}
-use Rattle.model_poll.specs.declared.PollStepped.{PollStepped}
+use Rattle.model_poll.specs.Answers.{PollStepped}
 use Rattle.model_poll.specs.Machine.{PollOperation, proposes, turns, turned, poll_perform}
 use Rattle.model_poll.specs.Public.{poll_propose, poll_turn, poll_turn_for}
 use Rattle.model_house.specs.declared.Stance.{Stance}

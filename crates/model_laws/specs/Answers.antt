@@ -3,10 +3,14 @@ use Rattle.std.specs.Prelude.{◌<◌, ◌%◌, ◌≡◌, ◌∷◌}
 use Rattle.base.specs.Prelude.{ℕ, suc, zero, arith, refl, sym, ◌∙◌, ap, Bool, true, false, cond, not, List, leb}
 use Rattle.base.specs.Prelude.{leb-false}
 use Rattle.model_laws.specs.Types.{Phase, Waiting, Crashed, Process, Session, Counts, Operation, Propose, Step, Learn, Crash}
+use Rattle.model.specs.declared.refusal.Refusal.{Refusal}
+use Rattle.model.specs.declared.refusal.Refusal.TheVariants.{BadProcessCount, BadRoundLimit, Unsound, NoSuchProcess, BlankProposal, SecondProposal, ProcessOut, ProcessGone}
+use Rattle.model.specs.declared.refusal.Refusal.TheVariants.{ProcessSpent, BadSheet, BadPairs, BadRun, BadEntry, NoSuchRound, BadBuffer}
+use Rattle.model.specs.declared.refusal.Refusal.TheVariants.{CountsFull, BadCuts, ClosedToProposals, BadWards, IllegalList, LastList}
 use Rattle.model.specs.Board.{process_at, with_process, no_counts}
 use Rattle.model.specs.Window.{window}
 use Rattle.model.specs.Step.{counted, turn, stored, found, learnt, process}
-use Rattle.model.specs.Numbers.{unsound, no_such_process}
+use Rattle.model.specs.Numbers.{unsound, no_such_process, number}
 use Rattle.model.specs.Refusal.{Test, refusal, tests, process_tests, stepped, full}
 use Rattle.model.specs.Machine.{access_of, becomes, after, counts_after, answered, perform, process_of}
 use Rattle.model.specs.Public.{operate_for_as, propose_for_as, crash_for_as, operate_as, with_counts, without_counts}
@@ -23,6 +27,30 @@ abbrev pub code_of : Session → Counts → Operation → ℕ
 code_of s c o = code_as false s c o
 
 -- ---- refused and accepted
+
+-- No refusal has the number 0, which is accepted.
+pub number_some : (e : Refusal) → number e ≡ 0 → ⊥
+number_some BadProcessCount none = omega arith
+number_some BadRoundLimit none = omega arith
+number_some Unsound none = omega arith
+number_some NoSuchProcess none = omega arith
+number_some BlankProposal none = omega arith
+number_some SecondProposal none = omega arith
+number_some ProcessOut none = omega arith
+number_some ProcessGone none = omega arith
+number_some ProcessSpent none = omega arith
+number_some BadSheet none = omega arith
+number_some BadPairs none = omega arith
+number_some BadRun none = omega arith
+number_some BadEntry none = omega arith
+number_some NoSuchRound none = omega arith
+number_some BadBuffer none = omega arith
+number_some CountsFull none = omega arith
+number_some BadCuts none = omega arith
+number_some ClosedToProposals none = omega arith
+number_some BadWards none = omega arith
+number_some IllegalList none = omega arith
+number_some LastList none = omega arith
 
 -- A session and counts with the number 0, or with another number that is the refusal's.
 pub stepped_accepted : (s : Session) (c : Counts) {k m : ℕ} {t u : Session} {d e : Counts} → k ≡ m → k ≡ 0 → u ≡ t → e ≡ d →

@@ -1,5 +1,5 @@
 -- A step of a sound process leaves a sound process.
-use Rattle.std.specs.Prelude.{◌+◌, ◌-◌, ◌≤◌, ◌<◌, ◌≡◌}
+use Rattle.std.specs.Prelude.{◌+◌, ◌≤◌, ◌<◌, ◌≡◌}
 use Rattle.base.specs.Prelude.{ℕ, min, arith, refl, Bool, true, false, leb, ltb, eqb, leb-true, ltb-true}
 use Rattle.base.specs.Prelude.{ltb-false, eqb-false, lt-ltb}
 use Rattle.model_laws.specs.Types.{Phase, Idle, Waiting, Write, Scan, Adopt, Compare, Flag, CheckMark, CheckValue, Commit, Exhausted}

@@ -1,4 +1,5 @@
 -- Laws about the definitions of model.
+pub mod Told
 pub mod Types
 pub mod Every
 pub mod Accepted
@@ -17,6 +18,7 @@ pub mod ByteLaws
 pub mod SheetLaws
 pub mod SheetFacts
 pub mod Passes
+pub mod Alls
 pub mod SoundTests
 pub mod SoundRecords
 pub mod FirstRounds

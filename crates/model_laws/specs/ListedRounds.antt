@@ -1,8 +1,8 @@
 -- One round more: what the loops over the rounds do to the list, and one place more of a copy. Assumes nothing.
-use Rattle.std.specs.Prelude.{◌+◌, ◌<◌, ◌≡◌, ◌∷◌, ◌++◌}
-use Rattle.base.specs.Prelude.{ℕ, zero, suc, sym, true, false, or-true, List, [], le_of_lt, not-suc-le-zero}
-use Rattle.base.specs.Prelude.{add-one, arith, length, get_or, take, drop, set, take-suc, take-suc-set, drop-cons, set_at, length-take-le}
-use Rattle.base.specs.Prelude.{append_snoc, eqb, eq-eqb, ne_eqb}
+use Rattle.std.specs.Prelude.{◌+◌, ◌<◌, ◌≡◌, ◌∷◌}
+use Rattle.base.specs.Prelude.{ℕ, zero, suc, sym, true, false, or-true, List, [], not-suc-le-zero}
+use Rattle.base.specs.Prelude.{add-one, arith, length, get_or, take, set, take-suc, take-suc-set}
+use Rattle.base.specs.Prelude.{eqb, eq-eqb, ne_eqb}
 use Rattle.model.specs.ReadOut.{holds, values_to}
 use Rattle.model_laws.specs.FirstRounds.{holds_last}
 

@@ -3,12 +3,8 @@ pub use Rattle.model.specs.declared.Access.{Access}
 pub use Rattle.model.specs.declared.Access.TheVariants.{Nothing, ReadDecision, ReadMark, ReadValue, SetMark, WriteDecision, WriteValue}
 pub use Rattle.model.specs.declared.Caller.{Caller}
 pub use Rattle.model.specs.declared.Caller.TheVariants.{Cart, Server}
-pub use Rattle.model.specs.declared.Changed.{Changed}
-pub use Rattle.model.specs.declared.CountAnswer.{CountAnswer}
+pub use Rattle.model.specs.Answers.{Changed, CountAnswer, DecisionAnswer, Ending, BudgetEnded, Finished, Refused, Rejected, ProcessAnswer, Ran, RegisterAnswer, Stepped}
 pub use Rattle.model.specs.declared.Counts.{Counts}
-pub use Rattle.model.specs.declared.DecisionAnswer.{DecisionAnswer}
-pub use Rattle.model.specs.declared.Ending.{Ending}
-pub use Rattle.model.specs.declared.Ending.TheVariants.{BudgetEnded, Finished, Refused, Rejected}
 pub use Rattle.model.specs.declared.Entry.{Entry}
 pub use Rattle.model.specs.declared.Entry.TheVariants.{Acts, Closes, Malformed}
 pub use Rattle.model.specs.declared.Limits.{Limits}
@@ -18,9 +14,5 @@ pub use Rattle.model.specs.declared.Phase.{Phase}
 pub use Rattle.model.specs.declared.Phase.TheVariants.{Adopt, HasAdopted, CheckMark, CheckValue, Commit, HasCommitted, Compare, Crashed}
 pub use Rattle.model.specs.declared.Phase.TheVariants.{Decided, Exhausted, Flag, Idle, Scan, Waiting, Write}
 pub use Rattle.model.specs.declared.Process.{Process}
-pub use Rattle.model.specs.declared.ProcessAnswer.{ProcessAnswer}
-pub use Rattle.model.specs.declared.Ran.{Ran}
-pub use Rattle.model.specs.declared.RegisterAnswer.{RegisterAnswer}
 pub use Rattle.model.specs.declared.Session.{Session}
-pub use Rattle.model.specs.declared.Stepped.{Stepped}
 pub use Rattle.model.specs.Machine.{Command, acts, closes}

@@ -1,3 +1,4 @@
 pub mod Turn
+pub mod Answers
 pub mod Machine
 pub mod Public

@@ -1,14 +1,13 @@
 -- The machine of polls (document 02, wish 6). It is fed proposals, turns and crashes, and never a poll; proposals and crashes are those of
 -- a session.
-use Rattle.std.specs.Prelude.{ℕ, suc, zero, List, ◌∷◌, true}
+use Rattle.std.specs.Prelude.{ℕ, suc, zero, List}
 use Rattle.model.specs.declared.Process.{Process}
 use Rattle.model.specs.declared.Session.{Session}
 use Rattle.model.specs.declared.Counts.{Counts}
 use Rattle.model.specs.declared.Operation.TheVariants.{Propose, Crash}
 use Rattle.model.specs.declared.Caller.{Caller}
 use Rattle.model.specs.declared.Limits.{Limits}
-use Rattle.model.specs.declared.Changed.{Changed}
-use Rattle.model.specs.declared.Stepped.{Stepped}
+use Rattle.model.specs.Answers.{Changed, Stepped}
 use Rattle.model.specs.Window.{window}
 use Rattle.model.specs.Board.{limits_of, process_at}
 use Rattle.model.specs.Step.{found, turn, counted}
@@ -16,7 +15,7 @@ use Rattle.model.specs.Refusal.{Test, refusal, learn_tests, process_tests, stepp
 use Rattle.model.specs.Machine.{opening_for, perform}
 use Rattle.model_poll.specs.declared.Answer.{Answer}
 use Rattle.model_poll.specs.declared.Answer.TheVariants.{Pending}
-use Rattle.model_poll.specs.declared.PollStepped.{PollStepped}
+use Rattle.model_poll.specs.Answers.{PollStepped}
 use Rattle.model_poll.specs.Turn.{poll_access, poll_next, answer_of}
 
 -- "A poll has L = W": the session's opening with that limit, within a caller's limits, at window W (02, wish 7: "the window a parameter of

@@ -4,15 +4,13 @@
 use Rattle.std.specs.Prelude.{ℕ, true, not, ◌∷◌}
 use Rattle.model.specs.declared.Session.{Session}
 use Rattle.model.specs.declared.Counts.{Counts}
-use Rattle.model.specs.declared.Changed.{Changed}
-use Rattle.model.specs.declared.ProcessAnswer.{ProcessAnswer}
+use Rattle.model.specs.Answers.{Changed, ProcessAnswer}
 use Rattle.model.specs.Window.{window}
 use Rattle.model.specs.Numbers.{unsound}
 use Rattle.model.specs.Sound.{sound_for_as}
 use Rattle.model.specs.Public.{propose_for_as, crash_for_as}
 use Rattle.model.specs.ReadOut.{process_record_as}
-use Rattle.model_poll.specs.declared.PollStepped.{PollStepped}
-use Rattle.model_poll.specs.declared.Polled.{Polled}
+use Rattle.model_poll.specs.Answers.{PollStepped, PollChanged}
 use Rattle.model_poll.specs.Machine.{turn_tests, turned}
 
 -- ---- at any window
@@ -47,9 +45,9 @@ poll_record s p = process_record_as true s p
 -- ---- the counts
 
 -- A turn's answer with the counts that the caller lent, as they stand at the end.
-abbrev pub with_lent : Polled → Counts → PollStepped
+abbrev pub with_lent : PollChanged → Counts → PollStepped
 with_lent a c = record { code = a.code; session = a.session; counts = c; answer = a.answer }
 
 -- And without them.
-abbrev pub without_lent : PollStepped → Polled
+abbrev pub without_lent : PollStepped → PollChanged
 without_lent a = record { code = a.code; session = a.session; answer = a.answer }

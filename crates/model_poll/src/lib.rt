@@ -13,11 +13,9 @@ pub enum Answer {
     Adopts(u32), // adopted
 }
 
-// The answer of a turn that counts its register operation: the refusal's number or 0, the poll and the counts after it, and what the
-// process got.
+// What an accepted turn that counts its register operation leaves: the poll and the counts after it, and what the process got.
 #[derive(Clone, Copy)]
-pub struct PollStepped {
-    pub code: u32,
+pub struct PolledAfter {
     pub session: Session,
     pub counts: Counts,
     pub answer: Answer,
@@ -26,7 +24,6 @@ pub struct PollStepped {
 // The same of a turn that is lent the counts.
 #[derive(Clone, Copy)]
 pub struct Polled {
-    pub code: u32,
     pub session: Session,
     pub answer: Answer,
 }

@@ -9,7 +9,7 @@ use Rattle.model.specs.Public.{with_counts}
 use Rattle.model_cases.specs.Play.{Shows, played_all, shown}
 use Rattle.model_poll.specs.declared.Answer.{Answer}
 use Rattle.model_poll.specs.declared.Answer.TheVariants.{Pending, Commits, Adopts}
-use Rattle.model_poll.specs.declared.PollStepped.{PollStepped}
+use Rattle.model_poll.specs.Answers.{PollStepped}
 use Rattle.model_poll.specs.Turn.{answer_of}
 use Rattle.model_poll.specs.Machine.{PollOperation, poll_opening, poll_perform, unanswered}
 

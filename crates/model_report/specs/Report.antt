@@ -10,9 +10,7 @@ use Rattle.model.specs.declared.Process.{Process}
 use Rattle.model.specs.declared.Session.{Session}
 use Rattle.model.specs.declared.Counts.{Counts}
 use Rattle.model.specs.declared.Caller.TheVariants.{Server}
-use Rattle.model.specs.declared.Ending.{Ending}
-use Rattle.model.specs.declared.Ending.TheVariants.{Finished, Refused, BudgetEnded, Rejected}
-use Rattle.model.specs.declared.Ran.{Ran}
+use Rattle.model.specs.Answers.{Ending, Finished, Refused, BudgetEnded, Rejected, Ran}
 use Rattle.model.specs.Board.{highest_filled}
 use Rattle.model.specs.Runner.{run}
 

@@ -1,7 +1,8 @@
 -- The board report for callers in C: what they get for a sheet and a buffer. 15, "lent buffer of wrong length" and "buffer unchanged"
 -- (document 01, "Numbers returned"): here one that is shorter than the text.
-use Rattle.std.specs.Prelude.{ℕ, Bool, cond, List, ◌++◌, length, drop, leb}
-use Rattle.model.specs.Numbers.{bad_buffer}
+use Rattle.std.specs.Prelude.{ℕ, Bool, cond, List, ◌++◌, length, drop, leb, Result, Ok, Err}
+use Rattle.model.specs.declared.refusal.Refusal.{Refusal}
+use Rattle.model.specs.Numbers.{bad_buffer, number}
 use Rattle.model_report.specs.Report.{report}
 
 -- Whether the text fits.
@@ -11,6 +12,11 @@ fits t b = leb (length t) (length b)
 -- The text's size, or 15.
 abbrev pub text_code : (text buffer : List ℕ) → ℕ
 text_code t b = cond (fits t b) (length t) bad_buffer
+
+-- What the code's answer says in these words: one number for the two.
+abbrev pub told_size : Result ℕ Refusal → ℕ
+told_size (Ok size) = size
+told_size (Err e) = number e
 
 -- The text from the first byte on, and the other bytes as they were.
 abbrev pub text_buffer : (text buffer : List ℕ) → List ℕ

@@ -3,7 +3,7 @@ use Rattle.std.specs.Prelude.{ℕ, List}
 use Rattle.model.specs.declared.Session.{Session}
 use Rattle.model.specs.declared.Counts.{Counts}
 use Rattle.model.specs.declared.Operation.TheVariants.{Propose, Step, Learn, Crash}
-use Rattle.model.specs.declared.Stepped.{Stepped}
+use Rattle.model.specs.Answers.{Stepped}
 use Rattle.model.specs.Window.{window}
 use Rattle.model.specs.Machine.{Command, acts, closes, execute}
 use Rattle.model.specs.Public.{with_counts, propose_for, step_for, learn_for, crash_for, close_for}

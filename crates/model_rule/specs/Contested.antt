@@ -4,13 +4,13 @@ use Rattle.std.specs.Prelude.{ℕ, zero, suc, ◌+◌, ◌≡◌, Bool, false, L
 use Rattle.model.specs.declared.Session.{Session}
 use Rattle.model.specs.declared.Counts.{Counts}
 use Rattle.model.specs.declared.Limits.{Limits}
-use Rattle.model.specs.declared.Stepped.{Stepped}
+use Rattle.model.specs.Answers.{Stepped}
 use Rattle.model.specs.Window.{window}
 use Rattle.model.specs.Board.{UpToServer, no_counts}
 use Rattle.model.specs.Step.{bit}
 use Rattle.model.specs.Machine.{opening_for}
 use Rattle.model.specs.Runner.{run_within}
-use Rattle.model_poll.specs.declared.PollStepped.{PollStepped}
+use Rattle.model_poll.specs.Answers.{PollStepped}
 use Rattle.model_poll.specs.Machine.{poll_opening_for}
 use Rattle.model_rule.specs.System.{Call}
 use Rattle.model_rule.specs.Calls.{Input, RunWith}

@@ -5,7 +5,7 @@ use Rattle.model.specs.declared.Counts.{Counts}
 use Rattle.model.specs.Window.{window}
 use Rattle.model.specs.Board.{process_at}
 use Rattle.model.specs.Public.{with_counts}
-use Rattle.model_poll.specs.declared.PollStepped.{PollStepped}
+use Rattle.model_poll.specs.Answers.{PollStepped}
 use Rattle.model_poll.specs.Machine.{PollOperation, proposes, turns, crashes, unanswered, poll_perform}
 use Rattle.model_poll.specs.Public.{poll_propose_for, poll_turn_for, poll_crash_for}
 use Rattle.model_rule.specs.Event.{Event, proposal, step_events}

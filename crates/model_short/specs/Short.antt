@@ -2,8 +2,7 @@
 -- least".
 use Rattle.std.specs.Prelude.{ℕ, suc, zero, ◌+◌, Bool, true, false, cond, ◌&&◌, ◌||◌, List, [], ◌∷◌, ◌++◌, map, length, ltb, eqb}
 use Rattle.model.specs.declared.Entry.{Entry}
-use Rattle.model.specs.declared.Ending.{Ending}
-use Rattle.model.specs.declared.Ending.TheVariants.{Finished, Refused, BudgetEnded, Rejected}
+use Rattle.model.specs.Answers.{Ending, Finished, Refused, BudgetEnded, Rejected}
 use Rattle.model.specs.Window.{window}
 use Rattle.model.specs.Board.{opened, no_counts}
 use Rattle.model.specs.Sound.{every}

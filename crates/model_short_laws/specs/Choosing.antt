@@ -6,13 +6,12 @@ use Rattle.base.specs.Prelude.{Bool, true, false, cond, and-false, eqb}
 use Rattle.base.specs.Bools.{and_left, and_right, cond_same}
 use Rattle.model.specs.declared.Session.{Session}
 use Rattle.model.specs.declared.Counts.{Counts}
-use Rattle.model.specs.declared.Stepped.{Stepped}
+use Rattle.model.specs.Answers.{Stepped, Refused}
 use Rattle.model.specs.Window.{window}
 use Rattle.model.specs.Board.{opened, no_counts}
 use Rattle.model.specs.Sound.{every}
 use Rattle.model.specs.Machine.{execute}
 use Rattle.model.specs.Runner.{entry_answer, run_by, run_from, ran}
-use Rattle.model.specs.declared.Ending.TheVariants.{Refused}
 use Rattle.model_short.specs.declared.RawEntry.{RawEntry}
 use Rattle.model_short.specs.Short.{said, choices, among, is_finished, legal, in_front, lists_of, kept, legal_lists}
 use Rattle.model_short_laws.specs.Entries.{index_in, among_own, among_split, among_drop}

@@ -1,9 +1,9 @@
 -- The sessions that the lists meet: sound ones of n processes. There what an entry gives is what the machine answers.
-use Rattle.std.specs.Prelude.{◌+◌, ◌*◌, ◌≤◌, ◌≡◌}
+use Rattle.std.specs.Prelude.{◌+◌, ◌-◌, ◌*◌, ◌≤◌, ◌≡◌}
 use Rattle.base.specs.Prelude.{ℕ, suc, zero, refl, ap, ◌∙◌, true, false, inl, inr, arith}
 use Rattle.model.specs.declared.Session.{Session}
 use Rattle.model.specs.declared.Counts.{Counts}
-use Rattle.model.specs.declared.Stepped.{Stepped}
+use Rattle.model.specs.Answers.{Stepped}
 use Rattle.model.specs.declared.Operation.{Operation}
 use Rattle.model.specs.declared.Entry.{Entry}
 use Rattle.model.specs.declared.Entry.TheVariants.{Acts, Closes, Malformed}
@@ -21,6 +21,7 @@ use Rattle.model_short.specs.declared.RawEntry.{RawEntry}
 use Rattle.model_short.specs.Short.{said}
 use Rattle.model_short_laws.specs.Choosing.{raw_answer}
 use Rattle.model_short_laws.specs.Order.{OneOrTwo}
+use Rattle.model_short_laws.specs.Numbers.{one_or_two}
 
 pub record Met (n : ℕ) (s : Session) : Type 0 where
   pub sound : sound_for (window n) s ≡ true
@@ -88,3 +89,15 @@ pub record SearchReady (n left at : ℕ) (s : Session) : Type 0 where
   pub two : n ≤ 2
   pub room : at + 6 * left ≤ 36
   pub met : Met n s
+
+-- Behind an entry that is accepted the search goes on.
+pub ready_after : (n left at : ℕ) (s t : Session) (c d : Counts) (e : RawEntry) → SearchReady n left at s → 1 ≤ left
+    → record { code = 0; session = t; counts = d } ≡ entry_answer commanded s c (said e) → SearchReady n (left - 1) (at + 6) t
+ready_after n left at s t c d e r more done =
+    let accepted = applied n s r.met c e done in
+    record {
+      one = r.one;
+      two = r.two;
+      room = omega (arith, r.room);
+      met = rw (← accepted) at (met_after n s r.met c (one_or_two n r.one r.two) e);
+    }

@@ -6,7 +6,9 @@ use Rattle.base.specs.Prelude.{le-leb, lt-leb, leb-true, lt-ltb, le-ltb, ltb-fal
 use Rattle.base.specs.Prelude.{not-false, inl, inr}
 use Rattle.base.specs.Bools.{and_left, and_right}
 use Rattle.model.specs.Refusal.{Test, refusal}
-use Rattle.model.specs.Numbers.{bad_process_count, bad_cuts, bad_buffer, illegal_list, last_list}
+use Rattle.model.specs.declared.refusal.Refusal.{Refusal}
+use Rattle.model.specs.Numbers.{bad_process_count, bad_cuts, bad_buffer, illegal_list, last_list, number}
+use Rattle.model_laws.specs.Answers.{number_some}
 use Rattle.model_laws.specs.Accepted.{Without, none_holds, refusal_append}
 use Rattle.model_short.specs.declared.RawEntry.{RawEntry}
 use Rattle.model_short.specs.Short.{legal, legal_lists, following}
@@ -96,6 +98,10 @@ module _ (n m : ℕ) (b : List ℕ) where
 pub result_refused : (k : ℕ) → (k ≡ 0 → ⊥) → (l : List RawEntry) (b : List ℕ) → listed k b ≡ list_result k l b
 result_refused zero some l b = absurd (some refl)
 result_refused (suc k) some l b = refl
+
+-- The same of a refusal with the tests' number.
+pub refused_result : (e : Refusal) {k : ℕ} (l : List RawEntry) (b : List ℕ) → number e ≡ k → listed (number e) b ≡ list_result k l b
+refused_result e l b told = rw (← told) (result_refused (number e) (number_some e) l b)
 
 pub result_code : (k : ℕ) (l : List RawEntry) (b : List ℕ) → (list_result k l b).code ≡ k
 result_code zero l b = refl

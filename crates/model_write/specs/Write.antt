@@ -3,7 +3,7 @@
 use Rattle.std.specs.Prelude.{ℕ, ◌+◌, ◌*◌, ◌/◌, ◌%◌, Bool, not, ◌&&◌, List, [], ◌∷◌, ◌++◌, length, leb, ltb, eqb}
 use Rattle.model.specs.declared.Limits.{Limits}
 use Rattle.model.specs.declared.Entry.{Entry}
-use Rattle.model.specs.declared.CountAnswer.{CountAnswer}
+use Rattle.model.specs.Answers.{CountAnswer}
 use Rattle.model.specs.Bytes.{bytes16}
 use Rattle.model.specs.Numbers.{bad_run, bad_cuts, bad_entry, bad_buffer}
 use Rattle.model.specs.Refusal.{Test, refusal, open_tests}

@@ -2,7 +2,7 @@
 -- was.
 use Rattle.std.specs.Prelude.{ℕ, cond, List, eqb}
 use Rattle.model.specs.declared.Caller.{Caller}
-use Rattle.model.specs.declared.CountAnswer.{CountAnswer}
+use Rattle.model.specs.Answers.{CountAnswer}
 use Rattle.model.specs.Board.{limits_of}
 use Rattle.model_write.specs.Write.{write_result}
 

@@ -14,28 +14,31 @@ fn put(buffer: &mut [u8], i: usize, b: u8)
     }
 }
 
+// Bytes stored from byte `at` on.
+#[tactic(auto, using(base::specs::Arrays::sets_beyond, base::specs::Arrays::sets_more))]
+pub fn put_bytes(buffer: &mut [u8], at: usize, bytes: &[u8])
+    ensures { buffer.new ≡ sets buffer.old at bytes.now }
+{
+    if buffer.len() <= at {
+        return;
+    }
+    for (i, b) in bytes.iter().enumerate() {
+        put(buffer, at + i, *b);
+    }
+}
+
+// Kept: one function for each width, since a generic one would need a trait of this project over std's `to_le_bytes`, which is no plainer.
+
 // A 16-bit number stored from byte `at` on.
-#[tactic(auto, using(base::specs::Arrays::sets_beyond))]
 pub fn put16(buffer: &mut [u8], at: usize, w: u16)
     ensures { buffer.new ≡ sets buffer.old at (bytes16 w) }
 {
-    if buffer.len() <= at {
-        return;
-    }
-    put(buffer, at, (w % 256) as u8);
-    put(buffer, at + 1, (w / 256 % 256) as u8);
+    put_bytes(buffer, at, &w.to_le_bytes());
 }
 
 // A 32-bit number stored from byte `at` on.
-#[tactic(auto, using(base::specs::Arrays::sets_beyond))]
 pub fn put32(buffer: &mut [u8], at: usize, v: u32)
     ensures { buffer.new ≡ sets buffer.old at (bytes32 v) }
 {
-    if buffer.len() <= at {
-        return;
-    }
-    put(buffer, at, (v % 256) as u8);
-    put(buffer, at + 1, (v / 256 % 256) as u8);
-    put(buffer, at + 2, (v / 65536 % 256) as u8);
-    put(buffer, at + 3, (v / 16777216 % 256) as u8);
+    put_bytes(buffer, at, &v.to_le_bytes());
 }

@@ -1,10 +1,15 @@
--- Laws of counts that are not full. Assumes nothing.
-use Rattle.std.specs.Prelude.{◌<◌, ◌≡◌, ◌||◌}
-use Rattle.base.specs.Prelude.{ℕ, refl, Bool, true, false, cond, true≢false, leb-false}
+-- Laws of counts that are full, and of those that are not. Assumes nothing.
+use Rattle.std.specs.Prelude.{◌<◌, ◌≤◌, ◌≡◌, ◌||◌}
+use Rattle.std.proofs.lemmas.Bool.Decides.{nat_tests}
+use Rattle.base.specs.Prelude.{ℕ, refl, Bool, true, false, cond, true≢false, arith, eqb, leb, leb-false}
 use Rattle.model.specs.declared.Access.{Access}
 use Rattle.model.specs.declared.Counts.{Counts}
 use Rattle.model.specs.Step.{counted}
 use Rattle.model.specs.Refusal.{full, max_count}
+
+-- A count is at most the largest one, so to be it is to be at least it.
+pub largest : (x : ℕ) → x ≤ max_count → eqb x max_count ≡ leb max_count x
+largest x h = grind (arith, nat_tests)
 
 neither : (a b : Bool) → (a || b) ≡ false → (a ≡ false) × (b ≡ false)
 neither true b h = absurd (true≢false h)

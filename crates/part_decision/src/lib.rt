@@ -11,12 +11,7 @@ pub fn decision(d: u32, a: Access, e: u32) -> u32
     ensures { result ≡ decision_after d a e }
 {
     match a {
-        Access::Nothing => d,
-        Access::ReadValue(_) => d,
-        Access::WriteValue(_) => d,
-        Access::ReadMark(_) => d,
-        Access::SetMark(_) => d,
-        Access::ReadDecision => d,
         Access::WriteDecision => e,
+        _ => d,
     }
 }

@@ -12,8 +12,8 @@ pub fn proposed(q: Process, v: u32) -> Process
 {
     Process {
         phase: Phase::Waiting,
-        round: q.round,
         estimate: v,
+        ..q
     }
 }
 
@@ -23,8 +23,7 @@ pub fn crashed(q: Process) -> Process
 {
     Process {
         phase: Phase::Crashed,
-        round: q.round,
-        estimate: q.estimate,
+        ..q
     }
 }
 
@@ -34,12 +33,11 @@ pub fn learnt(q: Process, x: u32) -> Process
     ensures { result ≡ learnt_of q x }
 {
     if x == 0 {
-        q
-    } else {
-        Process {
-            phase: Phase::Decided,
-            round: q.round,
-            estimate: x,
-        }
+        return q;
+    }
+    Process {
+        phase: Phase::Decided,
+        estimate: x,
+        ..q
     }
 }

@@ -13,13 +13,8 @@ fn without_decision(a: Access) -> Access
     ensures { result ≡ without_decision_of a }
 {
     match a {
-        Access::Nothing => Access::Nothing,
-        Access::ReadValue(r) => Access::ReadValue(r),
-        Access::WriteValue(r) => Access::WriteValue(r),
-        Access::ReadMark(r) => Access::ReadMark(r),
-        Access::SetMark(r) => Access::SetMark(r),
-        Access::ReadDecision => Access::ReadDecision,
         Access::WriteDecision => Access::Nothing,
+        _ => a,
     }
 }
 
@@ -32,7 +27,6 @@ pub fn access(limit: usize, q: Process) -> Access
 }
 
 // 02, wish 6: "where a check of that round fails it answers adopted with its value". In a session it would go back to gate.
-#[tactic(auto, using(crate::specs::Cases::not_waiting))]
 fn failed(left: Phase) -> Phase
     ensures { result ≡ cond (is_waiting left) Phase.HasAdopted left }
 {
@@ -44,13 +38,12 @@ fn failed(left: Phase) -> Phase
 
 // The phase after a turn, by the phase before it and the one that a session's turn leaves. 02, wish 6: "its turn at commit answers
 // committed".
-#[tactic(auto, using(crate::specs::Cases::goes_on), unfolding(model_poll::specs::Turn::ending))]
+#[tactic(auto, unfolding(model_poll::specs::Turn::ending))]
 fn ending(before: Phase, left: Phase) -> Phase
     ensures { result ≡ ending_of before left }
 {
     match before {
-        Phase::CheckMark(_) => failed(left),
-        Phase::CheckValue(_) => failed(left),
+        Phase::CheckMark(_) | Phase::CheckValue(_) => failed(left),
         Phase::Commit => Phase::HasCommitted,
         _ => left,
     }
@@ -62,22 +55,18 @@ pub fn next(window: usize, limit: usize, q: Process, x: u32) -> Process
     ensures { result ≡ poll_next window limit q x }
 {
     let left = part_next::next(window, limit, q, true, x);
-    let before = q.phase;
-    let after = left.phase;
     Process {
-        phase: ending(before, after),
-        round: left.round,
-        estimate: left.estimate,
+        phase: ending(q.phase, left.phase),
+        ..left
     }
 }
 
 // 02, wish 6: the answer that a record holds, "committed with its value", "adopted with its value"; none yet in every other phase.
-#[tactic(auto, using(crate::specs::Cases::no_answer), unfolding(model_poll::specs::Turn::answer_of))]
+#[tactic(auto, unfolding(model_poll::specs::Turn::answer_of))]
 pub fn answer(q: Process) -> Answer
     ensures { result ≡ answer_of q }
 {
-    let phase = q.phase;
-    match phase {
+    match q.phase {
         Phase::HasCommitted => Answer::Commits(q.estimate),
         Phase::HasAdopted => Answer::Adopts(q.estimate),
         _ => Answer::Pending,

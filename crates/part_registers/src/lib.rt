@@ -2,10 +2,10 @@
 #![tactic(auto)]
 
 ghost use Rattle.std.specs.Prelude.{◌≡◌};
-ghost use Rattle.model.specs.Step.{bit as bit_of};
 ghost use Rattle.model_laws.specs.Registers.{slot as slot_of, value_in, mark_in, values_after, marks_after};
 
 use model::Access;
+use std::mem;
 
 // The index of the register of round r: r - 1 for the rounds 1 to 256. For any other number it is some index, so that no caller is asked
 // for anything; it compiles to two instructions.
@@ -21,24 +21,13 @@ pub fn value(values: &mut [u32; 256], a: Access, e: u32) -> u32
     ensures writes { values.new ≡ values_after values.old a e }
 {
     match a {
-        Access::Nothing => 0,
         Access::ReadValue(r) => values[slot(r)],
         Access::WriteValue(r) => {
             values[slot(r)] = e;
             0
         }
-        Access::ReadMark(_) => 0,
-        Access::SetMark(_) => 0,
-        Access::ReadDecision => 0,
-        Access::WriteDecision => 0,
+        _ => 0,
     }
-}
-
-// A mark that is found, as a number.
-fn bit(marked: bool) -> u32
-    ensures { result ≡ bit_of marked }
-{
-    if marked { 1 } else { 0 }
 }
 
 // The same of the mark C[r], read or set: the mark that stood there before; v where the operation goes to no mark.
@@ -47,17 +36,8 @@ pub fn mark(v: u32, marks: &mut [bool; 256], a: Access) -> u32
     ensures writes { marks.new ≡ marks_after marks.old a }
 {
     match a {
-        Access::Nothing => v,
-        Access::ReadValue(_) => v,
-        Access::WriteValue(_) => v,
-        Access::ReadMark(r) => bit(marks[slot(r)]),
-        Access::SetMark(r) => {
-            let i = slot(r);
-            let before = marks[i];
-            marks[i] = true;
-            bit(before)
-        }
-        Access::ReadDecision => v,
-        Access::WriteDecision => v,
+        Access::ReadMark(r) => u32::from(marks[slot(r)]),
+        Access::SetMark(r) => u32::from(mem::replace(&mut marks[slot(r)], true)),
+        _ => v,
     }
 }

@@ -8,6 +8,7 @@ ghost use Rattle.model.specs.Sound.{sound_process_as};
 use model::{Phase, Process};
 
 // A record that is not out: it is a process', with "a value above 0 and a round of at most L".
+// Kept: a call in each arm: one `let` before the `match` was slower, since records that are out make the test too (measured).
 fn held(member: bool, limit: usize, q: Process) -> bool
     ensures { result ≡ member && ltb 0 q.estimate && leb q.round limit }
 {
@@ -20,23 +21,26 @@ fn held(member: bool, limit: usize, q: Process) -> bool
 pub fn record_sound(poll: bool, window: usize, limit: usize, member: bool, q: Process) -> bool
     ensures { result ≡ (member || is_outside (status q.phase)) && sound_process_as poll window limit q }
 {
-    let phase = q.phase;
     let round = q.round;
-    match phase {
+    match q.phase {
         Phase::Idle => (q.estimate == 0) & (round <= limit) & (round == 0),
         Phase::Waiting => held(member, limit, q) & (!poll | (round < window)),
         Phase::Write => held(member, limit, q) & (1 <= round),
         Phase::Scan(k) => held(member, limit, q) & (1 <= round) & (round < k) & (k <= limit),
         Phase::Adopt(k) => held(member, limit, q) & (1 <= round) & (round <= k) & (k <= limit),
-        Phase::Compare(i) => held(member, limit, q) & (1 <= round) & (i < round) & (i < window),
-        Phase::Flag(i) => held(member, limit, q) & (1 <= round) & (i < round) & (i < window),
-        Phase::CheckMark(i) => held(member, limit, q) & (window <= round) & (i < window),
-        Phase::CheckValue(i) => held(member, limit, q) & (window <= round) & (i < window),
+        Phase::Compare(i) | Phase::Flag(i) => held(member, limit, q)
+            & (1 <= round)
+            & (i < round)
+            & (i < window),
+        Phase::CheckMark(i) | Phase::CheckValue(i) => held(member, limit, q)
+            & (window <= round)
+            & (i < window),
         Phase::Commit => held(member, limit, q) & (window <= round),
         Phase::Exhausted => held(member, limit, q) & !poll & (round == limit),
         Phase::Crashed => held(member, limit, q),
         Phase::Decided => held(member, limit, q) & !poll,
-        Phase::HasCommitted => held(member, limit, q) & poll & (round == window),
-        Phase::HasAdopted => held(member, limit, q) & poll & (round == window),
+        Phase::HasCommitted | Phase::HasAdopted => held(member, limit, q)
+            & poll
+            & (round == window),
     }
 }

@@ -12,19 +12,16 @@ pub fn status(phase: Phase) -> Status
 {
     match phase {
         Phase::Idle => Status::Outside,
-        Phase::Waiting => Status::Active,
-        Phase::Write => Status::Active,
-        Phase::Scan(_) => Status::Active,
-        Phase::Adopt(_) => Status::Active,
-        Phase::Compare(_) => Status::Active,
-        Phase::Flag(_) => Status::Active,
-        Phase::CheckMark(_) => Status::Active,
-        Phase::CheckValue(_) => Status::Active,
-        Phase::Commit => Status::Active,
+        Phase::Waiting
+        | Phase::Write
+        | Phase::Scan(_)
+        | Phase::Adopt(_)
+        | Phase::Compare(_)
+        | Phase::Flag(_)
+        | Phase::CheckMark(_)
+        | Phase::CheckValue(_)
+        | Phase::Commit => Status::Active,
         Phase::Exhausted => Status::Spent,
-        Phase::Crashed => Status::Gone,
-        Phase::Decided => Status::Gone,
-        Phase::HasCommitted => Status::Gone,
-        Phase::HasAdopted => Status::Gone,
+        Phase::Crashed | Phase::Decided | Phase::HasCommitted | Phase::HasAdopted => Status::Gone,
     }
 }

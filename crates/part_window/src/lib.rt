@@ -17,6 +17,7 @@ pub fn window(n: u8) -> usize
     let mut root: usize = 0;
     let mut square: usize = 0;
     let mut odd: usize = 1;
+    // Kept: no index is counted, and 02 names this way to the root.
     while square < end {
         square += odd;
         odd += 2;

@@ -3,41 +3,38 @@
 #![tactic(auto)]
 
 ghost use Rattle.std.specs.Prelude.{◌≡◌};
+ghost use Rattle.model_poll.specs.Answers.{told_polled_counted};
 ghost use Rattle.model_poll.specs.Public.{poll_turn};
 
-use model::{Counts, Session};
-use model_poll::{Answer, PollStepped};
+use model::{Counts, Refusal, Session};
+use model_poll::PolledAfter;
 use part_registers::{mark, value};
 
 // 02, wish 6: "Each worker walks the same steps, ending with round W": one register operation, what the process becomes by the value read,
 // and the answer that it then has. i is p wherever the call is accepted: where it is not, the tests refuse.
 #[tactic(auto, using(model_laws::specs::Sounds::sound_few))]
-pub fn turn(s: Session, p: usize, c: Counts) -> PollStepped
-    ensures { result ≡ poll_turn s p c }
+pub fn turn(s: Session, p: usize, c: Counts) -> Result<PolledAfter, Refusal>
+    ensures { told_polled_counted s c result ≡ poll_turn s p c }
 {
     let n = s.n;
     let limit = s.limit;
     let i = p % 64;
     let q = s.processes[i];
-    let phase = q.phase;
-    let own = part_refusals_counted::learn_refusal(phase, c);
-    let code = session_refusal::first_refusal(session_sound::sound_as(true, s), n, p, own);
-    let mut after = s;
-    let mut counts = c;
-    let mut answer = Answer::Pending;
-    if code == 0 {
-        let a = part_poll::access(limit, q);
-        let x = mark(value(&mut after.values, a, q.estimate), &mut after.marks, a);
-        let window = part_window::window(n as u8);
-        let left = part_poll::next(window, limit, q, x);
-        after.processes[i] = left;
-        counts = part_counts::counted(a, x, c);
-        answer = part_poll::answer(left);
-    }
-    PollStepped {
-        code: code,
-        session: after,
-        counts: counts,
-        answer: answer,
-    }
+    let own = part_refusals_counted::learn_refusal(q.phase, c);
+    session_refusal::first_refusal(session_sound::sound_as(true, s), n, p, own)?;
+    let mut session = s;
+    let a = part_poll::access(limit, q);
+    let x = mark(
+        value(&mut session.values, a, q.estimate),
+        &mut session.marks,
+        a,
+    );
+    let window = part_window::window(n as u8);
+    let left = part_poll::next(window, limit, q, x);
+    session.processes[i] = left;
+    Ok(PolledAfter {
+        session,
+        counts: part_counts::counted(a, x, c),
+        answer: part_poll::answer(left),
+    })
 }

@@ -2,37 +2,23 @@
 #![tactic(auto)]
 
 ghost use Rattle.std.specs.Prelude.{◌≡◌};
+ghost use Rattle.model.specs.Answers.{told_counted};
 ghost use Rattle.model.specs.Public.{commanded};
 ghost use Rattle.model.specs.Runner.{entry_answer};
 ghost use Rattle.model.specs.Sheet.{entry_of};
 
-use model::numbers::BAD_ENTRY;
-use model::{Changed, Counts, Entry, Session, Stepped};
+use model::{After, Counts, Entry, Refusal, Session};
 
-// The answer of a close, which leaves the counts as they are.
-fn uncounted(a: Changed, c: Counts) -> Stepped
-    ensures { result ≡ record { code = a.code; session = a.session; counts = c } }
+// 01, "Numbers returned": "each entry 13 first, then its operation's own order". A close leaves the counts as they are.
+pub fn apply(s: Session, c: Counts, kind: u8, p: u8, value: u32) -> Result<After, Refusal>
+    ensures { told_counted s c result ≡ entry_answer commanded s c (entry_of kind p value) }
 {
-    let session = a.session;
-    Stepped {
-        code: a.code,
-        session: session,
-        counts: c,
-    }
-}
-
-// 01, "Numbers returned": "each entry 13 first, then its operation's own order".
-pub fn apply(s: Session, c: Counts, kind: u8, p: u8, value: u32) -> Stepped
-    ensures { result ≡ entry_answer commanded s c (entry_of kind p value) }
-{
-    let e = part_entry::entry_of(kind, p, value);
-    match e {
+    match part_entry::entry_of(kind, p, value) {
         Entry::Acts(o) => session_operate::operate(s, c, o),
-        Entry::Closes => uncounted(session_close::close(s), c),
-        Entry::Malformed => Stepped {
-            code: BAD_ENTRY,
-            session: s,
-            counts: c,
-        },
+        Entry::Closes => {
+            let session = session_close::close(s)?;
+            Ok(After { session, counts: c })
+        }
+        Entry::Malformed => Err(Refusal::BadEntry),
     }
 }

@@ -1,4 +1,2 @@
-pub mod Counted
 pub mod Lent
 pub mod Thin
-pub mod Turns

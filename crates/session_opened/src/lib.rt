@@ -11,21 +11,18 @@ use model::{Caller, Limits, Phase, Process, Session};
 pub fn opened(n: usize, limit: usize) -> Session
     ensures { result ≡ opened_of n limit }
 {
-    let values = [0u32; 256];
-    let marks = [false; 256];
     let idle = Process {
         phase: Phase::Idle,
         round: 0,
         estimate: 0,
     };
-    let processes = [idle; 64];
     Session {
-        n: n,
-        limit: limit,
-        values: values,
-        marks: marks,
+        n,
+        limit,
+        values: [0; 256],
+        marks: [false; 256],
         decision: 0,
-        processes: processes,
+        processes: [idle; 64],
         closed: false,
     }
 }

@@ -1,26 +1,20 @@
-// The read-out of D (document 01, "Standing values"), given any session at all. Refused, the answer holds blank data.
+// The read-out of D (document 01, "Standing values"), given any session at all.
 #![tactic(auto)]
 
 ghost use Rattle.std.specs.Prelude.{◌≡◌};
+ghost use Rattle.model.specs.Answers.{told_decision};
 ghost use Rattle.model.specs.ReadOut.{decision as decision_of};
 
-use model::numbers::UNSOUND;
-use model::{DecisionAnswer, Session};
+use model::{Refusal, Session};
 
 // "Standing values": ".. or D". 3 alone.
 #[tactic(auto, unfolding(model::specs::ReadOut::decision))]
-pub fn decision(s: Session) -> DecisionAnswer
-    ensures { result ≡ decision_of s }
+pub fn decision(s: Session) -> Result<u32, Refusal>
+    ensures { told_decision result ≡ decision_of s }
 {
     if session_sound::sound(s) {
-        DecisionAnswer {
-            code: 0,
-            value: s.decision,
-        }
+        Ok(s.decision)
     } else {
-        DecisionAnswer {
-            code: UNSOUND,
-            value: 0,
-        }
+        Err(Refusal::Unsound)
     }
 }

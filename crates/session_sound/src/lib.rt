@@ -1,26 +1,21 @@
 // When a session is sound (document 01, "Numbers returned", last paragraph): the test that every public operation makes first.
 #![tactic(auto)]
 
-ghost use Rattle.std.specs.Prelude.{◌≡◌, not, ◌&&◌, length, drop, eqb};
+ghost use Rattle.std.specs.Prelude.{◌≡◌, ◌≤◌, not, ◌&&◌, length, drop, eqb};
 ghost use Rattle.model.specs.Sound.{every, sound_as as sound_as_of, sound as sound_of};
 
 use model::Session;
 use part_sound::record_sound;
 
 // 01: "registers and marks past L are blank and unmarked": those from an index on.
-#[tactic(auto, using(model_laws::specs::Passes::both_more, model_laws::specs::Passes::both_stop, model_laws::specs::Passes::both_ends))]
-fn blank_from<'a>(values: &'a [u32; 256], marks: &'a [bool; 256], from: usize) -> bool
-    requires { (length values.now ≡ 256) × (length marks.now ≡ 256) }
+fn blank_from(values: &[u32; 256], marks: &[bool; 256], from: usize) -> bool
+    requires { from ≤ 256 }
     ensures { result ≡ every (λ x. eqb x 0) (drop from values.now) && every not (drop from marks.now) }
 {
-    let mut i = from;
-    while i < 256 {
-        if !((values[i] == 0) & !marks[i]) {
-            return false;
-        }
-        i += 1;
-    }
-    true
+    values[from..]
+        .iter()
+        .zip(marks[from..].iter())
+        .all(|(value, marked)| (*value == 0) & !*marked)
 }
 
 // "A session is sound if: n is 1 to 64, L is W to 256", the registers and marks past L, and its records, in one pass. A poll, if its own
@@ -29,24 +24,20 @@ fn blank_from<'a>(values: &'a [u32; 256], marks: &'a [bool; 256], from: usize) -
 pub fn sound_as(poll: bool, s: Session) -> bool
     ensures { result ≡ sound_as_of poll s }
 {
-    let n = s.n;
-    let limit = s.limit;
+    let Session { n, limit, .. } = s;
     if !((1 <= n) & (n <= 64)) {
         return false;
     }
     let window = part_window::window(n as u8);
     let only = !poll | ((limit == window) & (s.decision == 0) & !s.closed);
     let rounds = (window <= limit) & (limit <= 256) & only;
-    if !(rounds & blank_from(&s.values, &s.marks, limit)) {
+    if !(rounds && blank_from(&s.values, &s.marks, limit)) {
         return false;
     }
-    let mut i = 0;
-    while i < 64 {
-        let q = s.processes[i];
-        if !record_sound(poll, window, limit, i < n, q) {
+    for (i, q) in s.processes.iter().enumerate() {
+        if !record_sound(poll, window, limit, i < n, *q) {
             return false;
         }
-        i += 1;
     }
     true
 }

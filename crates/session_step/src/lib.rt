@@ -3,37 +3,34 @@
 #![tactic(auto)]
 
 ghost use Rattle.std.specs.Prelude.{◌≡◌};
+ghost use Rattle.model.specs.Answers.{told_counted};
 ghost use Rattle.model.specs.Public.{step as step_of};
 
-use model::{Counts, Session, Stepped};
+use model::{After, Counts, Refusal, Session};
 use part_registers::{mark, value};
 
 // 01, "One turn at a time": a work turn, one register operation and what the process becomes by the value read. i is p
 // wherever the call is accepted: where it is not, the tests refuse.
 #[tactic(auto, using(model_laws::specs::Sounds::sound_few))]
-pub fn step(s: Session, p: usize, leader: bool, c: Counts) -> Stepped
-    ensures { result ≡ step_of s p leader c }
+pub fn step(s: Session, p: usize, leader: bool, c: Counts) -> Result<After, Refusal>
+    ensures { told_counted s c result ≡ step_of s p leader c }
 {
     let n = s.n;
     let limit = s.limit;
     let i = p % 64;
     let q = s.processes[i];
-    let phase = q.phase;
-    let own = part_refusals_counted::step_refusal(phase, c);
-    let code = session_refusal::first_refusal(session_sound::sound(s), n, p, own);
-    let mut after = s;
-    let mut counts = c;
-    if code == 0 {
-        let a = part_access::access(limit, q, leader);
-        let x = mark(value(&mut after.values, a, q.estimate), &mut after.marks, a);
-        after.decision = part_decision::decision(after.decision, a, q.estimate);
-        let window = part_window::window(n as u8);
-        after.processes[i] = part_next::next(window, limit, q, leader, x);
-        counts = part_counts::counted(a, x, c);
-    }
-    Stepped {
-        code: code,
-        session: after,
-        counts: counts,
-    }
+    let own = part_refusals_counted::step_refusal(q.phase, c);
+    session_refusal::first_refusal(session_sound::sound(s), n, p, own)?;
+    let mut session = s;
+    let a = part_access::access(limit, q, leader);
+    let x = mark(
+        value(&mut session.values, a, q.estimate),
+        &mut session.marks,
+        a,
+    );
+    session.decision = part_decision::decision(session.decision, a, q.estimate);
+    let window = part_window::window(n as u8);
+    session.processes[i] = part_next::next(window, limit, q, leader, x);
+    let counts = part_counts::counted(a, x, c);
+    Ok(After { session, counts })
 }

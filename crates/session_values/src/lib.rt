@@ -3,45 +3,34 @@
 #![tactic(auto)]
 
 ghost use Rattle.std.specs.Prelude.{◌≡◌, ◌≤◌, ◌++◌, length, take, drop};
+ghost use Rattle.model.specs.Answers.{told_count};
 ghost use Rattle.model.specs.ReadOut.{standing_answer, standing_buffer};
 
-use model::numbers::{BAD_BUFFER, UNSOUND};
-use model::{CountAnswer, Session};
+use model::{Refusal, Session};
 
 // "Standing values": "to a lent buffer .., from its first place on ..; later buffer places keep their numbers".
-#[tactic(auto, using(base::specs::Arrays::copied_more, base::specs::Arrays::copied_all))]
 fn copy(values: &[u32], count: usize, buffer: &mut [u32])
     requires { (count ≤ length values.now) × (count ≤ length buffer.old) }
     ensures { buffer.new ≡ take count values.now ++ drop count buffer.old }
 {
-    for i in 0..count {
-        buffer[i] = values[i];
-    }
+    buffer[..count].copy_from_slice(&values[..count]);
 }
 
 // "Standing values": "It returns how many". 3, then 15 "exactly when the buffer is shorter than that count", which is known before
 // the buffer is written.
 #[tactic(auto, using(model_laws::specs::Sounds::sound_low, crate::proofs::Standing::unsound, crate::proofs::Standing::short, crate::proofs::Standing::list_written))]
-pub fn standing_values(s: Session, buffer: &mut [u32]) -> CountAnswer
-    ensures answers { result ≡ standing_answer s buffer.old }
+pub fn standing_values(s: Session, buffer: &mut [u32]) -> Result<usize, Refusal>
+    ensures answers { told_count result ≡ standing_answer s buffer.old }
     ensures writes { buffer.new ≡ standing_buffer s buffer.old }
 {
     if !session_sound::sound(s) {
-        return CountAnswer {
-            code: UNSOUND,
-            count: 0,
-        };
+        return Err(Refusal::Unsound);
     }
-    let registers = s.values;
-    let limit = s.limit;
-    let listed = session_values_list::list(registers, limit);
+    let listed = session_values_list::list(s.values, s.limit);
     let count = listed.count;
     if buffer.len() < count {
-        return CountAnswer {
-            code: BAD_BUFFER,
-            count: 0,
-        };
+        return Err(Refusal::BadBuffer);
     }
     copy(&listed.values, count, buffer);
-    CountAnswer { code: 0, count }
+    Ok(count)
 }

@@ -5,17 +5,11 @@ ghost use Rattle.std.specs.Prelude.{◌≡◌, min, ◌++◌, length, drop, repl
 ghost use Rattle.model.specs.ReadOut.{values_to};
 
 // The standing values and how many they are: the first `count` of `values`; 0 behind them.
+// Kept: a `Vec` would take the heap, which this library has not.
 #[derive(Clone, Copy)]
 pub struct Listed {
     pub values: [u32; 256],
     pub count: usize,
-}
-
-// The limit, or 256 where it is more.
-fn bounded(limit: usize) -> usize
-    ensures { result ≡ min limit 256 }
-{
-    if limit < 256 { limit } else { 256 }
 }
 
 // "List each value by the first round in which it stands, lowest first"; "a value already found in an earlier round is listed only
@@ -25,20 +19,20 @@ pub fn list(registers: [u32; 256], limit: usize) -> Listed
     ensures counts { result.count ≡ length (values_to registers (min limit 256)) }
     ensures lists { result.values ≡ values_to registers (min limit 256) ++ drop result.count (replicate 256 0) }
 {
-    let last = bounded(limit);
-    let mut values = [0u32; 256];
-    let mut count: usize = 0;
-    'rounds: for r in 0..last {
-        let value = registers[r];
-        if value == 0 {
+    let last = limit.min(256);
+    let mut values = [0; 256];
+    let mut count = 0;
+    'rounds: for (r, value) in registers[..last].iter().enumerate() {
+        if *value == 0 {
             continue;
         }
-        for e in 0..r {
-            if registers[e] == value {
+        // Kept: the loops and the label are the form that document 01 names.
+        for earlier in &registers[..r] {
+            if *earlier == *value {
                 continue 'rounds;
             }
         }
-        values[count] = value;
+        values[count] = *value;
         count += 1;
     }
     Listed { values, count }

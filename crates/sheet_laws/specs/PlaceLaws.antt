@@ -1,5 +1,5 @@
 -- Document 01, "Turn sheets": the reader hands out the sheet's entries, each once and in their order.
-use Rattle.std.specs.Prelude.{◌+◌, ◌-◌, ◌*◌, ◌/◌, ◌%◌, ◌≤◌, ◌≡◌, ◌∷◌}
+use Rattle.std.specs.Prelude.{◌+◌, ◌-◌, ◌*◌, ◌/◌, ◌%◌, ◌≤◌, ◌≡◌, ◌∷◌, Some, None}
 use Rattle.base.specs.Prelude.{ℕ, suc, zero, add-one, suc-sub-suc, sub-zero, arith, refl, sym}
 use Rattle.base.specs.Prelude.{subst, ◌∙◌, true, false, true≢false, List, [], leb, leb-true, leb-false}
 use Rattle.base.specs.Bools.{cond_cases}
@@ -8,7 +8,6 @@ use Rattle.model.specs.Sheet.{run_at, run_count, runs_from, entry_at, entries_of
 use Rattle.sheet_layout.specs.Runs.{runs_none}
 use Rattle.sheet_laws.specs.Places.{Position, encode, decode, Within, has_entry, between, open_from, settled}
 use Rattle.sheet_laws.specs.Places.{passed, rest_from, begin, handed, advanced, rest, before, Inside, Proper}
-use Rattle.sheet_laws.specs.declared.Handed.TheVariants.{Next, End}
 
 -- ---- a place is a position
 
@@ -123,8 +122,8 @@ module _ (s : List ℕ) (p : ℕ) (h : Proper s p) where
       (λ e. none_left s q e ∙ rw (runs_none s q.run (run_count s) (h.last e))))
 
   -- The same by cases, for a loop that knows what was handed out.
-  pub rest_next : {e : Entry} → handed s p ≡ Next e → rest s p ≡ e ∷ rest s (advanced s p)
+  pub rest_next : {e : Entry} → handed s p ≡ Some e → rest s p ≡ e ∷ rest s (advanced s p)
   rest_next q = rest_handed ∙ rw q
 
-  pub rest_end : handed s p ≡ End → rest s p ≡ []
+  pub rest_end : handed s p ≡ None → rest s p ≡ []
   rest_end q = rest_handed ∙ rw q

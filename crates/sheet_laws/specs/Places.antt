@@ -1,11 +1,9 @@
 -- Document 01, "Turn sheets": "A reader that stays attached to the sheet's bytes and its place hands the entries out." The place is one
 -- number.
-use Rattle.std.specs.Prelude.{◌+◌, ◌-◌, ◌*◌, ◌/◌, ◌%◌, ◌≤◌, ◌<◌, ◌≡◌, ◌∷◌, ◌++◌}
+use Rattle.std.specs.Prelude.{◌+◌, ◌-◌, ◌*◌, ◌/◌, ◌%◌, ◌≤◌, ◌<◌, ◌≡◌, ◌∷◌, ◌++◌, Some, None, Option}
 use Rattle.base.specs.Prelude.{ℕ, suc, zero, Bool, false, cond, List, [], leb}
 use Rattle.model.specs.declared.Entry.{Entry}
 use Rattle.model.specs.Sheet.{EntryRun, run_at, run_count, runs_from, entry_at, entries_at, entries_of}
-use Rattle.sheet_laws.specs.declared.Handed.{Handed}
-use Rattle.sheet_laws.specs.declared.Handed.TheVariants.{Next, End}
 
 -- ---- what a place says, and how it is one number
 
@@ -63,9 +61,9 @@ rest_from s q = entries_at s q.at q.left ++ entries_of s (runs_from s q.run (run
 unfoldable pub begin : List ℕ → ℕ
 begin s = encode (settled s (between 0))
 
--- What a place hands out.
-unfoldable pub handed : List ℕ → ℕ → Handed
-handed s p = cond (has_entry (decode p)) (Next (entry_at s (decode p).at)) End
+-- What a place hands out: an entry, or none where no run has one left.
+unfoldable pub handed : List ℕ → ℕ → Option Entry
+handed s p = cond (has_entry (decode p)) (Some (entry_at s (decode p).at)) None
 
 -- The place behind the entry that this one hands out.
 unfoldable pub advanced : List ℕ → ℕ → ℕ
@@ -76,9 +74,9 @@ unfoldable pub rest : List ℕ → ℕ → List Entry
 rest s p = rest_from s (decode p)
 
 -- What was handed out, and the entries after it; none where no entry is left.
-abbrev pub before : Handed → List Entry → List Entry
-before (Next e) es = e ∷ es
-before End es = []
+abbrev pub before : Option Entry → List Entry → List Entry
+before (Some e) es = e ∷ es
+before None es = []
 
 -- 01: "ends within the sheet", which has 65,535 bytes at most: so it is with every run of an accepted sheet.
 pub record Inside (s : List ℕ) : Type 0 where

@@ -2,16 +2,9 @@
 // stand in `sheet_place`, `sheet_handed`, `sheet_reader_held`, `sheet_reader` and `sheet_run`.
 // A place, at which a reader of the entries stands, is one number: the offset of the next entry in its lowest 16 bits, how many entries of
 // the current run are left in the 14 above them, and the next run to be opened above these.
+// Kept: one number is the "entry position" of the form that document 01 names; as three numbers in a struct an entry took five
+// instructions more (docs/BENCHMARKS.md).
 #![tactic(auto)]
-
-use model::Entry;
-
-// What a place hands out: the next entry, or that none is left.
-#[derive(Clone, Copy)]
-pub enum Handed {
-    Next(Entry),
-    End,
-}
 
 // One entry left, in a place.
 pub const ENTRY: usize = 65536;

@@ -12,7 +12,6 @@ pub struct Span {
 }
 
 // The run numbered i, whatever i is: past the end of the bytes both numbers are 0.
-#[tactic(auto, using(part_bytes::specs::Beyond::word16_beyond))]
 pub fn run_at(s: &[u8], i: usize) -> Span
     ensures { IsRun s.now i result.offset result.size }
 {
@@ -20,10 +19,8 @@ pub fn run_at(s: &[u8], i: usize) -> Span
         return Span { offset: 0, size: 0 };
     }
     let at = 4 + 4 * i;
-    let offset = part_bytes::word16(s, at) as usize;
-    let size = part_bytes::word16(s, at + 2) as usize;
     Span {
-        offset: offset,
-        size: size,
+        offset: usize::from(part_bytes::word16(s, at)),
+        size: usize::from(part_bytes::word16(s, at + 2)),
     }
 }

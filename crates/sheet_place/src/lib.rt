@@ -14,15 +14,13 @@ fn open_from(s: &[u8], first: usize) -> usize
     ensures { result ≡ encode (open_from_of s.now first (run_count s.now - first)) }
 {
     let count = part_bytes::byte(s, 1) as usize;
-    let mut i = first;
-    while i < count {
+    for i in first..count {
         let run = sheet_layout::run_at(s, i);
         if 6 <= run.size {
             return run.offset + ENTRY * (run.size / 6) + RUN * (i + 1);
         }
-        i += 1;
     }
-    RUN * i
+    RUN * first.max(count)
 }
 
 // Where the reader starts.

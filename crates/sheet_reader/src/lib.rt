@@ -5,7 +5,7 @@
 ghost use Rattle.std.specs.Prelude.{◌≡◌};
 ghost use Rattle.sheet_laws.specs.Places.{begin, handed, advanced};
 
-use sheet_laws::Handed;
+use model::Entry;
 pub use sheet_laws::Reader;
 pub use sheet_reader_held::{attach, entry, moved};
 
@@ -17,7 +17,7 @@ pub fn first_place(sheet: &[u8]) -> usize
 }
 
 // What a reader at the place hands out.
-pub fn entry_at(sheet: &[u8], place: usize) -> Handed
+pub fn entry_at(sheet: &[u8], place: usize) -> Option<Entry>
     ensures { result ≡ handed sheet.now place }
 {
     sheet_reader_held::entry(Reader { sheet, place })

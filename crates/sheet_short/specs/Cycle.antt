@@ -4,7 +4,7 @@ use Rattle.base.specs.Prelude.{ℕ, suc, zero, refl, sym, ◌∙◌, List, [], m
 use Rattle.base.specs.Prelude.{Bool, true, false, not, eqb, ne_eqb, eq-eqb, true≢false, add-one}
 use Rattle.model.specs.declared.Session.{Session}
 use Rattle.model.specs.declared.Counts.{Counts}
-use Rattle.model.specs.declared.Stepped.{Stepped}
+use Rattle.model.specs.Answers.{Stepped}
 use Rattle.model_short.specs.declared.RawEntry.{RawEntry}
 use Rattle.model_short.specs.Short.{choices}
 use Rattle.model_short.specs.Calls.{none, raw_bytes, list_bytes, raw_at, raws_at}

@@ -4,7 +4,7 @@ use Rattle.base.specs.Prelude.{ℕ, refl, sym, ◌∙◌, List, length, arith}
 use Rattle.base.specs.Prelude.{true, false, ne_eqb, eq-eqb, lt-ltb, le-ltb}
 use Rattle.model.specs.declared.Session.{Session}
 use Rattle.model.specs.declared.Counts.{Counts}
-use Rattle.model.specs.declared.Stepped.{Stepped}
+use Rattle.model.specs.Answers.{Stepped}
 use Rattle.model_short.specs.declared.RawEntry.{RawEntry}
 use Rattle.model.specs.Window.{window}
 use Rattle.model.specs.Board.{opened, no_counts}

@@ -3,10 +3,11 @@
 
 ghost use Rattle.std.specs.Prelude.{◌≡◌, ◌+◌, ◌*◌, ◌≤◌, length};
 ghost use Rattle.std.proofs.lemmas.List.Edits.{sets};
+ghost use Rattle.model.specs.Answers.{told_count};
 ghost use Rattle.model.specs.Board.{limits_of};
 ghost use Rattle.model_write.specs.Write.{laid_out, pair_bytes, total, wrote, write_result};
 
-use model::{Caller, CountAnswer};
+use model::{Caller, Refusal};
 
 // The pairs of runs of these lengths, the first behind the pairs, the others without gaps, stored from byte 4 on.
 #[tactic(auto, using(model_write_laws::specs::Laid::total_taken, model_write_laws::specs::Laid::total_part, model_write_laws::specs::Laid::pairs_more))]
@@ -17,32 +18,29 @@ fn put_pairs(lengths: &[usize], sheet: &mut [u8])
         ≡ sets sheet.old 4 (pair_bytes (laid_out (4 + 4 * length lengths.now) lengths.now)) }
 {
     let mut from = 4 + 4 * lengths.len();
-    let mut i: usize = 0;
-    while i < lengths.len() {
-        let size = 6 * lengths[i];
+    for (i, m) in lengths.iter().enumerate() {
+        let size = 6 * *m;
         part_bytes_put::put16(sheet, 4 + 4 * i, from as u16);
         part_bytes_put::put16(sheet, 6 + 4 * i, size as u16);
         from += size;
-        i += 1;
     }
 }
 
 // The bytes of the entries, stored from byte `at` on.
+// Kept: a loop, for the C interface: `copy_from_slice` asks C for memmove, and the header promises memcpy and memset alone.
 #[tactic(auto, using(base::specs::Arrays::sets_more))]
 fn put_entries(entries: &[u8], at: usize, sheet: &mut [u8])
     requires { at + length entries.now ≤ length sheet.old }
     ensures { sheet.new ≡ sets sheet.old at entries.now }
 {
-    let mut i: usize = 0;
-    while i < entries.len() {
-        sheet[at + i] = entries[i];
-        i += 1;
+    for (i, byte) in entries.iter().enumerate() {
+        sheet[at + i] = *byte;
     }
 }
 
 // Writes a sheet of the given entries, cut into runs of the given lengths, from the first byte of the output on, within the caller's limits
 // (02, wish 9); answers its size. Refused, the output is as it was.
-#[tactic(auto, using(base::specs::Bools::and_right, model_laws::specs::Callers::caller_limits, model_write_laws::specs::Sizes::length_sheet_of, model_write_laws::specs::Facts::write_facts, model_write_laws::specs::Stored::sheet_stored, model_write_laws::specs::Stored::written_refused, model_write_laws::specs::Stored::written_accepted), unfolding(model_write::specs::Write::write_result))]
+#[tactic(auto, using(base::specs::Bools::and_right, model_laws::specs::Callers::caller_limits, model_write_laws::specs::Sizes::length_sheet_of, model_write_laws::specs::Facts::write_facts, model_write_laws::specs::Stored::written_refused))]
 pub fn write(
     caller: Caller,
     n: usize,
@@ -50,26 +48,16 @@ pub fn write(
     entries: &[u8],
     lengths: &[usize],
     sheet: &mut [u8],
-) -> CountAnswer
-    ensures { wrote result sheet.new
+) -> Result<usize, Refusal>
+    ensures { wrote (told_count result) sheet.new
         ≡ write_result (limits_of caller) n limit entries.now lengths.now sheet.old }
 {
-    let code = sheet_write_refusal::write_refusal(caller, n, limit, entries, lengths, sheet.len());
-    if code != 0 {
-        return CountAnswer {
-            code: code,
-            count: 0,
-        };
-    }
-    let runs = lengths.len();
-    let first = 4 + 4 * runs;
+    sheet_write_refusal::write_refusal(caller, n, limit, entries, lengths, sheet.len())?;
+    let first = 4 + 4 * lengths.len();
     sheet[0] = n as u8;
-    sheet[1] = runs as u8;
+    sheet[1] = lengths.len() as u8;
     part_bytes_put::put16(sheet, 2, limit as u16);
     put_pairs(lengths, sheet);
     put_entries(entries, first, sheet);
-    CountAnswer {
-        code: 0,
-        count: first + entries.len(),
-    }
+    Ok(first + entries.len())
 }

@@ -7,7 +7,7 @@ ghost use Rattle.model.specs.Sound.{sound, sound_poll};
 ghost use Rattle.model_poll.specs.Machine.{proposes, turns};
 ghost use Rattle.model_house.specs.Turn.{in_ward as in_ward_of, in_poll};
 
-use model::Operation;
+use model::{After, Operation};
 use model_house::View;
 
 // An operation of the ward's session.
@@ -15,15 +15,14 @@ use model_house::View;
 pub fn in_ward(v: View, o: Operation) -> View
     ensures { result ≡ cond (sound v.session) (in_ward_of v o) v }
 {
-    let session = v.session;
-    let counts = v.counts;
-    let a = session_operate::operate(session, counts, o);
-    let after = a.session;
-    let told = a.counts;
-    let mut left = v;
-    left.session = after;
-    left.counts = told;
-    left
+    match session_operate::operate(v.session, v.counts, o) {
+        Ok(After { session, counts }) => View {
+            session,
+            counts,
+            ..v
+        },
+        Err(_) => v,
+    }
 }
 
 // A proposal of w to the poll by process p.
@@ -31,12 +30,10 @@ pub fn in_ward(v: View, o: Operation) -> View
 pub fn propose_poll(v: View, p: usize, w: u32) -> View
     ensures { result ≡ cond (sound_poll v.poll) (in_poll v (proposes p w)) v }
 {
-    let poll = v.poll;
-    let a = poll_change::propose(poll, p, w);
-    let after = a.session;
-    let mut left = v;
-    left.poll = after;
-    left
+    match poll_change::propose(v.poll, p, w) {
+        Ok(poll) => View { poll, ..v },
+        Err(_) => v,
+    }
 }
 
 // A turn of the poll by process p.
@@ -44,13 +41,12 @@ pub fn propose_poll(v: View, p: usize, w: u32) -> View
 pub fn step_poll(v: View, p: usize) -> View
     ensures { result ≡ cond (sound_poll v.poll) (in_poll v (turns p)) v }
 {
-    let poll = v.poll;
-    let counts = v.counts;
-    let a = poll_turn::turn(poll, p, counts);
-    let stepped = a.session;
-    let polled = a.counts;
-    let mut left = v;
-    left.poll = stepped;
-    left.counts = polled;
-    left
+    match poll_turn::turn(v.poll, p, v.counts) {
+        Ok(after) => View {
+            poll: after.session,
+            counts: after.counts,
+            ..v
+        },
+        Err(_) => v,
+    }
 }

@@ -42,108 +42,48 @@ pub fn seat(s: Session, p: usize) -> Process
     }
 }
 
-// a - b, or 0.
-fn less(a: usize, b: usize) -> usize
-    ensures { result ≡ a - b }
-{
-    if b <= a { a - b } else { 0 }
-}
-
 // 02, wish 11: "A ward session has n - c + 1 seats".
 pub fn ward_seats(n: usize, c: usize) -> usize
     ensures { result ≡ ward_seats_of n c }
 {
-    less(n, less(c, 1))
+    n.saturating_sub(c.saturating_sub(1))
 }
 
 fn is_outside(phase: Phase) -> bool
     ensures { result ≡ is_outside_of (status_of phase) }
 {
-    match part_status::status(phase) {
-        Status::Outside => true,
-        Status::Active => false,
-        Status::Spent => false,
-        Status::Gone => false,
-    }
+    matches!(part_status::status(phase), Status::Outside)
 }
 
 fn is_active(phase: Phase) -> bool
     ensures { result ≡ is_active_of (status_of phase) }
 {
-    match part_status::status(phase) {
-        Status::Outside => false,
-        Status::Active => true,
-        Status::Spent => false,
-        Status::Gone => false,
-    }
+    matches!(part_status::status(phase), Status::Active)
 }
 
 // 02, wish 11: "an outer round not 1 to 8, a proposed worker without a value".
 pub fn numbers_sound(q: Worker) -> bool
     ensures { result ≡ numbers_sound_of q }
 {
-    let stance = q.stance;
-    (1 <= q.outer) & (q.outer <= 8) & (is_outside(phase_of(stance)) | (0 < q.value))
+    1 <= q.outer && q.outer <= 8 && (is_outside(phase_of(q.stance)) || 0 < q.value)
 }
 
 fn is_decided(phase: Phase) -> bool
     ensures { result ≡ is_decided_of phase }
 {
-    match phase {
-        Phase::Idle => false,
-        Phase::Waiting => false,
-        Phase::Write => false,
-        Phase::Scan(_) => false,
-        Phase::Adopt(_) => false,
-        Phase::Compare(_) => false,
-        Phase::Flag(_) => false,
-        Phase::CheckMark(_) => false,
-        Phase::CheckValue(_) => false,
-        Phase::Commit => false,
-        Phase::Exhausted => false,
-        Phase::Crashed => false,
-        Phase::Decided => true,
-        Phase::HasCommitted => false,
-        Phase::HasAdopted => false,
-    }
+    matches!(phase, Phase::Decided)
 }
 
 fn is_answered(q: Process) -> bool
     ensures { result ≡ is_answered_of (answer_of q) }
 {
-    match part_poll::answer(q) {
-        Answer::Pending => false,
-        Answer::Commits(_) => true,
-        Answer::Adopts(_) => true,
-    }
+    matches!(part_poll::answer(q), Answer::Commits(_) | Answer::Adopts(_))
 }
 
 fn is_committed(q: Process) -> bool
     ensures { result ≡ is_committed_of (answer_of q) }
 {
-    match part_poll::answer(q) {
-        Answer::Pending => false,
-        Answer::Commits(_) => true,
-        Answer::Adopts(_) => false,
-    }
-}
-
-#[tactic(auto, unfolding(model_house::specs::Sound::seats_fit))]
-fn place_fits(place: Place, a: Process, b: Process) -> bool
-    ensures { result ≡ seats_fit_of (Stance.Working place) a b }
-{
-    let ward = a.phase;
-    let poll = b.phase;
-    match place {
-        Place::ProposeWard => is_outside(ward),
-        Place::StepWard => is_active(ward),
-        Place::LearnWard => is_active(ward),
-        Place::WriteTable => is_decided(ward),
-        Place::ProposePoll => is_outside(poll),
-        Place::StepPoll => is_active(poll),
-        Place::ReadTable => is_answered(b),
-        Place::WriteHouse => is_committed(b),
-    }
+    matches!(part_poll::answer(q), Answer::Commits(_))
 }
 
 // 02, wish 11: "a seat not out, working, decided or answered (committed, before a house write) as a working worker's next turn needs". a is
@@ -153,10 +93,13 @@ pub fn seats_fit(stance: Stance, a: Process, b: Process) -> bool
     ensures { result ≡ seats_fit_of stance a b }
 {
     match stance {
-        Stance::Idle => true,
-        Stance::Working(place) => place_fits(place, a, b),
-        Stance::Exhausted => true,
-        Stance::Crashed => true,
-        Stance::Decided => true,
+        Stance::Working(Place::ProposeWard) => is_outside(a.phase),
+        Stance::Working(Place::StepWard | Place::LearnWard) => is_active(a.phase),
+        Stance::Working(Place::WriteTable) => is_decided(a.phase),
+        Stance::Working(Place::ProposePoll) => is_outside(b.phase),
+        Stance::Working(Place::StepPoll) => is_active(b.phase),
+        Stance::Working(Place::ReadTable) => is_answered(b),
+        Stance::Working(Place::WriteHouse) => is_committed(b),
+        Stance::Idle | Stance::Exhausted | Stance::Crashed | Stance::Decided => true,
     }
 }

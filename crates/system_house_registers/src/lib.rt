@@ -13,6 +13,7 @@ use model_house::{Place, Stance, Table, View, Worker};
 use model_poll::Answer;
 use part_counts::{counted, full};
 use system_house_parts::seat;
+use system_house_table::{entry, written};
 
 // "Either way the next outer round follows"; "a worker becomes spent in the turn that ends outer round 8".
 fn round_over(outer: usize, value: u32) -> Worker
@@ -22,13 +23,13 @@ fn round_over(outer: usize, value: u32) -> Worker
         return Worker {
             stance: Stance::Working(Place::ProposeWard),
             outer: outer + 1,
-            value: value,
+            value,
         };
     }
     Worker {
         stance: Stance::Exhausted,
-        outer: outer,
-        value: value,
+        outer,
+        value,
     }
 }
 
@@ -36,7 +37,7 @@ fn round_over(outer: usize, value: u32) -> Worker
 fn value_read(t: Table, q: Worker, u: u32) -> u32
     ensures { result ≡ taken (table_at t q.outer u) q.value }
 {
-    let x = system_house_table::entry(t, q.outer, u as usize);
+    let x = entry(t, q.outer, u as usize);
     if x == 0 { q.value } else { x }
 }
 
@@ -46,18 +47,12 @@ fn after_read(t: Table, q: Worker, seat: Process) -> Worker
 {
     match part_poll::answer(seat) {
         Answer::Pending => q,
-        Answer::Commits(u) => {
-            let committed = value_read(t, q, u);
-            Worker {
-                stance: Stance::Working(Place::WriteHouse),
-                outer: q.outer,
-                value: committed,
-            }
-        }
-        Answer::Adopts(u) => {
-            let adopted = value_read(t, q, u);
-            round_over(q.outer, adopted)
-        }
+        Answer::Commits(u) => Worker {
+            stance: Stance::Working(Place::WriteHouse),
+            value: value_read(t, q, u),
+            ..q
+        },
+        Answer::Adopts(u) => round_over(q.outer, value_read(t, q, u)),
     }
 }
 
@@ -66,24 +61,20 @@ fn after_read(t: Table, q: Worker, seat: Process) -> Worker
 pub fn write_table(v: View, w: usize, s: usize) -> View
     ensures { (p : ℕ) (hint : Bool) → result ≡ cond (full_of v.counts) v (turn_at p w s hint Place.WriteTable v) }
 {
-    let counts = v.counts;
-    if full(counts) {
+    if full(v.counts) {
         return v;
     }
-    let session = v.session;
-    let decided = seat(session, s);
+    let decided = seat(v.session, s);
     let q = v.worker;
-    let t = v.table;
-    let worker = Worker {
-        stance: Stance::Working(Place::ProposePoll),
-        outer: q.outer,
-        value: q.value,
-    };
-    let mut left = v;
-    left.table = system_house_table::written(t, q.outer, w, decided.estimate);
-    left.worker = worker;
-    left.counts = counted(Access::WriteDecision, 0, counts);
-    left
+    View {
+        table: written(v.table, q.outer, w, decided.estimate),
+        worker: Worker {
+            stance: Stance::Working(Place::ProposePoll),
+            ..q
+        },
+        counts: counted(Access::WriteDecision, 0, v.counts),
+        ..v
+    }
 }
 
 // It "reads the table at the answer's ward": the answer of its poll seat p.
@@ -91,17 +82,14 @@ pub fn write_table(v: View, w: usize, s: usize) -> View
 pub fn read_table(v: View, p: usize) -> View
     ensures { (w s : ℕ) (hint : Bool) → result ≡ cond (full_of v.counts) v (turn_at p w s hint Place.ReadTable v) }
 {
-    let counts = v.counts;
-    if full(counts) {
+    if full(v.counts) {
         return v;
     }
-    let poll = v.poll;
-    let q = v.worker;
-    let t = v.table;
-    let mut left = v;
-    left.worker = after_read(t, q, seat(poll, p));
-    left.counts = counted(Access::ReadDecision, 0, counts);
-    left
+    View {
+        worker: after_read(v.table, v.worker, seat(v.poll, p)),
+        counts: counted(Access::ReadDecision, 0, v.counts),
+        ..v
+    }
 }
 
 // It "writes the house's own decision register": its value.
@@ -109,14 +97,14 @@ pub fn read_table(v: View, p: usize) -> View
 pub fn write_house(v: View) -> View
     ensures { (p w s : ℕ) (hint : Bool) → result ≡ cond (full_of v.counts) v (turn_at p w s hint Place.WriteHouse v) }
 {
-    let counts = v.counts;
-    if full(counts) {
+    if full(v.counts) {
         return v;
     }
     let q = v.worker;
-    let mut left = v;
-    left.decision = q.value;
-    left.worker = round_over(q.outer, q.value);
-    left.counts = counted(Access::WriteDecision, 0, counts);
-    left
+    View {
+        decision: q.value,
+        worker: round_over(q.outer, q.value),
+        counts: counted(Access::WriteDecision, 0, v.counts),
+        ..v
+    }
 }

@@ -8,6 +8,8 @@ ghost use Rattle.model_house_laws.specs.Views.{view_fits};
 
 use model::{Operation, Process, Status};
 use model_house::{Place, Stance, View, Worker};
+use part_counts::full;
+use part_status::status;
 use session_sound::sound_as;
 use system_house_boards::{in_ward, propose_poll, step_poll};
 use system_house_parts::{seat, seats_fit};
@@ -17,12 +19,9 @@ use system_house_registers::{read_table, write_house, write_table};
 fn after_step(q: Process) -> Stance
     ensures { result ≡ after_step_of q }
 {
-    let phase = q.phase;
-    match part_status::status(phase) {
-        Status::Outside => Stance::Working(Place::LearnWard),
-        Status::Active => Stance::Working(Place::LearnWard),
+    match status(q.phase) {
         Status::Spent => Stance::Exhausted,
-        Status::Gone => Stance::Working(Place::LearnWard),
+        Status::Outside | Status::Active | Status::Gone => Stance::Working(Place::LearnWard),
     }
 }
 
@@ -54,15 +53,10 @@ fn after_poll(q: Process) -> Stance
 fn stands(v: View, stance: Stance) -> View
     ensures { result ≡ stands_of v stance }
 {
-    let q = v.worker;
-    let worker = Worker {
-        stance: stance,
-        outer: q.outer,
-        value: q.value,
-    };
-    let mut left = v;
-    left.worker = worker;
-    left
+    View {
+        worker: Worker { stance, ..v.worker },
+        ..v
+    }
 }
 
 // The turn at each place, clause by clause as `turn_at` has it.
@@ -72,20 +66,18 @@ fn turn_at(v: View, p: usize, w: u8, s: usize, hint: bool, place: Place) -> View
 {
     match place {
         Place::ProposeWard => {
-            let q = v.worker;
-            let b = in_ward(v, Operation::Propose(s, q.value));
+            let b = in_ward(v, Operation::Propose(s, v.worker.value));
             stands(b, Stance::Working(Place::StepWard))
         }
         Place::StepWard => {
             let b = in_ward(v, Operation::Step(s, hint));
-            let session = b.session;
-            stands(b, after_step(seat(session, s)))
+            stands(b, after_step(seat(b.session, s)))
         }
         Place::LearnWard => {
             let b = in_ward(v, Operation::Learn(s));
-            let session = b.session;
-            stands(b, after_learn(seat(session, s)))
+            stands(b, after_learn(seat(b.session, s)))
         }
+        // Kept: `as`, here and below, loses no bit by proof; with `From` the answers of two arms no longer closed.
         Place::WriteTable => write_table(v, w as usize, s),
         Place::ProposePoll => stands(
             propose_poll(v, p, w as u32),
@@ -93,8 +85,7 @@ fn turn_at(v: View, p: usize, w: u8, s: usize, hint: bool, place: Place) -> View
         ),
         Place::StepPoll => {
             let b = step_poll(v, p);
-            let poll = b.poll;
-            stands(b, after_poll(seat(poll, p)))
+            stands(b, after_poll(seat(b.poll, p)))
         }
         Place::ReadTable => read_table(v, p),
         Place::WriteHouse => write_house(v),
@@ -106,10 +97,7 @@ fn turn_at(v: View, p: usize, w: u8, s: usize, hint: bool, place: Place) -> View
 fn fits(v: View) -> bool
     ensures { result ≡ view_fits v }
 {
-    let session = v.session;
-    let poll = v.poll;
-    let counts = v.counts;
-    sound_as(false, session) & sound_as(true, poll) & !part_counts::full(counts)
+    sound_as(false, v.session) && sound_as(true, v.poll) && !full(v.counts)
 }
 
 // The turn of worker p, of ward w, whose seat in its ward's session is s. A worker that does not work takes none; a view that does not fit
@@ -121,13 +109,8 @@ pub fn turn_view(v: View, p: usize, w: u8, s: usize, hint: bool) -> View
     if !fits(v) {
         return v;
     }
-    let q = v.worker;
-    let stance = q.stance;
-    match stance {
-        Stance::Idle => v,
+    match v.worker.stance {
         Stance::Working(place) => turn_at(v, p, w, s, hint, place),
-        Stance::Exhausted => v,
-        Stance::Crashed => v,
-        Stance::Decided => v,
+        Stance::Idle | Stance::Exhausted | Stance::Crashed | Stance::Decided => v,
     }
 }

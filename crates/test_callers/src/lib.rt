@@ -11,6 +11,7 @@ ghost use Rattle.model_report.specs.ReportExport.{text_code, text_buffer};
 ghost use Rattle.model_write.specs.WriteExport.{export_of, write_export};
 ghost use Rattle.test_caller_byte.specs.Named.{caller_of as caller_for};
 
+use model::code;
 use test_caller_byte::caller_of;
 
 // Opens a session: the number.
@@ -18,7 +19,7 @@ use test_caller_byte::caller_of;
 pub extern "C" fn caller_open(caller: u8, n: usize, limit: usize) -> u32
     ensures { result ≡ (opening (caller_for caller) n limit).code }
 {
-    session_open::open(caller_of(caller), n, limit).code
+    code(&session_open::open(caller_of(caller), n, limit))
 }
 
 // Opens a poll: the number.
@@ -26,7 +27,7 @@ pub extern "C" fn caller_open(caller: u8, n: usize, limit: usize) -> u32
 pub extern "C" fn caller_open_poll(caller: u8, n: usize) -> u32
     ensures { result ≡ (poll_opening (caller_for caller) n).code }
 {
-    poll_open::open(caller_of(caller), n).code
+    code(&poll_open::open(caller_of(caller), n))
 }
 
 // Runs a sheet under a budget, and writes the report's text of that run to the buffer, as `janus_report` does.
@@ -36,7 +37,8 @@ pub extern "C" fn caller_report(caller: u8, sheet: &[u8], budget: usize, buffer:
     ensures writes { buffer.new
         ≡ text_buffer (report_of (run_of (caller_for caller) sheet.now budget)) buffer.old }
 {
-    janus_report::put_report(sheet_run::run(caller_of(caller), sheet, budget), buffer)
+    let ran = sheet_run::run(caller_of(caller), sheet, budget);
+    janus_report::size_or_number(janus_report::put_report(&ran, buffer))
 }
 
 // Writes a sheet, as `janus_write` does.
@@ -53,5 +55,5 @@ pub extern "C" fn caller_write(
     ensures { export_of result sheet.new size.new
         ≡ write_export (caller_for caller) n limit entries.now lengths.now sheet.old size.old }
 {
-    janus_written::write(caller_of(caller), n, limit, entries, lengths, sheet, size)
+    code(&janus_written::write(caller_of(caller), n, limit, entries, lengths, sheet, size))
 }

@@ -1,18 +1,9 @@
 // Fields of a house and counts that are set to v, as only a test may do: so a house can be damaged. reference/src/houses.rs lists the
 // kinds.
-use model::{Counts, Phase, Process, Session};
-use model_house::{House, Place, Stance, Table, Worker};
+use model::{Phase, Process, Session};
+use model_house::{HouseAfter, Place, Stance};
 
-// The k-th of the four bytes of v, the lowest being byte 0.
-fn part(v: u32, k: u32) -> u32 {
-    match k {
-        0 => v % 256,
-        1 => (v / 256) % 256,
-        2 => (v / 65536) % 256,
-        _ => v / 16777216,
-    }
-}
-
+// Kept: functions here and below, since an impl of From must stand beside the type, and the numbers are this test's own: no plainer.
 fn stance_of(v: u32) -> Stance {
     match v {
         0 => Stance::Idle,
@@ -30,29 +21,7 @@ fn stance_of(v: u32) -> Stance {
     }
 }
 
-fn worker(q: Worker, kind: u8, v: u32) -> Worker {
-    let mut stance = q.stance;
-    let mut outer = q.outer;
-    let mut value = q.value;
-    match kind {
-        131 => {
-            outer = v as usize;
-        }
-        132 => {
-            value = v;
-        }
-        _ => {
-            stance = stance_of(v);
-        }
-    }
-    Worker {
-        stance: stance,
-        outer: outer,
-        value: value,
-    }
-}
-
-fn session_phase(k: u32) -> Phase {
+fn session_phase(k: u8) -> Phase {
     match k {
         0 => Phase::Idle,
         1 => Phase::Waiting,
@@ -62,7 +31,7 @@ fn session_phase(k: u32) -> Phase {
     }
 }
 
-fn poll_phase(k: u32) -> Phase {
+fn poll_phase(k: u8) -> Phase {
     match k {
         0 => Phase::Idle,
         1 => Phase::Waiting,
@@ -73,99 +42,44 @@ fn poll_phase(k: u32) -> Phase {
     }
 }
 
-// The record of a phase, with the round and the estimate that v tells.
-fn record(phase: Phase, v: u32) -> Process {
-    Process {
-        phase: phase,
-        round: part(v, 1) as usize,
-        estimate: part(v, 0),
+// Of a session or a poll, whose phases are told by numbers of their own.
+// Kept: a `match` on the kind, here and below: it comes from the input, and a closure for each would be no plainer.
+fn set_board<F: Fn(u8) -> Phase>(board: &mut Session, kind: u8, v: u32, phase_of: F)
+    requires { F.IsAlwaysCallable phase_of }
+{
+    let [estimate, round, phase, place] = v.to_le_bytes();
+    match kind {
+        134 | 139 => board.n = v as usize,
+        135 | 140 => board.limit = v as usize,
+        136 | 141 => board.closed = v != 0,
+        137 | 142 => board.values[place as usize] = v % 16777216,
+        138 | 143 => {
+            board.processes[place as usize % 64] = Process {
+                phase: phase_of(phase),
+                round: round as usize,
+                estimate: estimate as u32,
+            };
+        }
+        _ => board.decision = v,
     }
 }
 
-// A session or a poll.
-fn board(s: Session, kind: u8, v: u32) -> Session {
-    let mut after = s;
-    let place = part(v, 3) as usize;
+pub(crate) fn set(left: &mut HouseAfter, kind: u8, a: usize, v: u32) {
+    let house = &mut left.house;
     match kind {
-        134 | 139 => {
-            after.n = v as usize;
-        }
-        135 | 140 => {
-            after.limit = v as usize;
-        }
-        136 | 141 => {
-            after.closed = v != 0;
-        }
-        137 | 142 => {
-            after.values[place % 256] = v % 16777216;
-        }
-        138 => {
-            after.processes[place % 64] = record(session_phase(part(v, 2)), v);
-        }
-        143 => {
-            after.processes[place % 64] = record(poll_phase(part(v, 2)), v);
-        }
-        _ => {
-            after.decision = v;
-        }
-    }
-    after
-}
-
-fn entry(t: Table, a: usize, v: u32) -> Table {
-    let o = (a / 4) % 8;
-    let mut row = t.rows[o];
-    row.entries[a % 4] = v;
-    let mut after = t;
-    after.rows[o] = row;
-    after
-}
-
-pub(crate) fn set(h: House, kind: u8, a: usize, v: u32) -> House {
-    let mut after = h;
-    match kind {
-        128 => {
-            after.n = v as usize;
-        }
-        129 => {
-            after.c = v as usize;
-        }
-        130 => {
-            after.wards[a % 16] = (v % 256) as u8;
-        }
-        131..=133 => {
-            after.workers[a % 16] = worker(h.workers[a % 16], kind, v);
-        }
-        134..=138 | 149 => {
-            after.sessions[a % 32] = board(h.sessions[a % 32], kind, v);
-        }
-        139..=143 | 150 => {
-            after.polls[a % 8] = board(h.polls[a % 8], kind, v);
-        }
-        144 => {
-            after.table = entry(h.table, a, v);
-        }
-        145 => {
-            after.decision = v;
-        }
+        128 => house.n = v as usize,
+        129 => house.c = v as usize,
+        130 => house.wards[a % 16] = v.to_le_bytes()[0],
+        131 => house.workers[a % 16].outer = v as usize,
+        132 => house.workers[a % 16].value = v,
+        133 => house.workers[a % 16].stance = stance_of(v),
+        134..=138 | 149 => set_board(&mut house.sessions[a % 32], kind, v, session_phase),
+        139..=143 | 150 => set_board(&mut house.polls[a % 8], kind, v, poll_phase),
+        144 => house.table[a / 4 % 8][a % 4] = v,
+        145 => house.decision = v,
+        146 => left.counts.reads = v,
+        147 => left.counts.writes = v,
+        148 => left.counts.contested = v,
         _ => {}
     }
-    after
-}
-
-pub(crate) fn count(c: Counts, kind: u8, v: u32) -> Counts {
-    let mut after = c;
-    match kind {
-        146 => {
-            after.reads = v;
-        }
-        147 => {
-            after.writes = v;
-        }
-        148 => {
-            after.contested = v;
-        }
-        _ => {}
-    }
-    after
 }

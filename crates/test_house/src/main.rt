@@ -6,141 +6,68 @@
 // lines.
 #![tactic(auto)]
 
-ghost use Rattle.std.specs.Prelude.{◌≤◌, ◌<◌};
+ghost use Rattle.std.specs.Prelude.{◌<◌, length};
 
-use model::Counts;
-use model_house::{House, HouseChanged, HouseStepped};
-use part_bytes::byte;
+use call::Call;
+use model::{Counts, code};
+use model_house::{House, HouseAfter};
 use std::io::Print;
-use use_input::Input;
 
+mod call;
 mod fields;
-mod show;
+mod shown;
 
-// The answer of a call that leaves the counts.
-fn uncounted(r: HouseChanged, c: Counts) -> HouseStepped {
-    let house = r.house;
-    HouseStepped {
-        code: r.code,
-        house: house,
-        counts: c,
-    }
-}
-
-fn propose(rt: &impl Print, h: House, c: Counts, p: u8, v: u32) -> HouseStepped {
-    let r = system_house_change::propose(h, p as usize, v);
-    show::line(rt, b"propose", p as u64, v as u64);
-    show::number(rt, r.code as u64);
-    uncounted(r, c)
-}
-
-fn turn(rt: &impl Print, h: House, c: Counts, p: u8, hint: bool) -> HouseStepped {
-    let r = system_house_turn::turn(h, p as usize, hint, c);
-    let hinted: u64 = if hint { 1 } else { 0 };
-    show::line(rt, b"turn", p as u64, hinted);
-    show::number(rt, r.code as u64);
-    r
-}
-
-fn crash(rt: &impl Print, h: House, c: Counts, p: u8) -> HouseStepped {
-    let r = system_house_change::crash(h, p as usize);
-    show::line(rt, b"crash", p as u64, r.code as u64);
-    uncounted(r, c)
-}
-
-fn look(rt: &impl Print, h: House, c: Counts, p: u8) -> HouseStepped {
-    let r = system_house_change::learn(h, p as usize, c);
-    show::line(rt, b"look", p as u64, r.code as u64);
-    r
-}
-
-fn set(rt: &impl Print, h: House, c: Counts, kind: u8, a: u8, v: u32) -> HouseStepped {
-    show::line(rt, b"set", kind as u64, a as u64);
-    show::number(rt, v as u64);
-    HouseStepped {
-        code: 0,
-        house: fields::set(h, kind, a as usize, v),
-        counts: fields::count(c, kind, v),
-    }
-}
-
-// One operation, and its line.
-fn operation(rt: &impl Print, h: House, c: Counts, kind: u8, a: u8, v: u32) -> HouseStepped {
-    let r = match kind {
-        0 => propose(rt, h, c, a, v),
-        1 => turn(rt, h, c, a, v != 0),
-        2 => crash(rt, h, c, a),
-        3 => look(rt, h, c, a),
-        _ => set(rt, h, c, kind, a, v),
+// One operation, and its line. What cannot be written is lost, here and below: a test compares what was.
+fn operation(rt: &impl Print, call: Call, left: &mut HouseAfter) {
+    let code = code(&call.carry_out(left));
+    let _ = match call {
+        Call::Set(..) => println!(rt; "{call}"),
+        _ => println!(rt; "{call} {code}"),
     };
-    show::word(rt, b"\n");
-    r
 }
 
-// How many operations of six bytes the input has from a byte on.
-fn whole(bytes: &[u8], from: usize) -> usize {
-    let n = bytes.len();
-    if from < n { (n - from) / 6 } else { 0 }
-}
-
-// As many operations as are told, or as the input has whole.
-fn operations(rt: &impl Print, bytes: &[u8], from: usize, told: usize, opened: House)
-    requires { (from ≤ 65795) × (told ≤ 65535) }
-{
-    let mut h = opened;
-    let mut c = Counts {
-        reads: 0,
-        writes: 0,
-        contested: 0,
+// The operations, as far as the input has them whole; then the end.
+fn operations(rt: &impl Print, calls: &[u8], opened: House) {
+    let mut left = HouseAfter {
+        house: opened,
+        counts: Counts::default(),
     };
-    let count = show::least(whole(bytes, from), told);
-    for i in 0..count {
-        let at = from + 6 * i;
-        let r = operation(
-            rt,
-            h,
-            c,
-            byte(bytes, at),
-            byte(bytes, at + 1),
-            part_bytes::word32(bytes, at + 2),
-        );
-        h = r.house;
-        c = r.counts;
+    let (whole, _) = calls.as_chunks::<6>();
+    for entry in whole {
+        operation(rt, Call::from(*entry), &mut left);
     }
-    show::end(rt, h, c);
+    shown::end(rt, &left);
 }
 
-// The house at a byte, with the wards that the input has; the byte after it.
-fn house(rt: &impl Print, bytes: &[u8], at: usize) -> usize
-    requires { at < 65536 }
-    ensures { at < result }
+// The first house of the bytes, with the wards that the input has; the bytes after it.
+fn house<'a>(rt: &impl Print, bytes: &'a [u8]) -> &'a [u8]
+    requires { 0 < length bytes.now }
+    ensures { length result.now < length bytes.now }
 {
-    let c = byte(bytes, at);
-    let told = byte(bytes, at + 1) as usize;
-    let start = show::least(at + 2, bytes.len());
-    let n = show::least(told, bytes.len() - start);
-    let end = start + n;
-    let wards = &bytes[start..end];
+    let c = bytes[0];
+    let told = part_bytes::byte(bytes, 1) as usize;
+    let after = &bytes[bytes.len().min(2)..];
+    let (wards, after) = after.split_at(after.len().min(told));
+    let count = part_bytes::word16(after, 0) as usize;
+    let after = &after[after.len().min(2)..];
+    let (calls, rest) = after.split_at(after.len().min(6 * count));
+    let n = wards.len();
     let opened = system_house_open::open(c as usize, wards);
-    show::line(rt, b"house", c as u64, n as u64);
-    show::number(rt, opened.code as u64);
-    show::word(rt, b"\n");
-    let from = at + 2 + told;
-    let count = part_bytes::word16(bytes, from) as usize;
-    if opened.code == 0 {
-        operations(rt, bytes, from + 2, count, opened.house);
+    let _ = println!(rt; "house {c} {n} {}", code(&opened));
+    if let Ok(opened) = opened {
+        operations(rt, calls, opened);
     }
-    from + 2 + 6 * count
+    rest
 }
 
 fn main(rt: HostRuntime) {
     let mut input = [0u8; 65536];
-    let Input::Bytes(n) = use_input::read(&rt, b"test_house", &mut input) else {
+    let Ok(n) = use_input::read(&rt, b"test_house", &mut input) else {
         return;
     };
-    let bytes = &input[..n];
-    let mut at: usize = 0;
-    while at < n {
-        at = house(&rt, bytes, at);
+    let mut rest = &input[..n];
+    // Kept: each house takes its bytes off the rest, which no iterator of chunks does, since houses differ in length.
+    while !rest.is_empty() {
+        rest = house(&rt, rest);
     }
 }

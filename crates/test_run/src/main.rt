@@ -4,94 +4,71 @@
 // contested writes; then the read-out's number, its count, and the numbers in the buffer's places after it.
 #![tactic(auto)]
 
-ghost use Rattle.std.specs.Prelude.{◌≡◌, ◌≤◌};
+ghost use Rattle.std.specs.Prelude.{◌≡◌};
+ghost use Rattle.model.specs.Answers.{told_run};
 ghost use Rattle.model.specs.Export.{ending_code};
 
-use model::numbers::BUDGET_ENDED;
-use model::{Ending, Session};
+use model::{Counts, Refusal, Run, code};
 use std::io::Print;
-use use_input::Input;
 
 // "0 for finished, 100 for budget ended, or the refusal."
-fn code(ending: Ending) -> u32
-    ensures { result ≡ ending_code ending }
+fn ending(ran: &Result<Run, Refusal>) -> u32
+    ensures { result ≡ ending_code (told_run ran.now).ending }
 {
-    match ending {
-        Ending::Finished => 0,
-        Ending::Refused(code, _) => code,
-        Ending::BudgetEnded => BUDGET_ENDED,
-        Ending::Rejected(code) => code,
+    match ran {
+        Ok(run) => run.ended.number(),
+        Err(refusal) => refusal.number(),
     }
 }
 
-// What cannot be written is lost, here and below: a test compares what was.
-fn write(rt: &impl Print, text: &[u8]) {
-    let _ = rt.write_all(text);
-}
-
-// A number of the line, and what stands behind it.
-fn print(rt: &impl Print, n: u64, behind: &[u8]) {
-    let _ = rt.print(n);
-    write(rt, behind);
-}
-
-// A number behind a blank.
-fn print_next(rt: &impl Print, n: u32) {
-    write(rt, b" ");
-    let _ = rt.print(n);
-}
-
-fn print_numbers(rt: &impl Print, numbers: &[u32]) {
-    for i in 0..numbers.len() {
-        print_next(rt, numbers[i]);
+// A line with the number of the read-out, its count and the numbers in the buffer.
+fn print_standing(rt: &impl Print, standing: Result<usize, Refusal>, buffer: &[u32]) {
+    let _ = print!(rt; "{} {}", code(&standing), standing.unwrap_or(0));
+    for number in buffer {
+        let _ = print!(rt; " {number}");
     }
+    let _ = println!(rt);
 }
 
-// So many places are lent of a buffer of 256.
-fn places(asked: usize) -> usize
-    ensures { result ≤ 256 }
-{
-    if asked < 256 { asked } else { 256 }
-}
-
-// The standing values, written to the first places of a buffer full of one number, which shows the places left alone.
-fn print_standing(rt: &impl Print, s: Session, asked: usize) {
-    let mut buffer = [4294967295u32; 256];
-    let n = places(asked);
-    let lent = &mut buffer[..n];
-    let answer = session_values::standing_values(s, lent);
-    print(rt, answer.code as u64, b" ");
-    print(rt, answer.count as u64, b"");
-    print_numbers(rt, lent);
-    write(rt, b"\n");
-}
-
-// The sheet run as the first seven bytes of the input say, and its two lines.
-fn print_run(rt: &impl Print, bytes: &[u8; 7], sheet: &[u8]) {
-    let caller = test_caller_byte::caller_of(bytes[0]);
-    let budget = part_bytes::word32(bytes, 1) as usize;
-    let asked = part_bytes::word16(bytes, 5) as usize;
+// The sheet run as the first seven bytes of the input say, and its two lines. What cannot be written is lost, here and above: a test
+// compares what was.
+fn print_run(rt: &impl Print, told: [u8; 7], sheet: &[u8]) {
+    let [caller, a, b, c, d, low, high] = told;
+    let caller = test_caller_byte::caller_of(caller);
+    let budget = u32::from_le_bytes([a, b, c, d]) as usize;
+    let places = u16::from_le_bytes([low, high]) as usize;
     let ran = sheet_run::run(caller, sheet, budget);
-    let ending = ran.ending;
-    let counts = ran.counts;
-    print(rt, code(ending) as u64, b" ");
-    print(rt, ran.carried as u64, b" ");
-    print(rt, counts.reads as u64, b" ");
-    print(rt, counts.writes as u64, b" ");
-    print(rt, counts.contested as u64, b"\n");
-    let left = ran.session;
-    print_standing(rt, left, asked);
+    let (carried, counts) = match ran {
+        Ok(run) => (run.carried, run.counts),
+        Err(_) => (0, Counts::default()),
+    };
+    let _ = println!(rt;
+        "{} {carried} {} {} {}",
+        ending(&ran),
+        counts.reads,
+        counts.writes,
+        counts.contested
+    );
+    // So many places are lent of a buffer full of one number, which shows the places left alone.
+    let mut buffer = [u32::MAX; 256];
+    let lent = &mut buffer[..places.min(256)];
+    // A refused sheet makes no session, and one of no process is not sound.
+    let standing = match ran {
+        Ok(run) => session_values::standing_values(run.session, lent),
+        Err(_) => Err(Refusal::Unsound),
+    };
+    print_standing(rt, standing, lent);
 }
 
 fn main(rt: HostRuntime) {
-    let mut bytes = [0u8; 7];
-    let Input::Bytes(_) = use_input::read(&rt, b"test_run", &mut bytes) else {
+    let mut told = [0u8; 7];
+    let Ok(_) = use_input::read(&rt, b"test_run", &mut told) else {
         return;
     };
     // A sheet of 65,535 bytes is the longest; one more that is read shows that it is longer.
     let mut sheet = [0u8; 65536];
-    let Input::Bytes(n) = use_input::read(&rt, b"test_run", &mut sheet) else {
+    let Ok(n) = use_input::read(&rt, b"test_run", &mut sheet) else {
         return;
     };
-    print_run(&rt, &bytes, &sheet[..n]);
+    print_run(&rt, told, &sheet[..n]);
 }

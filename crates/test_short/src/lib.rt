@@ -4,12 +4,14 @@
 ghost use Rattle.std.specs.Prelude.{◌≡◌};
 ghost use Rattle.model_short.specs.Calls.{listed, first_result, next_result};
 
+use model::code;
+
 // Writes the first legal list to the buffer: `sheet_short::first`.
 #[unsafe(no_mangle)]
 pub extern "C" fn short_first(n: usize, length: usize, buffer: &mut [u8]) -> u32
     ensures { listed result buffer.new ≡ first_result n length buffer.old }
 {
-    sheet_short::first(n, length, buffer)
+    code(&sheet_short::first(n, length, buffer))
 }
 
 // Writes the next legal list over the one in the buffer: `sheet_short::next`.
@@ -17,5 +19,5 @@ pub extern "C" fn short_first(n: usize, length: usize, buffer: &mut [u8]) -> u32
 pub extern "C" fn short_next(n: usize, length: usize, buffer: &mut [u8]) -> u32
     ensures { listed result buffer.new ≡ next_result n length buffer.old }
 {
-    sheet_short::next(n, length, buffer)
+    code(&sheet_short::next(n, length, buffer))
 }

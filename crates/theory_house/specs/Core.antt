@@ -24,7 +24,7 @@ past_at g i = get_or g i []
 
 -- The table's entry of round o and ward j.
 abbrev pub cell : Table → (o j : ℕ) → ℕ
-cell t o j = get_or (get_or t.rows o no_row).entries j 0
+cell t o j = get_or (get_or t o no_row) j 0
 
 abbrev pub Filled : ℕ → Type 0
 Filled v = v ≡ 0 → ⊥
@@ -66,8 +66,8 @@ boards_lawful {k = k} {size = size} {g = g} b i =
 pub record Known (n c : ℕ) (sessions polls : List Session) (d : ℕ) (g : List (List Event)) (m : Memory) : Type 0 where
   pub wards : Boards false (ward_seats n c) ward_rounds 32 sessions g
   pub votes : Boards true n (window n) 8 polls m.polls
-  pub rows : length m.table.rows ≡ 8
-  pub columns : (o : ℕ) → o < 8 → length (get_or m.table.rows o no_row).entries ≡ 4
+  pub rows : length m.table ≡ 8
+  pub columns : (o : ℕ) → o < 8 → length (get_or m.table o no_row) ≡ 4
   -- an entry was committed in its ward's session
   pub table : (o j : ℕ) → Filled (cell m.table o j) → (o < 8) × IsCommitted (cell m.table o j) (past_at g (8 * j + o))
   -- a number proposed to a poll is a ward, with an entry

@@ -14,7 +14,7 @@ use Rattle.theory_board.specs.Reached.{Reached, opened_session}
 use Rattle.theory_poll.specs.Machine.{opened_poll}
 use Rattle.model_house.specs.House.{no_session, no_worker, no_row, opened_house, ward_seats, worker, ward_rounds, seat_of}
 use Rattle.model_house.specs.Sound.{seats_fit}
-use Rattle.theory_house.specs.Types.{Idle, Worker, Row}
+use Rattle.theory_house.specs.Types.{Idle, Worker}
 use Rattle.theory_house.specs.Core.{past_at, Boards}
 use Rattle.theory_house.specs.Invariant.{Numbers, ward_seat, poll_seat, Out, Held}
 
@@ -46,7 +46,7 @@ opened_held c ws k =
     let n = length ws in
     let seats = ward_seats n c in
     let wards = ws ++ replicate (16 - n) 0 in
-    let blank : Row = record { entries = replicate 4 0 } in
+    let blank : List ℕ = replicate 4 0 in
     let empty : (size i : ℕ) → past_at (replicate size []) i ≡ [] = λ size i. same_everywhere size i [] in
     record {
       sessions = replicate 32 [];
@@ -61,8 +61,8 @@ opened_held c ws k =
                 (omega (arith, k.few, window_low seats)) (omega arith));
             votes = opened_boards 8 (opened_poll (window n) n k.some (omega (arith, k.few)) (omega (arith, k.few, window_low n)));
             rows = refl;
-            columns = λ o low. ap (λ (r : Row). length r.entries) (get_or-replicate 8 o blank no_row low);
-            table = λ o j f. absurd (f (each_place (λ (r : Row). get_or r.entries j 0 ≡ 0) 8 o {a = blank} (same_everywhere 4 j 0) refl));
+            columns = λ o low. ap length (get_or-replicate 8 o blank no_row low);
+            table = λ o j f. absurd (f (each_place (λ r. get_or r j 0 ≡ 0) 8 o {a = blank} (same_everywhere 4 j 0) refl));
             polled = λ o u p. absurd (past_none (rw (empty 8 o) at p.past));
             begun = λ i v p. absurd (past_none (rw (empty 32 i) at p.past));
             decision = inl refl;

@@ -15,7 +15,7 @@ use Rattle.theory_board.specs.Reached.{Reached}
 use Rattle.theory_count.specs.Grid.{wide_below}
 use Rattle.theory_count.specs.Agreed.{agreed_commits}
 use Rattle.model_house.specs.House.{no_session, no_row, ward_seats, ward_rounds, with_entry}
-use Rattle.theory_house.specs.Types.{Row, Table}
+use Rattle.theory_house.specs.Types.{Table}
 use Rattle.theory_house.specs.Core.{past_at, cell, Filled, Memory, Begins, HouseCommitted, Boards, Known, Grown, boards_lawful}
 use Rattle.theory_house.specs.Core.{begins_grown, committed_grown}
 use Rattle.theory_house.specs.Invariant.{memory}
@@ -45,8 +45,8 @@ longer g i j es = get_or_set_cases (λ l. Past (past_at g j) l) g i j _ [] (λ e
 cell_cases : (P : ℕ → Type 0) (t : Table) (o w v r j : ℕ) → (r ≡ o - 1 → j ≡ w - 1 → P v) → P (cell t r j) →
     P (cell (with_entry t o w v) r j)
 cell_cases P t o w v r j new old =
-    get_or_set_cases (λ (y : Row). P (get_or y.entries j 0)) t.rows (o - 1) r _ no_row
-    (λ eo. get_or_set_cases P (get_or t.rows (o - 1) no_row).entries (w - 1) j v 0 (new eo) (rw eo at old))
+    get_or_set_cases (λ y. P (get_or y j 0)) t (o - 1) r _ no_row
+    (λ eo. get_or_set_cases P (get_or t (o - 1) no_row) (w - 1) j v 0 (new eo) (rw eo at old))
     old
 
 module _ {n c d : ℕ} {S P : List Session} {g : List (List Event)} {m : Memory} (i : Known n c S P d g m) where
@@ -137,7 +137,7 @@ module _ {n c d : ℕ} {S P : List Session} {g : List (List Event)} {m : Memory}
           rows = simp length-set i.rows;
           columns =
               λ r l.
-              get_or_set_cases (λ (y : Row). length y.entries ≡ 4) t.rows (o - 1) r _ no_row
+              get_or_set_cases (λ y. length y ≡ 4) t (o - 1) r _ no_row
               (λ e. simp length-set (i.columns (o - 1) low)) (i.columns r l);
           table =
               λ r j.
@@ -150,6 +150,6 @@ module _ {n c d : ℕ} {S P : List Session} {g : List (List Event)} {m : Memory}
           decision = ⊎_elim inl (λ k. inr (committed_grown i more k)) i.decision;
         },
         more,
-        ap (λ (y : Row). get_or y.entries (w - 1) 0) (get_or-set_same t.rows (o - 1) _ no_row (omega (arith, i.rows)))
-            ∙ get_or-set_same (get_or t.rows (o - 1) no_row).entries (w - 1) v 0 (omega (arith, i.columns (o - 1) low)),
+        ap (λ y. get_or y (w - 1) 0) (get_or-set_same t (o - 1) _ no_row (omega (arith, i.rows)))
+            ∙ get_or-set_same (get_or t (o - 1) no_row) (w - 1) v 0 (omega (arith, i.columns (o - 1) low)),
       )

@@ -5,8 +5,7 @@ pub use Rattle.model_house.specs.declared.Place.TheVariants.{ReadTable, WriteHou
 pub use Rattle.model_house.specs.declared.Stance.{Stance}
 pub use Rattle.model_house.specs.declared.Stance.TheVariants.{Idle, Working, Exhausted, Crashed, Decided}
 pub use Rattle.model_house.specs.declared.Worker.{Worker}
-pub use Rattle.model_house.specs.declared.Row.{Row}
-pub use Rattle.model_house.specs.declared.Table.{Table}
 pub use Rattle.model_house.specs.declared.House.{House}
 pub use Rattle.model_house.specs.declared.View.{View}
-pub use Rattle.model_house.specs.declared.HouseStepped.{HouseStepped}
+pub use Rattle.model_house.specs.Answers.{HouseStepped}
+pub use Rattle.model_house.specs.House.{Table}

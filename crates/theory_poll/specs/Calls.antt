@@ -11,7 +11,7 @@ use Rattle.model_rule.specs.Event.{Event, proposal, Past, here, there, Proposed}
 use Rattle.model_rule.specs.System.{inputs, machine, past, EachAsTheMachine}
 use Rattle.model_rule.specs.Calls.{Input}
 use Rattle.model_poll.specs.declared.Answer.{Answer}
-use Rattle.model_poll.specs.declared.PollStepped.{PollStepped}
+use Rattle.model_poll.specs.Answers.{PollStepped}
 use Rattle.model_poll.specs.Turn.{answer_of, Carries}
 use Rattle.model_poll.specs.Machine.{PollOperation, proposes, turns, crashes, turn_tests, turned, unanswered, poll_perform}
 use Rattle.model_poll.specs.Public.{poll_turn_for}

@@ -9,7 +9,7 @@ use Rattle.model.specs.Refusal.{status, is_outside}
 use Rattle.model.specs.Sound.{sound_process_as}
 use Rattle.model_laws.specs.Phases.{process_facts}
 use Rattle.model_laws.specs.Sounds.{sound_process_law}
-use Rattle.model_poll.specs.declared.PollStepped.{PollStepped}
+use Rattle.model_poll.specs.Answers.{PollStepped}
 use Rattle.model_poll.specs.Turn.{pass_turns}
 use Rattle.model_poll.specs.Machine.{PollOperation, proposes, turns, crashes, poll_perform}
 use Rattle.model_rule.specs.System.{inputs, machine, EachAsTheMachine}

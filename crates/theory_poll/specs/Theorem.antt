@@ -9,7 +9,7 @@ use Rattle.model.specs.Machine.{access_of}
 use Rattle.model_laws.specs.Windows.{window_square, window_least}
 use Rattle.model_laws.specs.Callers.{caller_limits}
 use Rattle.model_poll.specs.declared.Answer.{Answer}
-use Rattle.model_poll.specs.declared.PollStepped.{PollStepped}
+use Rattle.model_poll.specs.Answers.{PollStepped}
 use Rattle.model_poll.specs.Turn.{answer_of, Carries}
 use Rattle.model_poll.specs.Machine.{turns, PollOperation, proposes, crashes, turn_tests, turn_after, turn_counts, turned, poll_perform}
 use Rattle.model_poll_laws.specs.Opening.{poll_opened}

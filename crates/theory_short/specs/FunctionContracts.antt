@@ -10,6 +10,7 @@ use prog.Routine.{Routine}
 use types.Logic.{Logic}
 use contract.Monad.{Fun}
 use Rattle.std.specs.Borrow.{MutBor}
+use Rattle.model.specs.Answers.{code}
 use Rattle.model_short.specs.Calls.{listed, first_result, next_result}
 use Rattle.sheet_short.specs.contracts.first as first
 use Rattle.sheet_short.specs.contracts.next as next
@@ -20,10 +21,10 @@ module _ {M : Type 1} {𝓤 : Ura M} (𝓛 : Logic 𝓤) (mem : Memory → SProp
   module _ (κ : Lft) (n m : ℕ) (buffer : MutBor (List ℕ)) where
     pub short_first_contract :
         first.clauses 𝓛 mem run (κ, tt) (n, (m, (buffer, tt)))
-        ≡ ensures 𝓤 (λ r e. listed r e.1.1.0.now ≡ first_result n m buffer.now)
+        ≡ ensures 𝓤 (λ r e. listed (code r) e.1.1.0.now ≡ first_result n m buffer.now)
     short_first_contract = refl
 
     pub short_next_contract :
         next.clauses 𝓛 mem run (κ, tt) (n, (m, (buffer, tt)))
-        ≡ ensures 𝓤 (λ r e. listed r e.1.1.0.now ≡ next_result n m buffer.now)
+        ≡ ensures 𝓤 (λ r e. listed (code r) e.1.1.0.now ≡ next_result n m buffer.now)
     short_next_contract = refl

@@ -1,7 +1,7 @@
 -- Document 02, wish 3, the two round trips of the functions: `sheet_refusal::refusal` and a reader find again what a call of
 -- `sheet_write::write` wrote, and what they read is written again. Of each call nothing is used but its contract (`FunctionContracts`).
 -- (They stand here, and not in specs/, so that an edit of a definition in specs/ is refused because they are false of the edited one.)
-use Rattle.std.specs.Prelude.{get_or, ◌+◌, ◌/◌, ◌≤◌, ◌<◌, ◌≡◌, ◌∷◌, ◌++◌}
+use Rattle.std.specs.Prelude.{get_or, ◌+◌, ◌/◌, ◌≤◌, ◌<◌, ◌≡◌, ◌∷◌, ◌++◌, Some, None, Option}
 use Rattle.base.specs.Prelude.{ℕ, suc, zero, arith, add-zero, zero-add, refl, ap, sym, subst, ◌∙◌, true}
 use Rattle.base.specs.Prelude.{List, [], length, take, drop}
 use Rattle.model_laws.specs.Types.{Caller, CountAnswer, Entry}
@@ -12,8 +12,6 @@ use Rattle.model.specs.Sheet.{run_at, runs_from, run_count, process_count, round
 use Rattle.model_laws.specs.Callers.{caller_limits}
 use Rattle.model_write.specs.Write.{WriteResult, well_formed, wrote}
 use Rattle.model_write.specs.RoundTrip.{lengths, lengths_of, entry_bytes, gapless, ReadsAs}
-use Rattle.sheet_laws.specs.declared.Handed.{Handed}
-use Rattle.sheet_laws.specs.declared.Handed.TheVariants.{Next, End}
 use Rattle.sheet_laws.specs.Places.{begin, handed, advanced, rest, Inside, Proper}
 use Rattle.sheet_laws.specs.PlaceLaws.{begin_rest, begin_proper, advanced_proper, rest_next, rest_end}
 use Rattle.sheet_laws.specs.Ordered.{accepted_inside}
@@ -37,11 +35,11 @@ module _ (sheet : List ℕ) where
   AllHandedOut place = HandsOut sheet place (rest sheet place)
 
   -- By what the place hands out: from the next one on there are fewer.
-  handed_out : (place : ℕ) → Proper sheet place → (x : Handed) → handed sheet place ≡ x
+  handed_out : (place : ℕ) → Proper sheet place → (x : Option Entry) → handed sheet place ≡ x
       → (length (rest sheet (advanced sheet place)) < length (rest sheet place) → AllHandedOut (advanced sheet place))
       → AllHandedOut place
-  handed_out place h End e others = subst (HandsOut sheet place) (sym (rest_end sheet place h e)) (sym e)
-  handed_out place h (Next o) e others =
+  handed_out place h None e others = subst (HandsOut sheet place) (sym (rest_end sheet place h e)) (sym e)
+  handed_out place h (Some o) e others =
       let next = rest_next sheet place h e in
       subst (HandsOut sheet place) (sym next) (sym e, (_, (refl, others (rw next (omega arith)))))
 

@@ -1,7 +1,7 @@
 -- What the functions of the round trips promise of a call, read off the functions: the writer, the refusal of a sheet, a reader that goes
 -- from place to place, and what reads the header and the pairs. Each one requires nothing, and ensures what the round trips start from. Any
 -- other contract is refused here.
-use Rattle.std.specs.Prelude.{◌≡◌}
+use Rattle.std.specs.Prelude.{◌≡◌, Option}
 use Rattle.base.specs.Prelude.{ℕ, refl, List}
 use seplogic.Ra.Ura.{Ura}
 use base.Logic.{SProp}
@@ -11,14 +11,14 @@ use prog.Routine.{Routine}
 use types.Logic.{Logic}
 use contract.Monad.{Fun}
 use Rattle.std.specs.Borrow.{Bor, MutBor}
-use Rattle.model_laws.specs.Types.{Caller, CountAnswer}
+use Rattle.model_laws.specs.Types.{Caller, CountAnswer, Entry}
+use Rattle.model.specs.Answers.{code, told_count}
 use Rattle.model.specs.Board.{limits_of}
 use Rattle.model.specs.Bytes.{byte_at, word16}
 use Rattle.model.specs.Sheet.{sheet_refusal}
 use Rattle.model_write.specs.Write.{wrote, write_result}
 use Rattle.sheet_layout.specs.declared.Span.{Span}
 use Rattle.sheet_layout.specs.Runs.{IsRun}
-use Rattle.sheet_laws.specs.declared.Handed.{Handed}
 use Rattle.sheet_laws.specs.Places.{begin, handed, advanced}
 use Rattle.theory_functions.specs.FunctionContracts.{ensures}
 use Rattle.sheet_write.specs.contracts.write as write
@@ -41,7 +41,7 @@ Refuses caller sheet code = code ≡ sheet_refusal (limits_of caller) sheet
 abbrev pub FirstPlace : (sheet : List ℕ) (place : ℕ) → Type 0
 FirstPlace sheet place = place ≡ begin sheet
 
-abbrev pub EntryAt : (sheet : List ℕ) (place : ℕ) → Handed → Type 0
+abbrev pub EntryAt : (sheet : List ℕ) (place : ℕ) → Option Entry → Type 0
 EntryAt sheet place h = h ≡ handed sheet place
 
 abbrev pub PlaceAfter : (sheet : List ℕ) (place next : ℕ) → Type 0
@@ -62,12 +62,12 @@ module _ {M : Type 1} {𝓤 : Ura M} (𝓛 : Logic 𝓤) (mem : Memory → SProp
   -- The writer is lent the output: e has it as it stands at exit.
   pub write_contract : (κ κ₁ κ₂ : Lft) (caller : Caller) (n L : ℕ) (es ms : Bor (List ℕ)) (out : MutBor (List ℕ)) →
       write.clauses 𝓛 mem run (κ, (κ₁, (κ₂, tt))) (caller, (n, (L, (es, (ms, (out, tt))))))
-      ≡ ensures 𝓤 (λ r e. Writes caller n L es.now ms.now out.now r e.1.1.1.1.1.0.now)
+      ≡ ensures 𝓤 (λ r e. Writes caller n L es.now ms.now out.now (told_count r) e.1.1.1.1.1.0.now)
   write_contract κ κ₁ κ₂ caller n L es ms out = refl
 
   module _ (κ : Lft) (sheet : Bor (List ℕ)) where
     pub refusal_contract : (caller : Caller) →
-        refusal.clauses 𝓛 mem run (κ, tt) (caller, (sheet, tt)) ≡ ensures 𝓤 (λ r e. Refuses caller sheet.now r)
+        refusal.clauses 𝓛 mem run (κ, tt) (caller, (sheet, tt)) ≡ ensures 𝓤 (λ r e. Refuses caller sheet.now (code r))
     refusal_contract caller = refl
 
     pub first_place_contract : first-place.clauses 𝓛 mem run (κ, tt) (sheet, tt) ≡ ensures 𝓤 (λ r e. FirstPlace sheet.now r)

@@ -1,13 +1,12 @@
 -- Document 02, wish 3: what it means that a reader hands out entries, and that the functions find in a sheet what it was written from. The
 -- two round trips of the functions say it; they stand in proofs/Functions.antt.
-use Rattle.std.specs.Prelude.{get_or, ◌/◌, ◌<◌, ◌≡◌, ◌∷◌}
+use Rattle.std.specs.Prelude.{get_or, ◌/◌, ◌<◌, ◌≡◌, ◌∷◌, Some, None}
 use Rattle.base.specs.Prelude.{ℕ, List, [], length}
 use Rattle.model_laws.specs.Types.{Caller, Entry}
 use Rattle.model.specs.Board.{limits_of}
 use Rattle.model_write.specs.Write.{buffer_entries}
 use Rattle.model_write.specs.RoundTrip.{ReadsAs}
 use Rattle.sheet_layout.specs.declared.Span.{Span}
-use Rattle.sheet_laws.specs.declared.Handed.TheVariants.{Next, End}
 use Rattle.theory_write.specs.FunctionContracts.{Refuses, FirstPlace, EntryAt, PlaceAfter, ByteAt, Word16At, RunAt}
 
 -- ---- a reader that goes from place to place
@@ -15,8 +14,8 @@ use Rattle.theory_write.specs.FunctionContracts.{Refuses, FirstPlace, EntryAt, P
 -- From a place on these entries are handed out, and then no more: `entry_at` answers the first of them, and the others are handed out from
 -- the place on that `place_after` answers. Where there is none, `entry_at` answers that none is left.
 abbrev pub HandsOut : (sheet : List ℕ) (place : ℕ) → List Entry → Type 0
-HandsOut sheet place [] = EntryAt sheet place End
-HandsOut sheet place (e ∷ es) = EntryAt sheet place (Next e) × ((next : ℕ) × (PlaceAfter sheet place next × HandsOut sheet next es))
+HandsOut sheet place [] = EntryAt sheet place None
+HandsOut sheet place (e ∷ es) = EntryAt sheet place (Some e) × ((next : ℕ) × (PlaceAfter sheet place next × HandsOut sheet next es))
 
 -- ---- written, then read
 

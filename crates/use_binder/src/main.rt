@@ -3,104 +3,70 @@
 // where it cannot read, understand or write it says so on standard error.
 #![tactic(auto)]
 
-use std::io::Print;
-use use_input::Input;
-use use_text::Bytes;
+use std::io::{self, Print};
+use use_text::Page;
 
 mod text;
 
 // No length has more lists: theory_short has the 14 counts.
 const MOST: usize = 9144;
 
-// What the input asks for: the lists of so many seats and of a length.
-#[derive(Clone, Copy)]
-enum Asked {
-    Lists(u8, u8),
-    Unclear,
-}
-
-// What stands for the number of a byte that is no digit.
-const NO_DIGIT: u8 = 10;
-
 // The number of a digit.
-fn digit(byte: u8) -> u8 {
-    if byte < b'0' {
-        return NO_DIGIT;
+fn digit(byte: u8) -> Option<u8> {
+    match byte {
+        b'0'..=b'9' => Some(byte - b'0'),
+        _ => None,
     }
-    if b'9' < byte {
-        return NO_DIGIT;
-    }
-    byte - b'0'
 }
 
-fn asked_digits(a: u8, b: u8) -> Asked {
-    let n = digit(a);
-    let length = digit(b);
-    if n == NO_DIGIT || length == NO_DIGIT {
-        return Asked::Unclear;
+// What the input asks for, the lists of so many seats and of a length: a digit, a space, a digit, and a newline or nothing.
+fn asked_by(input: &[u8]) -> Option<(u8, u8)> {
+    match input {
+        [n, b' ', length] | [n, b' ', length, b'\n'] => Some((digit(*n)?, digit(*length)?)),
+        _ => None,
     }
-    Asked::Lists(n, length)
 }
 
-// A digit, a space, a digit, and a newline or nothing.
-fn asked_by(input: &[u8]) -> Asked {
-    let size = input.len();
-    if size < 3 {
-        return Asked::Unclear;
-    }
-    if input[1] != b' ' {
-        return Asked::Unclear;
-    }
-    if size == 3 {
-        return asked_digits(input[0], input[2]);
-    }
-    if size == 4 {
-        if input[3] == b'\n' {
-            return asked_digits(input[0], input[2]);
-        }
-    }
-    Asked::Unclear
-}
-
-// The list in the buffer and all that follow it, then how many they are; whether that was written. It ends at the last list.
+// The list in the buffer and all that follow it, then how many they are. It ends at the last list.
 fn print_lists(
     rt: &impl Print,
     n: usize,
     length: usize,
     list: &mut [u8],
-    page: &mut Bytes,
-) -> bool {
+    page: &mut Page,
+) -> io::Result<()> {
     for number in 1..=MOST {
-        if !text::print_list(rt, page, number, list) {
-            return false;
-        }
-        if sheet_short::next(n, length, list) != 0 {
+        text::print_list(rt, page, number, list)?;
+        if sheet_short::next(n, length, list).is_err() {
             return text::print_count(rt, page, number);
         }
     }
-    true
+    Ok(())
 }
 
-// The lists of a length with the lines above and below them, or the number with which they are refused; whether that was written.
-fn print_binder(rt: &impl Print, n: u8, length: usize, list: &mut [u8], page: &mut Bytes) -> bool {
+// The lists of a length with the lines above and below them, or the number with which they are refused.
+fn print_binder(
+    rt: &impl Print,
+    n: u8,
+    length: usize,
+    list: &mut [u8],
+    page: &mut Page,
+) -> io::Result<()> {
     let seats = n as usize;
-    let code = sheet_short::first(seats, length, list);
-    if code != 0 {
-        return text::print_refused(rt, page, code as usize);
+    if let Err(refusal) = sheet_short::first(seats, length, list) {
+        return text::print_refused(rt, page, refusal.number() as usize);
     }
-    if !text::print_head(rt, page, seats, length, part_window::window(n)) {
-        return false;
-    }
+    text::print_head(rt, page, seats, length, part_window::window(n))?;
     print_lists(rt, seats, length, list, page)
 }
 
 fn main(rt: HostRuntime) {
     // Two digits, a space and a newline are 4 bytes; one more that is read shows that the input is longer.
     let mut input = [0u8; 5];
-    let Input::Bytes(size) = use_input::read(&rt, b"binder", &mut input) else {
+    let Ok(size) = use_input::read(&rt, b"binder", &mut input) else {
         return;
     };
-    let Asked::Lists(n, told) = asked_by(&input[..size]) else {
+    let Some((n, told)) = asked_by(&input[..size]) else {
         let _ = rt.stderr().write_all(
             b"binder: standard input must be the seats and the length, one digit each, as 2 3\n",
         );
@@ -109,9 +75,8 @@ fn main(rt: HostRuntime) {
     let length = told as usize;
     // A length over 6 is refused with any buffer.
     let mut space = [0u8; 36];
-    let end = 6 * text::least(length, 6);
-    let mut page = [0u8; use_text::SIZE];
-    if !print_binder(&rt, n, length, &mut space[..end], &mut page) {
+    let list = &mut space[..6 * length.min(6)];
+    if print_binder(&rt, n, length, list, &mut Page::blank()).is_err() {
         let _ = rt
             .stderr()
             .write_all(b"binder: standard output cannot be written\n");

@@ -5,42 +5,40 @@
 // goes on with such a read, or ends the program.
 #![tactic(auto)]
 
-ghost use Rattle.std.specs.Prelude.{◌≡◌};
+ghost use Rattle.std.specs.Prelude.{IsErr};
 ghost use Rattle.use_input.specs.Input.{InputHeld};
 
 use std::io::{Print, Read};
 
-// The bytes that were read, from the buffer's start on, or that a read failed.
+// A read failed, and standard error says so.
 #[derive(Clone, Copy)]
-pub enum Input {
-    Bytes(usize),
-    Failed,
-}
+pub struct ReadFailed;
 
 // What cannot be written to standard error is lost: there is nowhere else to say it.
-fn failed(rt: &HostRuntime, program: &[u8]) -> Input
-    ensures { result ≡ Input.Failed }
+fn failed(rt: &HostRuntime, program: &[u8]) -> Result<usize, ReadFailed>
+    ensures { IsErr result }
 {
     let _ = rt.stderr().write_all(program);
     let _ = rt.stderr().write_all(b": standard input cannot be read\n");
-    Input::Failed
+    Err(ReadFailed)
 }
 
-// Where a read fails, one line on standard error says so, with the program's name.
-pub fn read(rt: &HostRuntime, program: &[u8], buf: &mut [u8]) -> Input
+// The number of bytes that were read, which stand from the buffer's start on. Where a read fails, one line on standard error says so, with
+// the program's name.
+pub fn read(rt: &HostRuntime, program: &[u8], buf: &mut [u8]) -> Result<usize, ReadFailed>
     ensures { InputHeld result buf.new }
 {
     let mut input = rt.stdin();
     let mut done: usize = 0;
+    // Kept: how far a read came is what that read says, which no iterator counts.
     while done < buf.len() {
-        let rest = &mut buf[done..];
-        let Ok(count) = input.read(rest) else {
+        let Ok(count) = input.read(&mut buf[done..]) else {
             return failed(rt, program);
         };
         if count == 0 {
-            return Input::Bytes(done);
+            return Ok(done);
         }
         done += count;
     }
-    Input::Bytes(done)
+    Ok(done)
 }

@@ -3,18 +3,15 @@
 #![tactic(auto)]
 
 use std::io::Print;
-use use_input::Input;
 
 fn main(rt: HostRuntime) {
     // A sheet of 65,535 bytes is the longest; one more that is read shows that it is longer.
     let mut sheet = [0u8; 65536];
-    let Input::Bytes(n) = use_input::read(&rt, b"report", &mut sheet) else {
+    let Ok(n) = use_input::read(&rt, b"report", &mut sheet) else {
         return;
     };
-    let text = use_report_text::report(&sheet[..n]);
-    let bytes = text.bytes;
-    let len = text.len;
-    if rt.write_all(&bytes[..len]).is_err() {
+    let page = use_report_text::report(&sheet[..n]);
+    if rt.write_all(page.text()).is_err() {
         let _ = rt
             .stderr()
             .write_all(b"report: standard output cannot be written\n");

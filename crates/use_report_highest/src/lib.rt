@@ -10,12 +10,10 @@ pub fn highest(values: &[u32]) -> usize
     ensures { result ≡ highest_from 0 0 values.now }
 {
     let mut top: usize = 0;
-    let mut r: usize = 0;
-    while r < values.len() {
-        if values[r] != 0 {
+    for (r, x) in values.iter().enumerate() {
+        if *x != 0 {
             top = r + 1;
         }
-        r += 1;
     }
     top
 }

@@ -9,9 +9,7 @@ use Rattle.model.specs.declared.Phase.TheVariants.{CheckValue, Commit, Exhausted
 use Rattle.model.specs.declared.Process.{Process}
 use Rattle.model.specs.declared.Session.{Session}
 use Rattle.model.specs.declared.Counts.{Counts}
-use Rattle.model.specs.declared.Ending.{Ending}
-use Rattle.model.specs.declared.Ending.TheVariants.{Finished, Refused, BudgetEnded, Rejected}
-use Rattle.model.specs.declared.Ran.{Ran}
+use Rattle.model.specs.Answers.{Ending, Finished, Refused, BudgetEnded, Rejected, Ran}
 use Rattle.model.specs.Board.{max_processes, highest_filled}
 use Rattle.model_report.specs.Report.{bytes, field, newline, outcome_line, tally_line, closed_word, board_line, status_words, seat_lines}
 use Rattle.model_report.specs.Report.{more_lines, report_of}

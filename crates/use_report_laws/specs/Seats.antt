@@ -1,7 +1,8 @@
 -- The seats' lines, one after another.
 use Rattle.std.specs.Prelude.{◌+◌, ◌≤◌, ◌<◌, ◌≡◌, ◌∷◌, ◌++◌}
 use Rattle.base.specs.Prelude.{ℕ, zero, suc, zero-add, add-zero, add-suc, suc-add, not-suc-le-zero, le_of_suc-le-suc}
-use Rattle.base.specs.Prelude.{add-one, arith, List, [], append_assoc, append-nil, length, get_or, take, take_all}
+use Rattle.std.proofs.lemmas.List.{take_min}
+use Rattle.base.specs.Prelude.{add-one, min, ap, ◌∙◌, List, [], append_assoc, append-nil, length, get_or, take, take_all}
 use Rattle.model.specs.declared.Process.{Process}
 use Rattle.model_report.specs.Report.{bytes, field, newline, status_words, seat_line, seat_lines}
 use Rattle.use_text.specs.Page.{Put, after, after_parts}
@@ -23,14 +24,14 @@ seats_more k (suc p) (q ∷ l) d h =
     )
 
 -- One seat more: its number, and its status with the line's end.
-pub seat_put : (l : List Process) (d : Process) (p : ℕ) {a b m r : ℕ} {e x y z : List ℕ} → p < length l
-    → Put e a (seat_lines 0 (take p l)) x b
-    → Put x b (bytes "seat" ++ field p) y m
-    → Put y m (status (get_or l p d) ++ newline) z r
-    → Put e a (seat_lines 0 (take (p + 1) l)) z r
+pub seat_put : (l : List Process) (d : Process) (p : ℕ) {e x y z : List ℕ} → p < length l
+    → Put e (seat_lines 0 (take p l)) x
+    → Put x (bytes "seat" ++ field p) y
+    → Put y (status (get_or l p d) ++ newline) z
+    → Put e (seat_lines 0 (take (p + 1) l)) z
 seat_put l d p h u v w =
     rw (add-one p, seats_more 0 p l d h, zero-add) (after u (after_parts (status (get_or l p d)) newline v w))
 
--- Where every seat is put, none is left.
-pub seats_all : (l : List Process) (p n : ℕ) → length l ≤ p → p ≤ n → take n l ≡ take p l
-seats_all l p n h i = rw (take_all n l (omega arith), take_all p l h)
+-- Where each of the seats that are lent is put, none is left: they are the first m of all, where m is n, or all are fewer.
+pub seats_all : (l : List Process) (p n m : ℕ) → length (take m l) ≤ p → m ≡ min n (length l) → take p (take m l) ≡ take n l
+seats_all l p n m h e = take_all p (take m l) h ∙ ap (λ k. take k l) e ∙ take_min n l

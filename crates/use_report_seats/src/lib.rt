@@ -1,29 +1,24 @@
 // The lines of the seats (01, "The board report": "Seats 0 to n - 1 follow").
 #![tactic(auto)]
 
-ghost use Rattle.std.specs.Prelude.{take};
+ghost use Rattle.std.specs.Prelude.{◌≡◌, length, take};
 ghost use Rattle.model_report.specs.Report.{seat_lines};
 ghost use Rattle.use_text.specs.Page.{Put};
 
-use model::Session;
+use model::{Process, Session};
 use use_report_status::put_status;
-use use_text::{Bytes, put_fields};
+use use_text::Page;
 
 // "Seats 0 to n - 1", "each as "seat", its number and" its status.
-#[tactic(auto, using(base::specs::Arrays::length_mapped, use_text::specs::Page::nothing, use_report_laws::specs::Seats::seats_all))]
-pub fn put_seats(out: &mut Bytes, at: usize, s: Session) -> usize
-    ensures { Put out.old at (seat_lines 0 (take s.n s.processes)) out.new result }
+#[tactic(auto, using(base::specs::Arrays::length_mapped, use_text::specs::Page::nothing))]
+pub fn put_seats(page: &mut Page, s: &Session)
+    ensures lines { Put page.old (seat_lines 0 (take s.now.n s.now.processes)) page.new }
+    ensures records { length s.now.processes ≡ 64 }
 {
-    let mut next = at;
-    let mut p: usize = 0;
-    while p < 64 {
-        if s.n <= p {
-            return next;
-        }
-        let q = s.processes[p];
-        let status = put_fields(out, next, b"seat", &[p]);
-        next = put_status(out, status, q);
-        p += 1;
+    let all: &[Process] = &s.processes;
+    let seats = &all[..s.n.min(all.len())];
+    for (p, q) in seats.iter().enumerate() {
+        page.put_fields(b"seat", &[p]);
+        put_status(page, *q);
     }
-    next
 }

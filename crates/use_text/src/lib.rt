@@ -1,70 +1,104 @@
-// Text put on a page, from a place on: words and numbers in decimal. Each function returns the place behind what it put; what does not
-// fit on the page is cut off.
+// A page that text is put on: words and numbers in decimal. Each text stands behind what stood there; what does not fit is cut off.
 #![tactic(auto)]
 
-ghost use Rattle.std.specs.Prelude.{[], ◌∷◌, ◌++◌};
+ghost use Rattle.std.specs.Prelude.{List, ℕ, [], ◌∷◌, ◌++◌, ◌-◌, ◌≤◌, ◌≡◌, take, drop, replicate};
 ghost use Rattle.model_report.specs.Report.{decimal, newline};
-ghost use Rattle.use_text.specs.Page.{Put};
+ghost use Rattle.use_text.specs.Page.{page_size, Put};
 ghost use Rattle.use_text.specs.Numbers.{with_fields};
+
+use std::marker::Model;
 
 // How many bytes a page has: the longest report fits (`use_report_laws`).
 pub const SIZE: usize = 5120;
 
-// A page's bytes.
-pub type Bytes = [u8; SIZE];
-
-// One byte.
-#[tactic(auto, unfolding(crate::specs::Page::put_byte, crate::specs::Page::put_all))]
-fn put_byte(out: &mut Bytes, at: usize, b: u8) -> usize
-    ensures { Put out.old at (b ∷ []) out.new result }
-{
-    if at < SIZE {
-        out[at] = b;
-        return at + 1;
-    }
-    at
+// A page: its text, with zeros behind it.
+#[derive(Drop)]
+pub struct Page {
+    bytes: [u8; SIZE],
+    len: usize,
 }
 
-// Words.
-#[tactic(auto, using(crate::specs::Page::nothing))]
-pub fn put_words(out: &mut Bytes, at: usize, words: &[u8]) -> usize
-    ensures { Put out.old at words.now out.new result }
-{
-    let mut next = at;
-    for i in 0..words.len() {
-        next = put_byte(out, next, words[i]);
-    }
-    next
+impl Model for Page {
+    ghost Value = { List ℕ };
+
+    ghost view = { λ p. take p.len p.bytes };
+
+    ghost invariant = { λ p. (p.len ≤ page_size) × (drop p.len p.bytes ≡ replicate (page_size - p.len) 0) };
 }
 
-// A number in decimal: its last digit behind the others.
-#[tactic(auto, using(crate::specs::Numbers::digits_low))]
-fn put_number(out: &mut Bytes, at: usize, v: usize) -> usize
-    ensures { Put out.old at (decimal v) out.new result }
-{
-    if v < 10 {
-        return put_byte(out, at, 48 + v as u8);
+impl Page {
+    // A page with no text.
+    pub fn blank() -> Self
+        ensures { result ≡ [] }
+    {
+        Page {
+            bytes: [0; SIZE],
+            len: 0,
+        }
     }
-    let last = put_number(out, at, v / 10);
-    put_byte(out, last, 48 + (v % 10) as u8)
-}
 
-// Words and numbers, a space before each number.
-pub fn put_fields(out: &mut Bytes, at: usize, words: &[u8], fields: &[usize]) -> usize
-    ensures { Put out.old at (with_fields words.now fields.now) out.new result }
-{
-    let mut next = put_words(out, at, words);
-    for i in 0..fields.len() {
-        let number = put_byte(out, next, b' ');
-        next = put_number(out, number, fields[i]);
+    // Takes the text off, and leaves the page blank.
+    pub fn clear(&mut self)
+        ensures { self.new ≡ [] }
+    {
+        self.bytes[..self.len].fill(0);
+        self.len = 0;
     }
-    next
-}
 
-// Words and numbers on a line of their own.
-pub fn put_line(out: &mut Bytes, at: usize, words: &[u8], fields: &[usize]) -> usize
-    ensures { Put out.old at (with_fields words.now fields.now ++ newline) out.new result }
-{
-    let end = put_fields(out, at, words, fields);
-    put_byte(out, end, b'\n')
+    // The text that was put.
+    pub fn text(&self) -> &[u8]
+        ensures { result.now ≡ self.now }
+    {
+        &self.bytes[..self.len]
+    }
+
+    // One byte.
+    #[tactic(auto, using(crate::specs::Page::put_here, crate::specs::Page::zeros_left, crate::specs::Page::cut_off))]
+    fn put_byte(&mut self, b: u8)
+        ensures { Put self.old (b ∷ []) self.new }
+    {
+        if self.len < SIZE {
+            self.bytes[self.len] = b;
+            self.len += 1;
+        }
+    }
+
+    // Words.
+    #[tactic(auto, using(crate::specs::Page::nothing))]
+    pub fn put_words(&mut self, words: &[u8])
+        ensures { Put self.old words.now self.new }
+    {
+        for b in words {
+            self.put_byte(*b);
+        }
+    }
+
+    // A number in decimal: its last digit behind the others.
+    fn put_number(&mut self, v: usize)
+        ensures { Put self.old (decimal v) self.new }
+    {
+        if v >= 10 {
+            self.put_number(v / 10);
+        }
+        self.put_byte(48 + (v % 10) as u8);
+    }
+
+    // Words and numbers, a space before each number.
+    pub fn put_fields(&mut self, words: &[u8], fields: &[usize])
+        ensures { Put self.old (with_fields words.now fields.now) self.new }
+    {
+        self.put_words(words);
+        for v in fields {
+            self.put_byte(b' ');
+            self.put_number(*v);
+        }
+    }
+
+    // Words and numbers on a line of their own.
+    pub fn put_line(&mut self, words: &[u8], fields: &[usize])
+        ensures { Put self.old (with_fields words.now fields.now ++ newline) self.new }
+    {
+        self.put_fields(words, fields);
+        self.put_byte(b'\n');
+    }
 }

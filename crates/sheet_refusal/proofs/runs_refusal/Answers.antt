@@ -12,6 +12,6 @@ loop-i-preserved c =
     rw (c.loop-i.invariant, left_next _ _ c.loop-i-test.true, ← run.offset_is, ← run.size_is)
     (rw (le-leb _ _ c.if-run-from.false, le-leb _ _ c.if-s-end.false, add-one)
     (elim c.if-run-ne0.branch [
-      | then-run-ne0 w ↦ rw (w.code-is, ne_eqb (_ % 6) 0 w.if-run-ne0.true, cond_same)
-      | else-run-ne0 w ↦ rw (w.code-is, eq-eqb (_ % 6) 0 w.if-run-ne0.false)
+      | then-run-ne0 w ↦ rw (w.found-is, ne_eqb (_ % 6) 0 w.if-run-ne0.true, cond_same)
+      | else-run-ne0 w ↦ rw (w.found-is, eq-eqb (_ % 6) 0 w.if-run-ne0.false)
     ]))

@@ -3,13 +3,13 @@
 use Rattle.std.proofs.Common.{length}
 use Rattle.model.specs.Runner.{run_from}
 use Rattle.model.specs.Sheet.{entries}
-use Rattle.sheet_laws.specs.Places.{rest}
+use Rattle.sheet_laws.specs.Reading.{left_to}
 use Rattle.sheet_laws.specs.Carried.{Carrying}
 use Rattle.sheet_run.proofs.carry.Given as goal
 
 abbrev pub invariant-loop-e : goal.invariant-loop-e
 invariant-loop-e l =
-    Carrying (run_from l.window l.budget 0 l.initial.s l.initial.c (entries l.sheet)) l.sheet l.budget l.window l.s l.c l.k l.place
+    Carrying (run_from l.window l.budget 0 l.initial.s l.initial.c (entries l.sheet)) l.budget l.window l.s l.c l.k l.reader
 
 abbrev pub decreases-loop-e : goal.decreases-loop-e
-decreases-loop-e l = length (rest l.sheet l.place)
+decreases-loop-e l = length (left_to l.reader)

@@ -3,7 +3,7 @@ use Rattle.std.specs.Prelude.{◌+◌, ◌*◌, ◌-◌}
 use Rattle.sheet_short.proofs.+choose_entry_choose_rest.Given as goal
 
 abbrev pub decreases-choose_entry : goal.decreases-choose_entry
-decreases-choose_entry l = 16 * l.left + (10 - l.e)
+decreases-choose_entry l = 16 * l.search.now.left + (10 - l.e)
 
 abbrev pub decreases-choose_rest : goal.decreases-choose_rest
-decreases-choose_rest l = 16 * l.left + 15
+decreases-choose_rest l = 16 * l.search.now.left + 15

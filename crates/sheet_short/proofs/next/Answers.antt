@@ -1,7 +1,7 @@
 -- Where the tests accept, there is a next list or none. Each return rewrites the result and ends in `refl`, so that a contract that says
 -- less is met too (tests/theorem-edits/short_contract_says_less.edit).
 use Rattle.std.specs.Prelude.{◌≡◌}
-use Rattle.base.specs.Prelude.{refl, sym, ◌∙◌}
+use Rattle.base.specs.Prelude.{refl, sym}
 use Rattle.model.specs.Refusal.{refusal}
 use Rattle.model_short.specs.Calls.{first_tests, given_tests}
 use Rattle.model_short_laws.specs.Numbers.{given_accepted}
@@ -11,13 +11,13 @@ use Rattle.sheet_short.proofs.next.Goals as goal
 pub returns-then-choose : goal.returns-then-choose
 returns-then-choose c =
     let a = c.args in
-    let accepted : refusal (given_tests a.n a.length a.buffer.now) ≡ 0 = sym c.given_refusal-code.ensures ∙ c.if-code-ne0.false in
+    let accepted : refusal (given_tests a.n a.length a.buffer.now) ≡ 0 = sym c.in_ok-given_refusal.ensures in
     let first_accepted : refusal (first_tests a.n a.length a.buffer.now) ≡ 0 = (given_accepted a.n a.length a.buffer.now accepted).0 in
     rw (← next_found a.n a.length a.buffer.now first_accepted accepted _ c.if-choose.ensures) refl
 
-pub returns : goal.returns
-returns c =
+pub returns-else-choose : goal.returns-else-choose
+returns-else-choose c =
     let a = c.args in
-    let accepted : refusal (given_tests a.n a.length a.buffer.now) ≡ 0 = sym c.given_refusal-code.ensures ∙ c.if-code-ne0.false in
+    let accepted : refusal (given_tests a.n a.length a.buffer.now) ≡ 0 = sym c.in_ok-given_refusal.ensures in
     let first_accepted : refusal (first_tests a.n a.length a.buffer.now) ≡ 0 = (given_accepted a.n a.length a.buffer.now accepted).0 in
     rw (← next_none a.n a.length a.buffer.now first_accepted accepted _ c.if-choose.ensures) refl

@@ -2,4 +2,4 @@
 use Rattle.sheet_short_refusal.proofs.+legal.Given as goal
 
 abbrev pub decreases-legal : goal.decreases-legal
-decreases-legal l = l.left
+decreases-legal l = l.search.now.left

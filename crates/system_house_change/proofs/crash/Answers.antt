@@ -1,27 +1,27 @@
--- By the number of the first refusal, and by the record that the crash stores.
-use Rattle.std.proofs.Common.{◌≡◌, ◌∙◌, ap}
+-- By the first refusal, and by the record that the crash stores.
+use Rattle.std.proofs.Common.{arith, refl}
+use Rattle.std.proofs.lemmas.Grind.{common_steps}
 use Rattle.model.specs.Board.{no_counts}
-use Rattle.model.specs.Refusal.{refusal, crash_tests}
+use Rattle.model_laws.specs.Answers.{number_some}
 use Rattle.model_house.specs.Machine.{crashes}
 use Rattle.model_house.specs.Public.{house_crash}
-use Rattle.model_house_laws.specs.Accepted.{house_code, house_code_law, house_index, uncounted_refused, uncounted_left, crashed_is}
+use Rattle.model_house_laws.specs.Accepted.{house_code_law, house_index, uncounted_refused, uncounted_left, crashed_is}
 use Rattle.system_house_change.proofs.crash.Goals as goal
 
-pub returns-then-code-eq0 : goal.returns-then-code-eq0
+pub returns-in_err-first_refusal : goal.returns-in_err-first_refusal
 unfolding house_crash
-returns-then-code-eq0 c =
-    let a = c.args in
-    let code : c.first_refusal-code.result ≡ house_code a.h no_counts (crashes a.p) =
-    house_code_law a.h no_counts (crashes a.p) c.sound.ensures
-    (c.crash_refusal-own.ensures ∙ ap (λ φ. refusal (crash_tests φ)) c.phase_of.ensures) c.first_refusal-code.ensures in
-    let none = c.if-code-eq0.true in
-    uncounted_left a.h (crashes a.p) code none (crashed_is a.h a.p (house_index a.h no_counts (crashes a.p) code none) no_counts)
+returns-in_err-first_refusal c =
+    let h = c.args.h in
+    let o = crashes c.args.p in
+    let code =
+    house_code_law h no_counts o c.sound.ensures c.phase_of-phase.ensures c.crash_refusal-own.ensures c.in_err-first_refusal.ensures in
+    grind (arith, common_steps, uncounted_refused h o code (number_some c.in_err-first_refusal.field-0.0))
 
-pub returns-else-code-eq0 : goal.returns-else-code-eq0
+pub returns : goal.returns
 unfolding house_crash
-returns-else-code-eq0 c =
-    let a = c.args in
-    let code : c.first_refusal-code.result ≡ house_code a.h no_counts (crashes a.p) =
-    house_code_law a.h no_counts (crashes a.p) c.sound.ensures
-    (c.crash_refusal-own.ensures ∙ ap (λ φ. refusal (crash_tests φ)) c.phase_of.ensures) c.first_refusal-code.ensures in
-    uncounted_refused a.h (crashes a.p) code c.if-code-eq0.false
+returns c =
+    let h = c.args.h in
+    let o = crashes c.args.p in
+    let code =
+    house_code_law h no_counts o c.sound.ensures c.phase_of-phase.ensures c.crash_refusal-own.ensures c.in_ok-first_refusal.ensures in
+    uncounted_left h o code refl (crashed_is h c.args.p (house_index h no_counts o code refl) no_counts)

@@ -1,21 +1,13 @@
-use Rattle.std.proofs.Common.{ap, sym, ◌∙◌, arith, not, false, ◌≡◌, ◌<◌}
+use Rattle.std.proofs.Common.{rules, tests, refl, ◌∙◌, arith}
+use Rattle.std.proofs.lemmas.Iterator.{YieldsList-from_range}
+use Rattle.std.proofs.lemmas.Iterator.Search.{all_from_yields_List}
 use Rattle.model_house.specs.Sound.{sound_worker}
-use Rattle.model_house_laws.specs.Below.{below_fails}
-use Rattle.model_house_laws.specs.Sounds.{wards_facts, worker_numbers_fail, worker_told}
+use Rattle.model_house_laws.specs.Listed.{range_below}
 use Rattle.system_house_sound.proofs.workers_sound.Goals as goal
 
-pub returns-then-not-numbers_sound : goal.returns-then-not-numbers_sound
-returns-then-not-numbers_sound c =
-    let h = c.args.h in
-    let fails = worker_numbers_fail h _ c.numbers_sound.ensures (ap not c.if-not-numbers_sound.true) in
-    sym (below_fails (sound_worker h) h.n _ (omega (arith, c.loop-p-test.true)) fails)
-
-pub returns-then-not-seats_fit : goal.returns-then-not-seats_fit
-returns-then-not-seats_fit c =
-    let h = c.args.h in
-    let p = c.loop-p.p in
-    let few : p < 16 = omega (arith, c.loop-p-test.true, (wards_facts h c.requires).few) in
-    let fails : sound_worker h p ≡ false =
-    sym (worker_told h p c.numbers_sound.ensures (ap not c.if-not-numbers_sound.false) c.wide-w.ensures c.seat_of-seat.ensures few
-    c.seats_fit.ensures) ∙ c.if-not-seats_fit.true in
-    sym (below_fails (sound_worker h) h.n p c.loop-p-test.true fails)
+pub returns : goal.returns
+returns c =
+    let h = c.args.h.now in
+    all_from_yields_List (sound_worker h) _ _ _ c.all.ensures.ran (YieldsList-from_range 0 h.n h.n refl (omega arith))
+    (λ x b q k. search (rules, tests))
+    ∙ range_below (sound_worker h) h.n

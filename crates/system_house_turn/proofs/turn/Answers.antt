@@ -1,133 +1,80 @@
--- The answers of `turn`, by the number of its first refusal, and by the view that the turn leaves.
-use Rattle.std.proofs.Common.{ℕ, ◌%◌, ◌≡◌, ◌∙◌, Bool, ap, arith, cond, leb, length, not, rules}
+-- The answers of `turn`, by its first refusal, and by the view that the turn leaves.
+use Rattle.std.proofs.Common.{◌%◌, ◌≡◌, refl, arith, rules, length}
+use Rattle.std.proofs.lemmas.Grind.{common_steps}
 use Rattle.base.specs.Arrays.{length_mapped}
-use Rattle.model.specs.declared.Counts.{Counts}
-use Rattle.model.specs.declared.Phase.{Phase}
-use Rattle.model.specs.Numbers.{no_such_process, unsound}
-use Rattle.model.specs.Refusal.{refusal, step_tests}
-use Rattle.model_house.specs.declared.House.{House}
-use Rattle.model_house.specs.House.{worker_at}
-use Rattle.model_house.specs.Machine.{phase_of, turns, view_of, with_view, turned}
+use Rattle.model_laws.specs.Answers.{number_some}
+use Rattle.model_house.specs.Machine.{turns, view_of, with_view, turned}
 use Rattle.model_house.specs.Public.{house_turn}
-use Rattle.model_house.specs.Sound.{sound_house}
 use Rattle.model_house_laws.specs.Accepted.{house_code, house_code_law, house_refused, house_known, house_index, house_left}
 use Rattle.model_house_laws.specs.Turns.{Known, known_at, turned_is, turned_house, turned_counts}
 use Rattle.system_house_turn.proofs.turn.Goals as goal
+use Rattle.system_house_turn.proofs.turn.Goals.{After-seat_of-s}
 
-module _ (h : House) (c : Counts) (p : ℕ) (hint : Bool) {b : Bool} {φ : Phase} {own k : ℕ} (eb : b ≡ sound_house h)
-    (eφ : φ ≡ phase_of (worker_at h (p % 16)).stance) (eo : own ≡ refusal (step_tests φ c))
-    (ek : k ≡ cond (not b) unsound (cond (leb h.n p) no_such_process own)) where
-  -- The number of the first refusal.
-  code_is : k ≡ house_code h c (turns p hint)
-  code_is = house_code_law h c (turns p hint) eb (eo ∙ ap (λ φ. refusal (step_tests φ c)) eφ) ek
-
-  -- Accepted: the index that the code uses is the worker's number; its ward and its outer round are in range.
-  module _ (none : k ≡ 0) where
-    same_is : p % 16 ≡ p
-    same_is = house_index h c (turns p hint) code_is none
-
-    known_is : length h.wards ≡ 16 → Known h c (p % 16) hint
-    known_is size = known_at h c p hint same_is size (house_known h c (turns p hint) code_is none)
-
-pub returns-then-code-ne0 : goal.returns-then-code-ne0
+pub returns-in_err-first_refusal : goal.returns-in_err-first_refusal
 unfolding house_turn
-returns-then-code-ne0 c =
+returns-in_err-first_refusal c =
     let a = c.args in
-    house_refused a.h a.c (turns a.p a.hint)
-    (code_is a.h a.c a.p a.hint c.sound.ensures c.phase_of.ensures c.step_refusal-own.ensures c.first_refusal-code.ensures)
-    c.if-code-ne0.true
+    let o = turns a.p a.hint in
+    let code = house_code_law a.h a.c o c.sound.ensures c.phase_of.ensures c.step_refusal-own.ensures c.in_err-first_refusal.ensures in
+    grind (arith, common_steps, house_refused a.h a.c o code (number_some c.in_err-first_refusal.field-0.0))
 
--- ---- the places of the boards, before the turn
+-- ---- accepted: the index that the code uses is the worker's number, and its ward and its outer round are in range
 
-known : (c : goal.After-seat_of-s) → let a = c.args in Known a.h a.c (a.p % 16) a.hint
+none : (c : After-seat_of-s) → let a = c.args in 0 ≡ house_code a.h a.c (turns a.p a.hint)
+none c =
+    let a = c.args in
+    house_code_law a.h a.c (turns a.p a.hint) c.sound.ensures c.phase_of.ensures c.step_refusal-own.ensures c.in_ok-first_refusal.ensures
+
+same : (c : After-seat_of-s) → let a = c.args in a.p % 16 ≡ a.p
+same c = let a = c.args in house_index a.h a.c (turns a.p a.hint) (none c) refl
+
+known : (c : After-seat_of-s) → let a = c.args in Known a.h a.c (a.p % 16) a.hint
 known c =
     let a = c.args in
-    known_is a.h a.c a.p a.hint c.sound.ensures c.phase_of.ensures c.step_refusal-own.ensures c.first_refusal-code.ensures c.if-code-ne0.false
-    (search (rules, length_mapped))
+    let size : length a.h.wards ≡ 16 = search (rules, length_mapped) in
+    known_at a.h a.c a.p a.hint (same c) size (house_known a.h a.c (turns a.p a.hint) (none c) refl)
 
-pub overflow_sub-k : goal.overflow_sub-k
-overflow_sub-k c = omega (arith, known c)
-
-pub overflow_sub-k-2 : goal.overflow_sub-k-2
-overflow_sub-k-2 c = omega (arith, known c)
-
-pub overflow_add-k : goal.overflow_add-k
-overflow_add-k c = omega (arith, known c)
+-- ---- the places of the boards, before the turn and after it
 
 pub overflow_sub-r : goal.overflow_sub-r
-overflow_sub-r c = omega (arith, known c)
+overflow_sub-r c = omega (arith, known (goal.at.overflow_sub-r c).After-seat_of-s)
+
+pub overflow_sub-k : goal.overflow_sub-k
+overflow_sub-k c = omega (arith, known (goal.at.overflow_sub-k c).After-seat_of-s)
+
+pub overflow_add-k : goal.overflow_add-k
+overflow_add-k c = omega (arith, known (goal.at.overflow_add-k c).After-seat_of-s)
 
 pub offset_bounds-h-k : goal.offset_bounds-h-k
-offset_bounds-h-k c = omega (arith, known c)
+offset_bounds-h-k c = omega (arith, known (goal.at.offset_bounds-h-k c).After-seat_of-s)
 
 pub bounds-h-k : goal.bounds-h-k
-bounds-h-k c = omega (arith, known c)
+bounds-h-k c = omega (arith, known (goal.at.bounds-h-k c).After-seat_of-s)
 
 pub offset_bounds-h-r : goal.offset_bounds-h-r
-offset_bounds-h-r c =
-    let a = c.args in
-    let size : length a.h.wards ≡ 16 = search (rules, length_mapped) in
-    let k =
-    known_is a.h a.c a.p a.hint c.sound.ensures c.phase_of.ensures c.step_refusal-own.ensures c.first_refusal-code.ensures c.if-code-ne0.false
-    size in
-    omega (arith, k)
+offset_bounds-h-r c = omega (arith, known (goal.at.offset_bounds-h-r c).After-seat_of-s)
 
 pub bounds-h-r : goal.bounds-h-r
-bounds-h-r c =
-    let a = c.args in
-    let size : length a.h.wards ≡ 16 = search (rules, length_mapped) in
-    let k =
-    known_is a.h a.c a.p a.hint c.sound.ensures c.phase_of.ensures c.step_refusal-own.ensures c.first_refusal-code.ensures c.if-code-ne0.false
-    size in
-    omega (arith, k)
+bounds-h-r c = omega (arith, known (goal.at.bounds-h-r c).After-seat_of-s)
 
--- ---- and after it
+pub offset_bounds-house-k : goal.offset_bounds-house-k
+offset_bounds-house-k c = omega (arith, known (goal.at.offset_bounds-house-k c).After-seat_of-s)
 
-pub offset_bounds-after-k : goal.offset_bounds-after-k
-offset_bounds-after-k c =
-    let a = c.args in
-    let size : length a.h.wards ≡ 16 = search (rules, length_mapped) in
-    let k =
-    known_is a.h a.c a.p a.hint c.sound.ensures c.phase_of.ensures c.step_refusal-own.ensures c.first_refusal-code.ensures c.if-code-ne0.false
-    size in
-    omega (arith, k)
+pub bounds-house-k : goal.bounds-house-k
+bounds-house-k c = omega (arith, known (goal.at.bounds-house-k c).After-seat_of-s)
 
-pub bounds-after-k : goal.bounds-after-k
-bounds-after-k c =
-    let a = c.args in
-    let size : length a.h.wards ≡ 16 = search (rules, length_mapped) in
-    let k =
-    known_is a.h a.c a.p a.hint c.sound.ensures c.phase_of.ensures c.step_refusal-own.ensures c.first_refusal-code.ensures c.if-code-ne0.false
-    size in
-    omega (arith, k)
+pub offset_bounds-house-r : goal.offset_bounds-house-r
+offset_bounds-house-r c = omega (arith, known (goal.at.offset_bounds-house-r c).After-seat_of-s)
 
-pub offset_bounds-after-r : goal.offset_bounds-after-r
-offset_bounds-after-r c =
-    let a = c.args in
-    let size : length a.h.wards ≡ 16 = search (rules, length_mapped) in
-    let k =
-    known_is a.h a.c a.p a.hint c.sound.ensures c.phase_of.ensures c.step_refusal-own.ensures c.first_refusal-code.ensures c.if-code-ne0.false
-    size in
-    omega (arith, k)
-
-pub bounds-after-r : goal.bounds-after-r
-bounds-after-r c =
-    let a = c.args in
-    let size : length a.h.wards ≡ 16 = search (rules, length_mapped) in
-    let k =
-    known_is a.h a.c a.p a.hint c.sound.ensures c.phase_of.ensures c.step_refusal-own.ensures c.first_refusal-code.ensures c.if-code-ne0.false
-    size in
-    omega (arith, k)
+pub bounds-house-r : goal.bounds-house-r
+bounds-house-r c = omega (arith, known (goal.at.bounds-house-r c).After-seat_of-s)
 
 pub returns : goal.returns
 unfolding view_of with_view house_turn
 returns c =
     let a = c.args in
-    let size : length a.h.wards ≡ 16 = search (rules, length_mapped) in
-    let none = c.if-code-ne0.false in
-    let code = code_is a.h a.c a.p a.hint c.sound.ensures c.phase_of.ensures c.step_refusal-own.ensures c.first_refusal-code.ensures in
-    let same = house_index a.h a.c (turns a.p a.hint) code none in
-    let known = known_at a.h a.c a.p a.hint same size (house_known a.h a.c (turns a.p a.hint) code none) in
+    let accepted = (goal.at.returns c).After-seat_of-s in
     let left : c.turn_view-left.result ≡ turned a.h a.c (a.p % 16) a.hint =
-    turned_is a.h a.c (a.p % 16) a.hint known c.seat_of-s.ensures c.turn_view-left.ensures in
-    house_left a.h a.c (turns a.p a.hint) code none (turned_house a.h a.c a.p a.hint same left) (turned_counts a.h a.c a.p a.hint same left)
+    turned_is a.h a.c (a.p % 16) a.hint (known accepted) c.seat_of-s.ensures c.turn_view-left.ensures in
+    house_left a.h a.c (turns a.p a.hint) (none accepted) refl (turned_house a.h a.c a.p a.hint (same accepted) left)
+    (turned_counts a.h a.c a.p a.hint (same accepted) left)

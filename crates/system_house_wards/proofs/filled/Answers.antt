@@ -1,10 +1,13 @@
-use Rattle.std.proofs.Common.{arith, sym, ◌∙◌, ap, leb, ◌≡◌}
-use Rattle.base.specs.Prelude.{false, lt-leb, refl}
-use Rattle.model_house_laws.specs.Below.{below_stop}
-use Rattle.system_house_wards.proofs.filled.Invariants.{some}
+use Rattle.std.proofs.Common.{rules, refl, Bool, ℕ, ◌+◌, ◌∙◌, leb, tests, arith}
+use Rattle.std.proofs.lemmas.Iterator.{YieldsList-from_range}
+use Rattle.std.proofs.lemmas.Iterator.Search.{all_from_yields_List}
+use Rattle.model_house.specs.House.{members}
+use Rattle.model_house_laws.specs.Listed.{range_below}
 use Rattle.system_house_wards.proofs.filled.Goals as goal
 
-pub returns-then-not-members : goal.returns-then-not-members
-returns-then-not-members c =
-    let none : leb 1 c.members.result ≡ false = lt-leb 1 _ (omega arith) in
-    below_stop (some c.args.wards.now c.args.n) c.args.c c.loop-i.i c.loop-i-test.true (sym none ∙ ap (leb 1) c.members.ensures) refl
+pub returns : goal.returns
+returns c =
+    let a = c.args in
+    let some : ℕ → Bool = λ i. leb 1 (members (i + 1) a.wards.now) in
+    all_from_yields_List some _ _ _ c.all.ensures.ran (YieldsList-from_range 0 a.c a.c refl (omega arith)) (λ x b q k. search (rules, tests))
+    ∙ range_below some a.c

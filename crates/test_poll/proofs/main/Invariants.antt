@@ -1,6 +1,6 @@
--- The measure is what is left of the input: the place after a poll lies further on.
-use Rattle.std.proofs.Common.{◌-◌}
+-- The measure is what is left of the input: what is left after a poll is shorter.
+use Rattle.std.proofs.Common.{length}
 use Rattle.test_poll.proofs.main.Given as goal
 
-abbrev pub decreases-loop-at : goal.decreases-loop-at
-decreases-loop-at l = l.n - l.at
+abbrev pub decreases-loop-rest : goal.decreases-loop-rest
+decreases-loop-rest l = length l.rest

@@ -6,4 +6,4 @@ use Rattle.use_report_lines.proofs.put_board.Goals as goal
 pub returns : goal.returns
 returns c =
     rw (← c.highest-top.ensures)
-    (after_parts (closed_word c.args.s.closed) newline c.put_fields-mark.ensures c.put_closed.ensures)
+    (after_parts (closed_word c.args.s.now.closed) newline c.put_fields.ensures c.put_closed.ensures)

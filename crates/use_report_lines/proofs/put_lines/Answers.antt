@@ -1,15 +1,14 @@
-use Rattle.std.proofs.Common.{rules, ◌≡◌, ◌++◌, take}
-use Rattle.model_report.specs.Report.{tally_line, board_line, seat_lines, more_lines}
-use Rattle.use_text.specs.Page.{after, same}
-use Rattle.use_report_laws.specs.Cases.{more_lines_law}
+use Rattle.std.proofs.Common.{arith, refl}
+use Rattle.std.specs.Prelude.{Err}
+use Rattle.model.specs.Answers.{told_run}
+use Rattle.model.specs.Board.{opened}
+use Rattle.use_report_laws.specs.Room.{report_low}
 use Rattle.use_report_lines.proofs.put_lines.Goals as goal
 
--- A sheet that is not refused has the three kinds of lines behind the outcome.
-pub returns : goal.returns
-returns c =
-    let ran = c.args.ran in
-    let s = ran.session in
-    let three = after (after c.put_tally-board.ensures c.put_board-first.ensures) c.put_seats.ensures in
-    let lines : tally_line ran.counts ++ board_line s ++ seat_lines 0 (take s.n s.processes) ≡ more_lines ran.ending s ran.counts =
-    search (rules, more_lines_law) in
-    after c.put_outcome-tally.ensures (same lines three)
+pub returns-in-Ok : goal.returns-in-Ok
+returns-in-Ok c = rw c.in-Ok.is (record { lines = c.put_run.ensures.lines; fits = c.put_run.ensures.fits })
+
+-- No session is made, and the one that stands for it has the records of any.
+pub returns-in-Err-clause-fits : goal.returns-in-Err-clause-fits
+unfolding opened
+returns-in-Err-clause-fits c = rw c.in-Err.is (omega (arith, report_low (told_run (Err c.in-Err.refusal)) refl))

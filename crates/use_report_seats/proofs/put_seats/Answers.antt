@@ -1,17 +1,20 @@
-use Rattle.std.proofs.Common.{rules, arith, ◌≡◌, length}
-use Rattle.base.specs.Arrays.{length_mapped}
+use Rattle.std.proofs.Common.{◌≡◌, ap, take}
 use Rattle.model.specs.Board.{idle}
-use Rattle.use_report_laws.specs.Seats.{seat_put}
+use Rattle.model_report.specs.Report.{seat_lines}
+use Rattle.use_text.specs.Page.{same}
+use Rattle.use_report_laws.specs.Seats.{seat_put, seats_all}
 use Rattle.use_report_seats.proofs.put_seats.Goals as goal
 
--- One seat's line more is put: the records are 64, as the session's own type has it.
+-- One seat's line more is put.
 pub loop-p-preserved : goal.loop-p-preserved
 loop-p-preserved c =
-    let qs = c.args.s.processes in
-    let p = c.loop-p.p in
-    let long : length qs ≡ 64 = search (rules, length_mapped) in
-    record {
-      in_range = omega arith;
-      in_seats = omega arith;
-      put = seat_put qs idle p (omega arith) c.loop-p.invariant.put c.put_fields-status.ensures c.put_status-next.ensures;
-    }
+    seat_put (take c.min.result c.args.s.now.processes) idle c.loop-p.p c.loop-p-test.true c.loop-p.invariant
+    c.put_fields.ensures c.put_status.ensures
+
+-- No seat is left.
+pub returns-clause-lines : goal.returns-clause-lines
+returns-clause-lines c =
+    let s = c.args.s.now in
+    let all : take c.loop-p.p (take c.min.result s.processes) ≡ take s.n s.processes =
+    seats_all s.processes c.loop-p.p s.n c.min.result c.loop-p-test.false c.min.ensures in
+    same (ap (λ l. seat_lines 0 l) all) c.loop-p.invariant

@@ -1,0 +1,2 @@
+-- The tests by which a call is refused.
+pub mod Tests

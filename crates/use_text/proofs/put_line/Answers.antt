@@ -1,5 +1,0 @@
-use Rattle.use_text.specs.Page.{after}
-use Rattle.use_text.proofs.put_line.Goals as goal
-
-pub returns : goal.returns
-returns c = after c.put_fields-end.ensures c.put_byte.ensures
