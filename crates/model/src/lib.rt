@@ -11,8 +11,9 @@ pub use refusal::{Refusal, code};
 
 // Where a process stands in its walk (document 01: the stance of a seat; 01's word for each is behind it).
 // k is a round that it reads on the way up, i a distance below its own round.
-#[derive(Clone, Copy)]
+#[derive(Clone, Copy, Default, PartialEq, Eq)]
 pub enum Phase {
+    #[default]
     Idle, // out: has not proposed
     Waiting, // gate: between two rounds, moves on when it is told to lead
     Write, // put: about to write its estimate to the register of its round
@@ -41,7 +42,7 @@ pub enum Status {
 }
 
 // One process (01: a seat's record): its phase, its round (0 before the first) and its estimate (01: the own value).
-#[derive(Clone, Copy)]
+#[derive(Clone, Copy, Default, PartialEq, Eq)]
 pub struct Process {
     pub phase: Phase,
     pub round: usize,

@@ -2,7 +2,7 @@
 #![tactic(auto)]
 
 // An entry as it stands in a sheet, three numbers (01, "Turn sheets": "kind, seat, 32-bit value"). What it says is `model::Entry`.
-#[derive(Clone, Copy, PartialEq, Eq)]
+#[derive(Clone, Copy, Default, PartialEq, Eq)]
 pub struct RawEntry {
     pub kind: u8,
     pub process: u8,

@@ -31,7 +31,6 @@ pub fn crash_refusal(phase: Phase) -> Result<(), Refusal>
     match part_status::status(phase) {
         Status::Outside => Err(Refusal::ProcessOut), // a crash before the proposal
         Status::Gone => Err(Refusal::ProcessGone), // a crash after the end
-        Status::Active => Ok(()),
-        Status::Spent => Ok(()),
+        Status::Active | Status::Spent => Ok(()),
     }
 }

@@ -26,8 +26,7 @@ pub fn learn_refusal(phase: Phase, c: Counts) -> Result<(), Refusal>
     match part_status::status(phase) {
         Status::Outside => Err(Refusal::ProcessOut), // a look before the proposal
         Status::Gone => Err(Refusal::ProcessGone), // a look after the end
-        Status::Active => full_refusal(c),
-        Status::Spent => full_refusal(c),
+        Status::Active | Status::Spent => full_refusal(c),
     }
 }
 

@@ -32,14 +32,7 @@ pub fn phase_of(stance: Stance) -> Phase
 pub fn seat(s: Session, p: usize) -> Process
     ensures { result ≡ process_at s p }
 {
-    if p < 64 {
-        return s.processes[p];
-    }
-    Process {
-        phase: Phase::Idle,
-        round: 0,
-        estimate: 0,
-    }
+    s.processes.get(p).copied().unwrap_or_default()
 }
 
 // 02, wish 11: "A ward session has n - c + 1 seats".

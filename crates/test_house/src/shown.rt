@@ -74,14 +74,7 @@ fn print_workers(rt: &impl Print, house: &House) {
 
 // Whether a seat is as opened.
 fn is_out(q: &Process) -> bool {
-    matches!(
-        q,
-        Process {
-            phase: Phase::Idle,
-            round: 0,
-            estimate: 0,
-        }
-    )
+    *q == Process::default()
 }
 
 // Whether a session or a poll is as opened.
