@@ -75,8 +75,8 @@ told s (Ok t) = record { code = 0; session = t }
 told s (Err e) = record { code = number e; session = s }
 
 -- The same, with counts c.
-abbrev pub told_counted : (s : Session) (c : Counts) → Result After Refusal → Stepped
-told_counted s c (Ok a) = record { code = 0; session = a.session; counts = a.counts }
+abbrev pub told_counted : (s : Session) (c : Counts) → Result (After Session) Refusal → Stepped
+told_counted s c (Ok a) = record { code = 0; session = a.state; counts = a.counts }
 told_counted s c (Err e) = record { code = number e; session = s; counts = c }
 
 -- Of an opening: refused, no session is made, and the session of no process and no round stands for it.

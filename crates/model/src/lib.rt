@@ -115,12 +115,23 @@ pub struct Limits {
     pub rounds: u16,
 }
 
-// What an accepted operation that counts its register operation leaves: the session and the counts after it. (One that counts nothing
-// leaves a session alone.)
+// What an accepted operation that counts its register operation leaves: the state after it, a session or (02, wishes 6 and 11) a poll with
+// its answer or a house, and the counts after it. (One that counts nothing leaves the state alone.)
 #[derive(Clone, Copy)]
-pub struct After {
-    pub session: Session,
+pub struct After<T> {
+    pub state: T,
     pub counts: Counts,
+}
+
+impl<T> After<T> {
+    // The state; the counts go where they are lent (01: "The caller lends its tally, which a turn updates where it stands").
+    pub fn store_counts(self, counts: &mut Counts) -> T
+        ensures state { result ≡ self.state }
+        ensures stores { counts.new ≡ self.counts }
+    {
+        *counts = self.counts;
+        self.state
+    }
 }
 
 // What the read-out of a round gives: T[r] and C[r].

@@ -6,27 +6,27 @@ ghost use Rattle.model.specs.Numbers.{number as number_of};
 // Why a call is refused, in the order of the numbers. (specs/Numbers.antt has each with its row of 01 beside it.)
 #[derive(Clone, Copy, Debug, PartialEq, Eq)]
 pub enum Refusal {
-    BadProcessCount, // 1
-    BadRoundLimit, // 2
-    Unsound, // 3
-    NoSuchProcess, // 4
-    BlankProposal, // 5
-    SecondProposal, // 6
-    ProcessOut, // 7
-    ProcessGone, // 8
-    ProcessSpent, // 9
-    BadSheet, // 10
-    BadPairs, // 11
-    BadRun, // 12
-    BadEntry, // 13
-    NoSuchRound, // 14
-    BadBuffer, // 15
-    CountsFull, // 16
-    BadCuts, // 17
-    ClosedToProposals, // 18
-    BadWards, // 19
-    IllegalList, // 20
-    LastList, // 21
+    BadProcessCount = 1,
+    BadRoundLimit = 2,
+    Unsound = 3,
+    NoSuchProcess = 4,
+    BlankProposal = 5,
+    SecondProposal = 6,
+    ProcessOut = 7,
+    ProcessGone = 8,
+    ProcessSpent = 9,
+    BadSheet = 10,
+    BadPairs = 11,
+    BadRun = 12,
+    BadEntry = 13,
+    NoSuchRound = 14,
+    BadBuffer = 15,
+    CountsFull = 16,
+    BadCuts = 17,
+    ClosedToProposals = 18,
+    BadWards = 19,
+    IllegalList = 20,
+    LastList = 21,
 }
 
 impl Refusal {
@@ -34,29 +34,7 @@ impl Refusal {
     pub fn number(self) -> u32
         ensures { result ≡ number_of self }
     {
-        match self {
-            Refusal::BadProcessCount => 1,
-            Refusal::BadRoundLimit => 2,
-            Refusal::Unsound => 3,
-            Refusal::NoSuchProcess => 4,
-            Refusal::BlankProposal => 5,
-            Refusal::SecondProposal => 6,
-            Refusal::ProcessOut => 7,
-            Refusal::ProcessGone => 8,
-            Refusal::ProcessSpent => 9,
-            Refusal::BadSheet => 10,
-            Refusal::BadPairs => 11,
-            Refusal::BadRun => 12,
-            Refusal::BadEntry => 13,
-            Refusal::NoSuchRound => 14,
-            Refusal::BadBuffer => 15,
-            Refusal::CountsFull => 16,
-            Refusal::BadCuts => 17,
-            Refusal::ClosedToProposals => 18,
-            Refusal::BadWards => 19,
-            Refusal::IllegalList => 20,
-            Refusal::LastList => 21,
-        }
+        self as u32
     }
 }
 

@@ -3,9 +3,9 @@
 use Rattle.std.specs.Prelude.{ℕ, Result, Ok, Err}
 use Rattle.model.specs.declared.refusal.Refusal.{Refusal}
 use Rattle.model.specs.declared.Counts.{Counts}
+use Rattle.model.specs.declared.After.{After}
 use Rattle.model.specs.Numbers.{number}
 use Rattle.model_house.specs.declared.House.{House}
-use Rattle.model_house.specs.declared.HouseAfter.{HouseAfter}
 
 -- ---- the answers: 0 and the house after, or the refusal's number and the house as it was; and the same with the counts
 
@@ -26,6 +26,6 @@ told_house h (Ok t) = record { code = 0; house = t }
 told_house h (Err e) = record { code = number e; house = h }
 
 -- The same, with counts c.
-abbrev pub told_house_counted : (h : House) (c : Counts) → Result HouseAfter Refusal → HouseStepped
-told_house_counted h c (Ok a) = record { code = 0; house = a.house; counts = a.counts }
+abbrev pub told_house_counted : (h : House) (c : Counts) → Result (After House) Refusal → HouseStepped
+told_house_counted h c (Ok a) = record { code = 0; house = a.state; counts = a.counts }
 told_house_counted h c (Err e) = record { code = number e; house = h; counts = c }

@@ -64,11 +64,3 @@ pub struct View {
     pub worker: Worker,
     pub counts: Counts,
 }
-
-// What an accepted turn or house look leaves: the house and the counts after it. (A proposal and a crash count nothing, and leave a house
-// alone.)
-#[derive(Clone, Copy)]
-pub struct HouseAfter {
-    pub house: House,
-    pub counts: Counts,
-}

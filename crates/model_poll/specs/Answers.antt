@@ -4,10 +4,10 @@ use Rattle.std.specs.Prelude.{ℕ, Result, Ok, Err}
 use Rattle.model.specs.declared.refusal.Refusal.{Refusal}
 use Rattle.model.specs.declared.Session.{Session}
 use Rattle.model.specs.declared.Counts.{Counts}
+use Rattle.model.specs.declared.After.{After}
 use Rattle.model.specs.Numbers.{number}
 use Rattle.model_poll.specs.declared.Answer.{Answer}
 use Rattle.model_poll.specs.declared.Answer.TheVariants.{Pending}
-use Rattle.model_poll.specs.declared.PolledAfter.{PolledAfter}
 use Rattle.model_poll.specs.declared.Polled.{Polled}
 
 -- ---- the answers
@@ -28,8 +28,8 @@ pub record PollChanged : Type 0 where
 -- ---- what the code's answers say
 
 -- Of a turn of poll s with counts c, which a refused call leaves as they are; it gives no answer.
-abbrev pub told_polled_counted : (s : Session) (c : Counts) → Result PolledAfter Refusal → PollStepped
-told_polled_counted s c (Ok a) = record { code = 0; session = a.session; counts = a.counts; answer = a.answer }
+abbrev pub told_polled_counted : (s : Session) (c : Counts) → Result (After Polled) Refusal → PollStepped
+told_polled_counted s c (Ok a) = record { code = 0; session = a.state.session; counts = a.counts; answer = a.state.answer }
 told_polled_counted s c (Err e) = record { code = number e; session = s; counts = c; answer = Pending }
 
 -- Of a turn that is lent the counts.

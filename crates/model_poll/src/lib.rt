@@ -3,7 +3,7 @@
 // answer. Its own data are the answers.
 #![tactic(auto)]
 
-use model::{Counts, Session};
+use model::Session;
 
 // What a turn gives its process (02, wish 6: it "answers committed with its value", it "answers adopted with its value").
 #[derive(Clone, Copy)]
@@ -13,15 +13,7 @@ pub enum Answer {
     Adopts(u32), // adopted
 }
 
-// What an accepted turn that counts its register operation leaves: the poll and the counts after it, and what the process got.
-#[derive(Clone, Copy)]
-pub struct PolledAfter {
-    pub session: Session,
-    pub counts: Counts,
-    pub answer: Answer,
-}
-
-// The same of a turn that is lent the counts.
+// What an accepted turn leaves: the poll after it, and what the process got.
 #[derive(Clone, Copy)]
 pub struct Polled {
     pub session: Session,

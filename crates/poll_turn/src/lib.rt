@@ -6,14 +6,14 @@ ghost use Rattle.std.specs.Prelude.{◌≡◌};
 ghost use Rattle.model_poll.specs.Answers.{told_polled_counted};
 ghost use Rattle.model_poll.specs.Public.{poll_turn};
 
-use model::{Counts, Refusal, Session};
-use model_poll::PolledAfter;
+use model::{After, Counts, Refusal, Session};
+use model_poll::Polled;
 use part_registers::{mark, value};
 
 // 02, wish 6: "Each worker walks the same steps, ending with round W": one register operation, what the process becomes by the value read,
 // and the answer that it then has. i is p wherever the call is accepted: where it is not, the tests refuse.
 #[tactic(auto, using(model_laws::specs::Sounds::sound_few))]
-pub fn turn(s: Session, p: usize, c: Counts) -> Result<PolledAfter, Refusal>
+pub fn turn(s: Session, p: usize, c: Counts) -> Result<After<Polled>, Refusal>
     ensures { told_polled_counted s c result ≡ poll_turn s p c }
 {
     let n = s.n;
@@ -32,9 +32,9 @@ pub fn turn(s: Session, p: usize, c: Counts) -> Result<PolledAfter, Refusal>
     let window = part_window::window(n as u8);
     let left = part_poll::next(window, limit, q, x);
     session.processes[i] = left;
-    Ok(PolledAfter {
-        session,
+    let answer = part_poll::answer(left);
+    Ok(After {
+        state: Polled { session, answer },
         counts: part_counts::counted(a, x, c),
-        answer: part_poll::answer(left),
     })
 }

@@ -15,9 +15,5 @@ pub fn turn(s: Session, p: usize, counts: &mut Counts) -> Result<Polled, Refusal
     ensures { with_lent (told_polled s result) counts.new ≡ poll_turn s p counts.old }
 {
     let after = poll_turn::turn(s, p, *counts)?;
-    *counts = after.counts;
-    Ok(Polled {
-        session: after.session,
-        answer: after.answer,
-    })
+    Ok(after.store_counts(counts))
 }

@@ -10,14 +10,14 @@ ghost use Rattle.model.specs.Sheet.{entry_of};
 use model::{After, Counts, Entry, Refusal, Session};
 
 // 01, "Numbers returned": "each entry 13 first, then its operation's own order". A close leaves the counts as they are.
-pub fn apply(s: Session, c: Counts, kind: u8, p: u8, value: u32) -> Result<After, Refusal>
+pub fn apply(s: Session, c: Counts, kind: u8, p: u8, value: u32) -> Result<After<Session>, Refusal>
     ensures { told_counted s c result ≡ entry_answer commanded s c (entry_of kind p value) }
 {
     match part_entry::entry_of(kind, p, value) {
         Entry::Acts(o) => session_operate::operate(s, c, o),
         Entry::Closes => {
-            let session = session_close::close(s)?;
-            Ok(After { session, counts: c })
+            let state = session_close::close(s)?;
+            Ok(After { state, counts: c })
         }
         Entry::Malformed => Err(Refusal::BadEntry),
     }

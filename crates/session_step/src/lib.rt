@@ -12,7 +12,7 @@ use part_registers::{mark, value};
 // 01, "One turn at a time": a work turn, one register operation and what the process becomes by the value read. i is p
 // wherever the call is accepted: where it is not, the tests refuse.
 #[tactic(auto, using(model_laws::specs::Sounds::sound_few))]
-pub fn step(s: Session, p: usize, leader: bool, c: Counts) -> Result<After, Refusal>
+pub fn step(s: Session, p: usize, leader: bool, c: Counts) -> Result<After<Session>, Refusal>
     ensures { told_counted s c result ≡ step_of s p leader c }
 {
     let n = s.n;
@@ -21,16 +21,16 @@ pub fn step(s: Session, p: usize, leader: bool, c: Counts) -> Result<After, Refu
     let q = s.processes[i];
     let own = part_refusals_counted::step_refusal(q.phase, c);
     session_refusal::first_refusal(session_sound::sound(s), n, p, own)?;
-    let mut session = s;
+    let mut state = s;
     let a = part_access::access(limit, q, leader);
     let x = mark(
-        value(&mut session.values, a, q.estimate),
-        &mut session.marks,
+        value(&mut state.values, a, q.estimate),
+        &mut state.marks,
         a,
     );
-    session.decision = part_decision::decision(session.decision, a, q.estimate);
+    state.decision = part_decision::decision(state.decision, a, q.estimate);
     let window = part_window::window(n as u8);
-    session.processes[i] = part_next::next(window, limit, q, leader, x);
+    state.processes[i] = part_next::next(window, limit, q, leader, x);
     let counts = part_counts::counted(a, x, c);
-    Ok(After { session, counts })
+    Ok(After { state, counts })
 }

@@ -16,8 +16,7 @@ pub fn step(s: Session, p: usize, leader: bool, counts: &mut Counts) -> Result<S
     ensures { with_counts (told s result) counts.new ≡ step_of s p leader counts.old }
 {
     let after = session_step::step(s, p, leader, *counts)?;
-    *counts = after.counts;
-    Ok(after.session)
+    Ok(after.store_counts(counts))
 }
 
 // 01, "One turn at a time": a look.
@@ -25,6 +24,5 @@ pub fn learn(s: Session, p: usize, counts: &mut Counts) -> Result<Session, Refus
     ensures { with_counts (told s result) counts.new ≡ learn_of s p counts.old }
 {
     let after = session_learn::learn(s, p, *counts)?;
-    *counts = after.counts;
-    Ok(after.session)
+    Ok(after.store_counts(counts))
 }

@@ -25,7 +25,10 @@ fn choose_entry(search: &Search, e: usize, tight: bool, buffer: &mut [u8]) -> bo
     let x = part_raw_entry::choice(search.n, e);
     match session_entry::apply(search.session, search.counts, x.kind, x.process, x.value) {
         Err(_) => choose_entry(search, e + 1, false, buffer),
-        Ok(After { session, counts }) => {
+        Ok(After {
+            state: session,
+            counts,
+        }) => {
             let rest = Search {
                 n: search.n,
                 left: search.left - 1,

@@ -43,7 +43,10 @@ fn legal(search: &Search, buffer: &[u8]) -> bool
         return false;
     }
     match session_entry::apply(search.session, search.counts, x.kind, x.process, x.value) {
-        Ok(After { session, counts }) => {
+        Ok(After {
+            state: session,
+            counts,
+        }) => {
             let rest = Search {
                 n: search.n,
                 left: search.left - 1,

@@ -7,7 +7,7 @@ ghost use Rattle.model.specs.Sound.{sound, sound_poll};
 ghost use Rattle.model_poll.specs.Machine.{proposes, turns};
 ghost use Rattle.model_house.specs.Turn.{in_ward as in_ward_of, in_poll};
 
-use model::{After, Operation};
+use model::Operation;
 use model_house::View;
 
 // An operation of the ward's session.
@@ -16,9 +16,9 @@ pub fn in_ward(v: View, o: Operation) -> View
     ensures { result ≡ cond (sound v.session) (in_ward_of v o) v }
 {
     match session_operate::operate(v.session, v.counts, o) {
-        Ok(After { session, counts }) => View {
-            session,
-            counts,
+        Ok(left) => View {
+            session: left.state,
+            counts: left.counts,
             ..v
         },
         Err(_) => v,
@@ -43,7 +43,7 @@ pub fn step_poll(v: View, p: usize) -> View
 {
     match poll_turn::turn(v.poll, p, v.counts) {
         Ok(after) => View {
-            poll: after.session,
+            poll: after.state.session,
             counts: after.counts,
             ..v
         },

@@ -7,8 +7,8 @@ ghost use Rattle.model_house.specs.Answers.{told_house, told_house_counted};
 ghost use Rattle.model_house.specs.Machine.{house_learnt};
 ghost use Rattle.model_house.specs.Public.{house_propose, house_learn, house_crash};
 
-use model::{Access, Counts, Refusal};
-use model_house::{House, HouseAfter, Place, Stance, Worker};
+use model::{Access, After, Counts, Refusal};
+use model_house::{House, Place, Stance, Worker};
 
 // 3, 4, 5, 6; then worker p holds v, and its next turn is the first of outer round 1. i is p wherever a call is accepted, here and below:
 // where it is not, the tests refuse.
@@ -58,15 +58,15 @@ fn learnt(q: Worker, x: u32) -> Worker
 
 // 02, wish 11: a house look, "taken instead of a turn by a working or spent worker". 3, 4, 7, 8, 16; then one read, of the house's decision
 // register.
-pub fn learn(h: House, p: usize, c: Counts) -> Result<HouseAfter, Refusal>
+pub fn learn(h: House, p: usize, c: Counts) -> Result<After<House>, Refusal>
     ensures { told_house_counted h c result ≡ house_learn h p c }
 {
     let i = p % 16;
     let q = h.workers[i];
     let own = part_refusals_counted::learn_refusal(system_house_parts::phase_of(q.stance), c);
     session_refusal::first_refusal(system_house_sound::sound(h), h.n, p, own)?;
-    let mut house = h;
-    house.workers[i] = learnt(q, h.decision);
+    let mut state = h;
+    state.workers[i] = learnt(q, h.decision);
     let counts = part_counts::counted(Access::ReadDecision, 0, c);
-    Ok(HouseAfter { house, counts })
+    Ok(After { state, counts })
 }

@@ -17,8 +17,7 @@ pub fn turn(h: House, p: usize, hint: bool, counts: &mut Counts) -> Result<House
     ensures { with_house_counts (told_house h result) counts.new ≡ house_turn h p hint counts.old }
 {
     let after = system_house_turn::turn(h, p, hint, *counts)?;
-    *counts = after.counts;
-    Ok(after.house)
+    Ok(after.store_counts(counts))
 }
 
 // 02, wish 11: "A house look at the house register, taken instead of a turn by a working or spent worker".
@@ -26,6 +25,5 @@ pub fn learn(h: House, p: usize, counts: &mut Counts) -> Result<House, Refusal>
     ensures { with_house_counts (told_house h result) counts.new ≡ house_learn h p counts.old }
 {
     let after = system_house_change::learn(h, p, *counts)?;
-    *counts = after.counts;
-    Ok(after.house)
+    Ok(after.store_counts(counts))
 }

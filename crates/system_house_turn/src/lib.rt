@@ -6,12 +6,12 @@ ghost use Rattle.std.specs.Prelude.{◌≡◌};
 ghost use Rattle.model_house.specs.Answers.{told_house_counted};
 ghost use Rattle.model_house.specs.Public.{house_turn};
 
-use model::{Counts, Refusal};
-use model_house::{House, HouseAfter, View};
+use model::{After, Counts, Refusal};
+use model_house::{House, View};
 
 // 3, 4, 7, 8, 9, 16; then one turn of worker p, on what it can read and change. i is p wherever the call is accepted: where it is not, the
 // tests refuse.
-pub fn turn(h: House, p: usize, hint: bool, c: Counts) -> Result<HouseAfter, Refusal>
+pub fn turn(h: House, p: usize, hint: bool, c: Counts) -> Result<After<House>, Refusal>
     ensures { told_house_counted h c result ≡ house_turn h p hint c }
 {
     let i = p % 16;
@@ -39,8 +39,8 @@ pub fn turn(h: House, p: usize, hint: bool, c: Counts) -> Result<HouseAfter, Ref
     let rows = left.table;
     house.table = rows;
     house.decision = left.decision;
-    Ok(HouseAfter {
-        house,
+    Ok(After {
+        state: house,
         counts: left.counts,
     })
 }

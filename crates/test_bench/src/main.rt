@@ -47,7 +47,7 @@ fn changed(operation: u8, rounds: u32, count: u32, start: Session) -> Result<u32
             3 => step(s, 0, true, &mut Counts::default())?,
             4 => learn(s, 0, &mut Counts::default())?,
             5 => crash(s, 0)?,
-            _ => poll_turn::turn(s, 0, Counts::default())?.session,
+            _ => poll_turn::turn(s, 0, Counts::default())?.state.session,
         };
     }
     Ok(after.values[(count % rounds) as usize])

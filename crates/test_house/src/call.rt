@@ -1,7 +1,7 @@
 // The operations on a house.
 use crate::fields;
-use model::Refusal;
-use model_house::HouseAfter;
+use model::{After, Refusal};
+use model_house::House;
 use std::fmt;
 
 // One operation: of worker p; or a field that is set, with its kind and place and what it is set to.
@@ -31,19 +31,19 @@ impl From<[u8; 6]> for Call {
 
 impl Call {
     // Carries the operation out on a house and its tally.
-    pub(crate) fn carry_out(self, left: &mut HouseAfter) -> Result<(), Refusal> {
+    pub(crate) fn carry_out(self, left: &mut After<House>) -> Result<(), Refusal> {
         match self {
             Call::Propose(p, v) => {
-                left.house = system_house_change::propose(left.house, p as usize, v)?;
+                left.state = system_house_change::propose(left.state, p as usize, v)?;
             }
             Call::Turn(p, hint) => {
-                *left = system_house_turn::turn(left.house, p as usize, hint, left.counts)?;
+                *left = system_house_turn::turn(left.state, p as usize, hint, left.counts)?;
             }
             Call::Crash(p) => {
-                left.house = system_house_change::crash(left.house, p as usize)?;
+                left.state = system_house_change::crash(left.state, p as usize)?;
             }
             Call::Look(p) => {
-                *left = system_house_change::learn(left.house, p as usize, left.counts)?;
+                *left = system_house_change::learn(left.state, p as usize, left.counts)?;
             }
             Call::Set(kind, a, v) => fields::set(left, kind, a as usize, v),
         }

@@ -1,7 +1,7 @@
 // Fields of a house and counts that are set to v, as only a test may do: so a house can be damaged. reference/src/houses.rs lists the
 // kinds.
-use model::{Phase, Process, Session};
-use model_house::{HouseAfter, Place, Stance};
+use model::{After, Phase, Process, Session};
+use model_house::{House, Place, Stance};
 
 // Kept: functions here and below, since an impl of From must stand beside the type, and the numbers are this test's own: no plainer.
 fn stance_of(v: u32) -> Stance {
@@ -64,8 +64,8 @@ fn set_board<F: Fn(u8) -> Phase>(board: &mut Session, kind: u8, v: u32, phase_of
     }
 }
 
-pub(crate) fn set(left: &mut HouseAfter, kind: u8, a: usize, v: u32) {
-    let house = &mut left.house;
+pub(crate) fn set(left: &mut After<House>, kind: u8, a: usize, v: u32) {
+    let house = &mut left.state;
     match kind {
         128 => house.n = v as usize,
         129 => house.c = v as usize,

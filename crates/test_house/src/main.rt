@@ -9,8 +9,8 @@
 ghost use Rattle.std.specs.Prelude.{◌<◌, length};
 
 use call::Call;
-use model::{Counts, code};
-use model_house::{House, HouseAfter};
+use model::{After, Counts, code};
+use model_house::House;
 use std::io::Print;
 
 mod call;
@@ -18,7 +18,7 @@ mod fields;
 mod shown;
 
 // One operation, and its line. What cannot be written is lost, here and below: a test compares what was.
-fn operation(rt: &impl Print, call: Call, left: &mut HouseAfter) {
+fn operation(rt: &impl Print, call: Call, left: &mut After<House>) {
     let code = code(&call.carry_out(left));
     let _ = match call {
         Call::Set(..) => println!(rt; "{call}"),
@@ -28,8 +28,8 @@ fn operation(rt: &impl Print, call: Call, left: &mut HouseAfter) {
 
 // The operations, as far as the input has them whole; then the end.
 fn operations(rt: &impl Print, calls: &[u8], opened: House) {
-    let mut left = HouseAfter {
-        house: opened,
+    let mut left = After {
+        state: opened,
         counts: Counts::default(),
     };
     let (whole, _) = calls.as_chunks::<6>();

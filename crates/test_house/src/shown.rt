@@ -1,6 +1,6 @@
 // What is printed of a house as it was left, whatever it holds. reference/src/houses.rs lists the lines.
-use model::{Phase, Process, Session};
-use model_house::{House, HouseAfter, Place, Stance};
+use model::{After, Phase, Process, Session};
+use model_house::{House, Place, Stance};
 use std::fmt;
 use std::io::Print;
 
@@ -118,8 +118,8 @@ fn print_boards(rt: &impl Print, house: &House) {
     }
 }
 
-pub(crate) fn end(rt: &impl Print, left: &HouseAfter) {
-    let house = &left.house;
+pub(crate) fn end(rt: &impl Print, left: &After<House>) {
+    let house = &left.state;
     let tally = left.counts;
     let _ = println!(rt;
         "tally {} {} {}",

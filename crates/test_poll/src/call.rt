@@ -1,5 +1,5 @@
 // The operations on a poll.
-use model::{After, Refusal};
+use model::{After, Refusal, Session};
 use model_poll::Answer;
 use std::fmt;
 
@@ -29,27 +29,27 @@ impl From<[u8; 6]> for Call {
 
 impl Call {
     // Carries the operation out on a poll and its tally; what a turn gives its process.
-    pub(crate) fn carry_out(self, left: &mut After) -> Result<Answer, Refusal> {
+    pub(crate) fn carry_out(self, left: &mut After<Session>) -> Result<Answer, Refusal> {
         match self {
             Call::Propose(p, v) => {
-                left.session = poll_change::propose(left.session, p as usize, v)?;
+                left.state = poll_change::propose(left.state, p as usize, v)?;
             }
             Call::Turn(p) => {
-                let after = poll_turn::turn(left.session, p as usize, left.counts)?;
-                left.session = after.session;
+                let after = poll_turn::turn(left.state, p as usize, left.counts)?;
+                left.state = after.state.session;
                 left.counts = after.counts;
-                return Ok(after.answer);
+                return Ok(after.state.answer);
             }
             Call::Crash(p) => {
-                left.session = poll_change::crash(left.session, p as usize)?;
+                left.state = poll_change::crash(left.state, p as usize)?;
             }
             // Polls have no close: a poll that was closed as a session is unsound.
             Call::CloseAsSession => {
-                left.session = session_close::close(left.session)?;
+                left.state = session_close::close(left.state)?;
             }
             // 3 where the poll is no sound session.
             Call::ReadAsSession(p) => {
-                session_read_process::process_record(left.session, p as usize)?;
+                session_read_process::process_record(left.state, p as usize)?;
             }
         }
         Ok(Answer::Pending)

@@ -18,7 +18,7 @@ mod call;
 mod shown;
 
 // One operation, and its line. What cannot be written is lost, here and below: a test compares what was.
-fn operation(rt: &impl Print, call: Call, left: &mut After) {
+fn operation(rt: &impl Print, call: Call, left: &mut After<Session>) {
     let answer = call.carry_out(left);
     let code = code(&answer);
     let _ = match call {
@@ -53,7 +53,7 @@ fn print_seats(rt: &impl Print, poll: &Session) {
 // The operations, as far as the input has them whole; then the end.
 fn operations(rt: &impl Print, calls: &[u8], opened: Session) {
     let mut left = After {
-        session: opened,
+        state: opened,
         counts: Counts::default(),
     };
     let (whole, _) = calls.as_chunks::<6>();
@@ -65,8 +65,8 @@ fn operations(rt: &impl Print, calls: &[u8], opened: Session) {
         "tally {} {} {}",
         tally.reads, tally.writes, tally.contested
     );
-    print_rounds(rt, &left.session);
-    print_seats(rt, &left.session);
+    print_rounds(rt, &left.state);
+    print_seats(rt, &left.state);
 }
 
 // The first poll of the bytes; the bytes after it.

@@ -35,7 +35,7 @@ returns c =
     (counts
     ∙ ap (cond (full a.c) a.c)
     (turned_counts s a.p ranged i c.access-a.ensures c.value.ensures.reads c.mark-x.ensures.reads a.c))
-    (turned_answer s.processes _ a.p _ i below c.answer.ensures)
+    (turned_answer s.processes _ a.p _ i below c.answer-answer.ensures)
 
 pub returns-in_err-first_refusal : goal.returns-in_err-first_refusal
 returns-in_err-first_refusal c =
