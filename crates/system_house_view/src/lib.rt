@@ -3,7 +3,9 @@
 
 ghost use Rattle.std.specs.Prelude.{◌≡◌, true, cond};
 ghost use Rattle.model_house.specs.Turn.{stands as stands_of, after_step as after_step_of, after_learn as after_learn_of, after_poll as after_poll_of, turn_at as turn_at_of};
+ghost use Rattle.model_house.specs.declared.Stance.TheVariants.{Working};
 ghost use Rattle.model_house.specs.Machine.{turn_by};
+ghost use Rattle.model_house.specs.Sound.{seats_fit as seats_fit_of};
 ghost use Rattle.model_house_laws.specs.Views.{view_fits};
 
 use model::{Operation, Process, Status};
@@ -25,16 +27,23 @@ fn after_step(q: Process) -> Stance
     }
 }
 
+// Where its seat is as the next place needs it the worker goes on to that; else it takes the other once more.
+fn goes_on(q: Process, next: Place, again: Place) -> Stance
+    ensures { result ≡ Working (cond (seats_fit_of (Working next) q q) next again) }
+{
+    if seats_fit(Stance::Working(next), q, q) {
+        Stance::Working(next)
+    } else {
+        Stance::Working(again)
+    }
+}
+
 // Decided, its seat is as the table write needs it.
 #[tactic(auto, unfolding(model_house::specs::Sound::seats_fit))]
 fn after_learn(q: Process) -> Stance
     ensures { result ≡ after_learn_of q }
 {
-    let next = Stance::Working(Place::WriteTable);
-    if seats_fit(next, q, q) {
-        return next;
-    }
-    Stance::Working(Place::StepWard)
+    goes_on(q, Place::WriteTable, Place::StepWard)
 }
 
 // It polls until the poll answers it: until its seat is as the table read needs it.
@@ -42,11 +51,7 @@ fn after_learn(q: Process) -> Stance
 fn after_poll(q: Process) -> Stance
     ensures { result ≡ after_poll_of q }
 {
-    let next = Stance::Working(Place::ReadTable);
-    if seats_fit(next, q, q) {
-        return next;
-    }
-    Stance::Working(Place::StepPoll)
+    goes_on(q, Place::ReadTable, Place::StepPoll)
 }
 
 // The view with another stance in the worker's record.
