@@ -73,15 +73,9 @@ pub fn choice(n: u8, e: usize) -> RawEntry
 }
 
 // The number of an entry; 5n if no list may have it.
-#[tactic(auto, using(model_short_laws::specs::Numbered::index_end, model_short_laws::specs::Numbered::index_here))]
 pub fn number_of(n: u8, x: RawEntry) -> usize
     ensures { (result ≡ index_in x (choices n)) × (result ≤ 5 * n) }
 {
     let end = 5 * usize::from(n);
-    for e in 0..end {
-        if x == choice(n, e) {
-            return e;
-        }
-    }
-    end
+    (0..end).find(|e| x == choice(n, *e)).unwrap_or(end)
 }
