@@ -1,26 +1,31 @@
 // Places in a sheet: the first, and the next. (`sheet_handed` has what one hands out.)
 #![tactic(auto)]
 
-ghost use Rattle.std.specs.Prelude.{◌≡◌, ◌-◌, ◌<◌};
-ghost use Rattle.model.specs.Sheet.{run_count};
-ghost use Rattle.sheet_laws.specs.Places.{encode, open_from as open_from_of, begin as begin_of, advanced};
+ghost use Rattle.std.specs.Prelude.{◌≡◌, ◌-◌, ◌<◌, leb};
+ghost use Rattle.std.specs.Bool.{then_some};
+ghost use Rattle.model.specs.Sheet.{run_at, run_count};
+ghost use Rattle.sheet_laws.specs.Places.{encode, opened_run, open_from as open_from_of, begin as begin_of, advanced};
 
 use sheet_laws::{ENTRY, RUN};
 
-// The first run from the given one on that has an entry, opened. "Length 0 is allowed".
-#[tactic(auto, using(sheet_layout::specs::Runs::left_none, sheet_layout::specs::Runs::left_next), unfolding(sheet_laws::specs::Places::open_from))]
+// The place at which run i is opened, if it has an entry. "Length 0 is allowed".
+fn opened(s: &[u8], i: usize) -> Option<usize>
+    requires { i < 256 }
+    ensures { let run = run_at s.now i in result ≡ then_some (leb 6 run.size) (encode (opened_run i run)) }
+{
+    let run = sheet_layout::run_at(s, i);
+    (6 <= run.size).then_some(run.offset + ENTRY * (run.size / 6) + RUN * (i + 1))
+}
+
+// The first run from the given one on that has an entry, opened.
 fn open_from(s: &[u8], first: usize) -> usize
     requires { first < 17179869184 }
     ensures { result ≡ encode (open_from_of s.now first (run_count s.now - first)) }
 {
     let count = part_bytes::byte(s, 1) as usize;
-    for i in first..count {
-        let run = sheet_layout::run_at(s, i);
-        if 6 <= run.size {
-            return run.offset + ENTRY * (run.size / 6) + RUN * (i + 1);
-        }
-    }
-    RUN * first.max(count)
+    (first..count)
+        .find_map(|i| opened(s, i))
+        .unwrap_or(RUN * first.max(count))
 }
 
 // Where the reader starts.
