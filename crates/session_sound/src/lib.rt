@@ -20,7 +20,7 @@ fn blank_from(values: &[u32; 256], marks: &[bool; 256], from: usize) -> bool
 
 // "A session is sound if: n is 1 to 64, L is W to 256", the registers and marks past L, and its records, in one pass. A poll, if its own
 // rules hold too: 02, wish 6, it "has L = W, a blank D"; wish 10, it "is open". 02, wish 9: "soundness, 3, stays with the server's" limits, whoever opened it.
-#[tactic(auto, using(base::specs::Arrays::length_mapped, model_laws::specs::Passes::more, model_laws::specs::Passes::stop, model_laws::specs::Passes::ends, model_laws::specs::SoundTests::few, model_laws::specs::SoundTests::processes_fail, model_laws::specs::SoundTests::rounds_fail, model_laws::specs::SoundTests::records_left), unfolding(model::specs::Sound::sound_process_as, model::specs::Sound::poll_registers, model::specs::Sound::sound_as))]
+#[tactic(auto, using(model_laws::specs::SoundTests::few, model_laws::specs::SoundTests::processes_fail, model_laws::specs::SoundTests::rounds_fail), unfolding(model::specs::Sound::poll_registers))]
 pub fn sound_as(poll: bool, s: Session) -> bool
     ensures { result ≡ sound_as_of poll s }
 {
@@ -31,15 +31,12 @@ pub fn sound_as(poll: bool, s: Session) -> bool
     let window = part_window::window(n as u8);
     let only = !poll | ((limit == window) & (s.decision == 0) & !s.closed);
     let rounds = (window <= limit) & (limit <= 256) & only;
-    if !(rounds && blank_from(&s.values, &s.marks, limit)) {
-        return false;
-    }
-    for (i, q) in s.processes.iter().enumerate() {
-        if !record_sound(poll, window, limit, i < n, *q) {
-            return false;
-        }
-    }
-    true
+    rounds
+        && blank_from(&s.values, &s.marks, limit)
+        && s.processes
+            .iter()
+            .enumerate()
+            .all(|(i, q)| record_sound(poll, window, limit, i < n, *q))
 }
 
 // Of a session.
