@@ -11,18 +11,13 @@ use model::{Caller, Refusal};
 use part_entry::{formed, number32};
 
 // Whether the run lengths add up to so many entries, however large they are: each is taken off the entries that are left.
-#[tactic(auto, using(model_write_laws::specs::Laid::total_taken, model_write_laws::specs::Laid::total_part))]
 fn add_up(lengths: &[usize], entries: usize) -> bool
     ensures { result ≡ eqb (total lengths.now) entries }
 {
-    let mut left = entries;
-    for m in lengths {
-        if left < *m {
-            return false;
-        }
-        left -= *m;
-    }
-    left == 0
+    lengths
+        .iter()
+        .try_fold(entries, |left, m| left.checked_sub(*m))
+        == Some(0)
 }
 
 // "17: more than 16 runs, over 65,535 bytes, or run lengths that do not add up to the entries", of an entry buffer of so many bytes.
