@@ -31,21 +31,12 @@ fn writable(size: usize, lengths: &[usize]) -> bool
 }
 
 // 01, 13: "entry with an unknown kind or a wrong value": whether no entry is such a one.
-// Kept: six indices of a numbered entry. Over `chunks_exact(6)` writing an entry took 2.3 ns, and so it takes 1.4 (measured).
 fn well_formed(entries: &[u8]) -> bool
     ensures { result ≡ well_formed_of (buffer_entries entries.now) }
 {
-    for i in 0..entries.len() / 6 {
-        let at = 6 * i;
-        let low = at + 2;
-        let high = low + 2;
-        let value = number32(
-            entries[low],
-            entries[low + 1],
-            entries[high],
-            entries[high + 1],
-        );
-        if !formed(entries[at], entries[at + 1], value) {
+    let (whole, _) = entries.as_chunks::<6>();
+    for [kind, p, a, b, c, d] in whole {
+        if !formed(*kind, *p, number32(*a, *b, *c, *d)) {
             return false;
         }
     }

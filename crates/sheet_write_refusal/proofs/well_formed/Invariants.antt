@@ -1,9 +1,8 @@
 -- The loop's invariant: the entries from i on decide.
-use Rattle.std.proofs.Common.{◌≡◌, ◌-◌, ◌*◌, ◌/◌, length}
-use Rattle.model.specs.Sheet.{entries_at}
-use Rattle.model_write.specs.Write.{well_formed as well_formed_of, buffer_entries}
+use Rattle.std.specs.Prelude.{◌≡◌, drop}
+use Rattle.model.specs.Sound.{every}
+use Rattle.sheet_write_refusal.proofs.Chunks.{chunk_formed}
 use Rattle.sheet_write_refusal.proofs.well_formed.Given as goal
 
-abbrev pub invariant-loop-i : goal.invariant-loop-i
-invariant-loop-i l =
-    well_formed_of (buffer_entries l.entries) ≡ well_formed_of (entries_at l.entries (6 * l.i) (length l.entries / 6 - l.i))
+abbrev pub invariant-loop-kind : goal.invariant-loop-kind
+invariant-loop-kind l = every chunk_formed l.whole ≡ every chunk_formed (drop l.kind-index l.whole)
