@@ -2,18 +2,18 @@
 // where the buffer is too short; refused, the lent buffer is as it was.
 #![tactic(auto)]
 
-ghost use Rattle.std.specs.Prelude.{◌≡◌, ◌≤◌, ◌++◌, length, take, drop};
+ghost use Rattle.std.specs.Prelude.{◌≡◌, ◌≤◌, ◌++◌, length, drop};
 ghost use Rattle.model.specs.Answers.{told_count};
 ghost use Rattle.model.specs.ReadOut.{standing_answer, standing_buffer};
 
 use model::{Refusal, Session};
 
 // "Standing values": "to a lent buffer .., from its first place on ..; later buffer places keep their numbers".
-fn copy(values: &[u32], count: usize, buffer: &mut [u32])
-    requires { (count ≤ length values.now) × (count ≤ length buffer.old) }
-    ensures { buffer.new ≡ take count values.now ++ drop count buffer.old }
+fn copy(values: &[u32], buffer: &mut [u32])
+    requires { length values.now ≤ length buffer.old }
+    ensures { buffer.new ≡ values.now ++ drop (length values.now) buffer.old }
 {
-    buffer[..count].copy_from_slice(&values[..count]);
+    buffer[..values.len()].copy_from_slice(values);
 }
 
 // "Standing values": "It returns how many". 3, then 15 "exactly when the buffer is shorter than that count", which is known before
@@ -31,6 +31,6 @@ pub fn standing_values(s: Session, buffer: &mut [u32]) -> Result<usize, Refusal>
     if buffer.len() < count {
         return Err(Refusal::BadBuffer);
     }
-    copy(&listed.values, count, buffer);
+    copy(&listed.values[..count], buffer);
     Ok(count)
 }

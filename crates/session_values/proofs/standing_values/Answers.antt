@@ -28,6 +28,6 @@ returns c =
     let size = sym (rw rounds at c.list-listed.ensures.counts) in
     let first : take list.count list.values ≡ standing_values c.args.s =
     ap (take list.count) (rw rounds at c.list-listed.ensures.lists) ∙ take_at (standing_values c.args.s) _ list.count size in
-    let m =
-    list_written c.args.s c.args.buffer.now list.count sure size c.if-buffer-count.false _ (rw (← first) c.copy.ensures) in
+    let put = (rw (first, size) at c.copy.ensures) in
+    let m = list_written c.args.s c.args.buffer.now list.count sure size c.if-buffer-count.false _ put in
     record { answers = m.0; writes = m.1 }
