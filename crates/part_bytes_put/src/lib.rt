@@ -1,29 +1,16 @@
 // Numbers stored as bytes. 01, "Turn sheets": "Numbers are little-endian." Past the end none is written.
 #![tactic(auto)]
 
-ghost use Rattle.std.specs.Prelude.{◌≡◌, set};
+ghost use Rattle.std.specs.Prelude.{◌≡◌};
 ghost use Rattle.std.proofs.lemmas.List.Edits.{sets};
 ghost use Rattle.model.specs.Bytes.{bytes16, bytes32};
 
-// A byte stored at i.
-fn put(buffer: &mut [u8], i: usize, b: u8)
-    ensures { buffer.new ≡ set buffer.old i b }
-{
-    if i < buffer.len() {
-        buffer[i] = b;
-    }
-}
-
 // Bytes stored from byte `at` on.
-#[tactic(auto, using(base::specs::Arrays::sets_beyond, base::specs::Arrays::sets_more))]
 pub fn put_bytes(buffer: &mut [u8], at: usize, bytes: &[u8])
     ensures { buffer.new ≡ sets buffer.old at bytes.now }
 {
-    if buffer.len() <= at {
-        return;
-    }
-    for (i, b) in bytes.iter().enumerate() {
-        put(buffer, at + i, *b);
+    for (i, b) in (at..buffer.len()).zip(bytes) {
+        buffer[i] = *b;
     }
 }
 
