@@ -52,6 +52,7 @@ pub struct Process {
 // One agreement (01: a session, the board and the seats). The value register T[r] of round r is values[r - 1], the mark
 // C[r] is marks[r - 1], the decision register D is decision; 0 is blank. n processes take part, in rounds 1 to limit (01: L).
 // closed is the closed mark (02, wish 10): no proposal is accepted any more.
+// Kept: two arrays beside each other, and numbers beside arrays, since definitions and theorems speak of these fields.
 #[derive(Clone, Copy)]
 pub struct Session {
     pub n: usize,

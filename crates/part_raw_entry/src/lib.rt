@@ -31,7 +31,8 @@ pub fn put_raw(buffer: &mut [u8], at: usize, x: RawEntry)
     part_bytes_put::put_bytes(buffer, at, &[x.kind, x.process, a, b, c, d]);
 }
 
-// The entry that has number e, from 0: 02, wish 12, "by kind, then seat, then value". From 5n on there is none.
+// The entry that has number e, from 0: 02, wish 12, "by kind, then seat, then value". From 5n on there is none, and zeros stand for it.
+// Kept: an entry and no Option, since the clause says `choice`, of which laws speak.
 #[tactic(auto, using(model_short_laws::specs::Numbered::choice_propose, model_short_laws::specs::Numbered::choice_step, model_short_laws::specs::Numbered::choice_learn, model_short_laws::specs::Numbered::choice_crash, model_short_laws::specs::Numbered::choice_none))]
 pub fn choice(n: u8, e: usize) -> RawEntry
     ensures { result ≡ choice_of n e }
@@ -73,6 +74,7 @@ pub fn choice(n: u8, e: usize) -> RawEntry
 }
 
 // The number of an entry; 5n if no list may have it.
+// Kept: a number and no Option, since the clause says `index_in`, by which the search goes on from it.
 pub fn number_of(n: u8, x: RawEntry) -> usize
     ensures { (result ≡ index_in x (choices n)) × (result ≤ 5 * n) }
 {

@@ -8,7 +8,8 @@ ghost use Rattle.model_poll.specs.Public.{poll_propose, poll_crash, poll_record}
 
 use model::{Process, Refusal, Session};
 
-// Kept: beside the functions that take either, since theorems speak of these contracts (`poll_propose_contract`, `poll_crash_contract`).
+// Kept: beside the functions that take either, since theorems speak of these contracts (`poll_propose_contract`, `poll_crash_contract`), and
+// docs/POLLS.md names the read-out.
 
 // A proposal to a poll.
 pub fn propose(s: Session, p: usize, v: u32) -> Result<Session, Refusal>

@@ -8,6 +8,8 @@ ghost use Rattle.model.specs.Numbers.{unsound, no_such_process};
 use model::Refusal;
 
 // 01, "Numbers returned": 3 for a session that is not sound, 4 for a process number n or above, then what the operation's own tests give.
+// Kept: each of nine operations takes the record and makes its own tests before it calls this. One function for all of them would take
+// those tests as a closure, so it would be public and need a `requires`, which no public function of this project has.
 pub fn first_refusal(
     sound: bool,
     n: usize,

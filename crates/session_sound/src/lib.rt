@@ -20,6 +20,7 @@ fn blank_from(values: &[u32; 256], marks: &[bool; 256], from: usize) -> bool
 
 // "A session is sound if: n is 1 to 64, L is W to 256", the registers and marks past L, and its records, in one pass. A poll, if its own
 // rules hold too: 02, wish 6, it "has L = W, a blank D"; wish 10, it "is open". 02, wish 9: "soundness, 3, stays with the server's" limits, whoever opened it.
+// Kept: a flag tells a poll from a session, here and where it is handed on, since the definitions and laws take it so (`sound_as`).
 #[tactic(auto, using(model_laws::specs::SoundTests::few, model_laws::specs::SoundTests::processes_fail, model_laws::specs::SoundTests::rounds_fail), unfolding(model::specs::Sound::poll_registers))]
 pub fn sound_as(poll: bool, s: Session) -> bool
     ensures { result ≡ sound_as_of poll s }

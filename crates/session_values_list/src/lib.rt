@@ -5,7 +5,7 @@ ghost use Rattle.std.specs.Prelude.{◌≡◌, min, ◌++◌, length, drop, repl
 ghost use Rattle.model.specs.ReadOut.{values_to};
 
 // The standing values and how many they are: the first `count` of `values`; 0 behind them.
-// Kept: a `Vec` would take the heap, which this library has not.
+// Kept: no `Vec`, which would take the heap, and no `ArrayVec`, since the clause `lists` says that zeros stand behind the values.
 #[derive(Clone, Copy)]
 pub struct Listed {
     pub values: [u32; 256],
@@ -14,6 +14,7 @@ pub struct Listed {
 
 // "List each value by the first round in which it stands, lowest first"; "a value already found in an earlier round is listed only
 // once": the search of the earlier rounds ends the round at the first equal value.
+// Kept: an array with a number beside it and no slice, since the clauses speak of any limit, of one above 256 too.
 #[tactic(auto, using(model_laws::specs::ListedRounds::round_blank, model_laws::specs::ListedRounds::round_earlier, model_laws::specs::ListedRounds::not_earlier, model_laws::specs::ListedRounds::round_new), unfolding(model::specs::ReadOut::values_to))]
 pub fn list(registers: [u32; 256], limit: usize) -> Listed
     ensures counts { result.count ≡ length (values_to registers (min limit 256)) }

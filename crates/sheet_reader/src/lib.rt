@@ -1,5 +1,7 @@
 // The reader of `sheet_reader_held`, for callers outside: what it does, by functions whose parameters are plain. 01, "Turn sheets": "A
 // reader that stays attached to the sheet's bytes and its place hands the entries out."
+// Kept: beside the functions of `sheet_place` and `sheet_handed`, since document 01 names the form of a reader, and theorems speak of these
+// contracts (`first_place_contract`, `entry_at_contract`, `place_after_contract`).
 #![tactic(auto)]
 
 ghost use Rattle.std.specs.Prelude.{◌≡◌};

@@ -1,5 +1,6 @@
 // The turns of a worker at the registers that are the house's own (document 02, wish 11): the value table and the decision register. Each
 // counts one register operation. With a full tally nothing changes.
+// Kept: that is said in three clauses, since no public function of this project has a `requires`, and a view with a full tally is one too.
 #![tactic(auto)]
 
 ghost use Rattle.std.specs.Prelude.{ℕ, ◌≡◌, Bool, cond};
