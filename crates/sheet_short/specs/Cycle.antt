@@ -5,12 +5,16 @@ use Rattle.base.specs.Prelude.{Bool, true, false, not, eqb, ne_eqb, eq-eqb, true
 use Rattle.model.specs.declared.Session.{Session}
 use Rattle.model.specs.declared.Counts.{Counts}
 use Rattle.model.specs.Answers.{Stepped}
+use Rattle.model.specs.Window.{window}
+use Rattle.model.specs.Board.{opened, no_counts}
 use Rattle.model_short.specs.declared.RawEntry.{RawEntry}
 use Rattle.model_short.specs.Short.{choices}
 use Rattle.model_short.specs.Calls.{none, raw_bytes, list_bytes, raw_at, raws_at}
 use Rattle.model_short_laws.specs.Entries.{index_in}
 use Rattle.model_short_laws.specs.Choosing.{Lists, raw_answer, behind, by_entry, from_entry, lists_from, later_from}
 use Rattle.model_short_laws.specs.Numbered.{choice, choices_from, choices_end}
+use Rattle.sheet_short_refusal.specs.declared.search.Search.{Search}
+use Rattle.sheet_short_refusal.specs.Searches.{Begun, Behind}
 use Rattle.sheet_short.specs.Stored.{entry_first}
 use Rattle.model_short_laws.specs.Bytes.{length_raws_at, raws_at_zero, raws_at_more}
 
@@ -106,6 +110,20 @@ module _ (n left e : ℕ) (tight : Bool) (given : List RawEntry) (s : Session) (
               b b₂ i r
           go [] f w k = rw w at k
           go (l ∷ ls) f w k = absurd (true≢false (sym f ∙ h))
+
+-- ---- the rest, of a search
+
+pub rest_behind : (s t : Search) (x : RawEntry) → Behind s x t → (tight : Bool) {b b' : List ℕ} {r : Bool}
+    → Chosen (rest_lists t.n t.left tight (raws_at b t.at t.left) t.session t.counts) b b' t.at r
+    → Chosen (rest_lists s.n (s.left - 1) tight (raws_at b (s.at + 6) (s.left - 1)) t.session t.counts) b b' (s.at + 6) r
+rest_behind s t x g tight k =
+    let fewer : t.left ≡ s.left - 1 = omega (arith, g.left) in
+    rw (g.processes, g.at, fewer) at k
+
+pub rest_begun : (n m : ℕ) (t : Search) → Begun n m t → (tight : Bool) {b b' : List ℕ} {r : Bool}
+    → Chosen (rest_lists t.n t.left tight (raws_at b t.at t.left) t.session t.counts) b b' t.at r
+    → Chosen (rest_lists n m tight (raws_at b 0 m) (opened n (window n)) no_counts) b b' 0 r
+rest_begun n m t g tight k = rw (g.processes, g.left, g.at, g.session, g.counts) at k
 
 -- ---- the choice of the rest
 

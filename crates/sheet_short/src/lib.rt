@@ -3,12 +3,10 @@
 
 ghost use Rattle.std.specs.Prelude.{◌+◌, ◌-◌, ◌≤◌, ◌≡◌};
 ghost use Rattle.model.specs.Answers.{code};
-ghost use Rattle.model.specs.Window.{window};
-ghost use Rattle.model.specs.Board.{opened, no_counts};
 ghost use Rattle.model_short.specs.Calls.{raws_at, listed, first_result, next_result};
 ghost use Rattle.sheet_short.specs.Cycle.{Chosen, entry_lists, rest_lists};
 
-use model::{After, Counts, Refusal};
+use model::Refusal;
 use sheet_short_refusal::Search;
 
 // The choice of an entry: stores the first legal list of the entries that are left that begins with entry number e or a later one, and
@@ -23,19 +21,9 @@ fn choose_entry(search: &Search, e: usize, tight: bool, buffer: &mut [u8]) -> bo
         return false;
     }
     let x = part_raw_entry::choice(search.n, e);
-    match session_entry::apply(search.session, search.counts, x.kind, x.process, x.value) {
-        Err(_) => choose_entry(search, e + 1, false, buffer),
-        Ok(After {
-            state: session,
-            counts,
-        }) => {
-            let rest = Search {
-                n: search.n,
-                left: search.left - 1,
-                at: search.at + 6,
-                session,
-                counts,
-            };
+    match search.after(x) {
+        None => choose_entry(search, e + 1, false, buffer),
+        Some(rest) => {
             if choose_rest(&rest, tight, buffer) {
                 part_raw_entry::put_raw(buffer, search.at, x);
                 true
@@ -63,43 +51,24 @@ fn choose_rest(search: &Search, tight: bool, buffer: &mut [u8]) -> bool
     choose_entry(search, 0, false, buffer)
 }
 
-// Kept: a search is made here and in `sheet_short_refusal`, since a function for both would be public and need a `requires`, which no
-// public function of this project has.
-
-// From "a fresh session", "with L at its least": whether there is a list, which then stands in the buffer.
-#[tactic(auto, using(model_short_laws::specs::Machine::met_fresh, model_short_laws::specs::Numbers::one_or_two), unfolding(model::specs::Window::window, model::specs::Board::opened))]
-fn choose(n: u8, length: usize, tight: bool, buffer: &mut [u8]) -> bool
-    requires { (1 ≤ n) × (n ≤ 2) × (length ≤ 6) }
-    ensures { Chosen (rest_lists n length tight (raws_at buffer.old 0 length) (opened n (window n)) no_counts)
-        buffer.old buffer.new 0 result }
-{
-    let search = Search {
-        n,
-        left: length,
-        at: 0,
-        session: session_opened::opened(n as usize, part_window::window(n)),
-        counts: Counts::default(),
-    };
-    choose_rest(&search, tight, buffer)
-}
-
 // "Asked for the first, it writes that." 1, 17, 15.
-#[tactic(auto, using(model_short_laws::specs::Numbers::call_fits, model_short_laws::specs::Numbers::refused_result), unfolding(model_short::specs::Calls::first_result))]
+#[tactic(auto, using(model_short_laws::specs::Numbers::refused_result), unfolding(model_short::specs::Calls::first_result))]
 pub fn first(n: usize, length: usize, buffer: &mut [u8]) -> Result<(), Refusal>
     ensures { listed (code result) buffer.new ≡ first_result n length buffer.old }
 {
-    sheet_short_refusal::call_refusal(n, length, buffer)?;
-    choose(n as u8, length, false, buffer);
+    let search = Search::start(n, length, buffer)?;
+    choose_rest(&search, false, buffer);
     Ok(())
 }
 
 // "Given a legal list in a buffer, the builder writes the next of that length over it." 1, 17, 15, 20, 21.
-#[tactic(auto, using(model_laws::specs::Answers::number_some, model_short_laws::specs::Numbers::call_fits, model_short_laws::specs::Numbers::given_accepted, crate::specs::Ends::next_refuses))]
+#[tactic(auto, using(model_laws::specs::Answers::number_some, model_short_laws::specs::Numbers::given_refused, crate::specs::Ends::next_refuses))]
 pub fn next(n: usize, length: usize, buffer: &mut [u8]) -> Result<(), Refusal>
     ensures { listed (code result) buffer.new ≡ next_result n length buffer.old }
 {
     sheet_short_refusal::given_refusal(n, length, buffer)?;
-    if choose(n as u8, length, true, buffer) {
+    let search = Search::start(n, length, buffer)?;
+    if choose_rest(&search, true, buffer) {
         Ok(())
     } else {
         Err(Refusal::LastList)

@@ -17,6 +17,8 @@ use Rattle.model_short_laws.specs.Choosing.{raw_answer, legal_from, legal_from_l
 use Rattle.model_short_laws.specs.Bytes.{raws_at_zero, raws_at_more}
 use Rattle.model_short_laws.specs.Numbers.{given_legal}
 use Rattle.model_short_laws.specs.Numbered.{length_choices}
+use Rattle.sheet_short_refusal.specs.declared.search.Search.{Search}
+use Rattle.sheet_short_refusal.specs.Searches.{Begun, Behind}
 
 module _ (n : ℕ) (b : List ℕ) (i left : ℕ) (s : Session) (c : Counts) where
   pub legal_end : left ≡ 0 → true ≡ legal_from n s c (raws_at b i left)
@@ -53,6 +55,20 @@ module _ (n : ℕ) (b : List ℕ) (i left : ℕ) (s : Session) (c : Counts) wher
       unfolding legal_from
       legal_goes_on h = rw (raws_at_more b i left more, among_here, ← done_here, eq-eqb a.code 0 h) refl
 
+-- ---- the same of a search
+
+module _ (s : Search) (b : List ℕ) (more : 1 ≤ s.left) (x : RawEntry) (here : x ≡ raw_at b s.at) (k : ℕ)
+    (place : k ≡ index_in x (choices s.n)) (low : k < 5 * s.n) where
+  pub search_ends : ((raw_answer s.n s.session s.counts x).code ≡ 0 → ⊥)
+      → false ≡ legal_from s.n s.session s.counts (raws_at b s.at s.left)
+  search_ends h = legal_refused s.n b s.at s.left s.session s.counts more x here k place low _ refl h
+
+  pub search_goes_on : (t : Search) → Behind s x t
+      → legal_from t.n t.session t.counts (raws_at b t.at t.left) ≡ legal_from s.n s.session s.counts (raws_at b s.at s.left)
+  search_goes_on t g =
+      let fewer : t.left ≡ s.left - 1 = omega (arith, g.left) in
+      rw (g.processes, g.at, fewer) (legal_goes_on s.n b s.at s.left s.session s.counts more x here k place low _ g.accepted refl)
+
 -- ---- the number of the given list, from a fresh session
 
 module _ (n m : ℕ) (b : List ℕ) (ok : refusal (first_tests n m b) ≡ 0) (s : Session) (fresh : s ≡ opened n (window n)) where
@@ -65,3 +81,14 @@ module _ (n m : ℕ) (b : List ℕ) (ok : refusal (first_tests n m b) ≡ 0) (s 
   given_no h =
       let no : legal n (given_list m b) ≡ false = legal_from_law n (given_list m b) ∙ sym (rw fresh at h) in
       sym (given_legal n m b ok ∙ rw no refl)
+
+-- The same of a search that begins there.
+module _ (n m : ℕ) (b : List ℕ) (ok : refusal (first_tests n m b) ≡ 0) (t : Search) (g : Begun n m t) where
+  given_from : legal_from t.n t.session t.counts (raws_at b t.at t.left) ≡ legal_from n t.session no_counts (given_list m b)
+  given_from = rw (g.processes, g.counts, g.at, g.left) refl
+
+  pub begun_yes : true ≡ legal_from t.n t.session t.counts (raws_at b t.at t.left) → 0 ≡ refusal (given_tests n m b)
+  begun_yes h = given_yes n m b ok t.session g.session (h ∙ given_from)
+
+  pub begun_no : false ≡ legal_from t.n t.session t.counts (raws_at b t.at t.left) → illegal_list ≡ refusal (given_tests n m b)
+  begun_no h = given_no n m b ok t.session g.session (h ∙ given_from)

@@ -3,13 +3,15 @@
 
 mod search;
 
-ghost use Rattle.std.specs.Prelude.{◌≡◌};
+ghost use Rattle.std.specs.Prelude.{◌≡◌, IfOk};
 ghost use Rattle.model.specs.Answers.{code};
 ghost use Rattle.model.specs.Refusal.{refusal};
 ghost use Rattle.model_short.specs.Calls.{raws_at, first_tests, given_tests};
 ghost use Rattle.model_short_laws.specs.Choosing.{legal_from};
+ghost use Rattle.sheet_short_refusal.specs.Searches.{Begun, Follows};
 
 use model::{After, Counts, Refusal};
+use model_short::RawEntry;
 pub use search::Search;
 
 // "1 for a seat count other than 1 or 2, 17 for a length over 6, 15 for a buffer not 6 times the length".
@@ -29,8 +31,53 @@ pub fn call_refusal(n: usize, length: usize, buffer: &[u8]) -> Result<(), Refusa
     Ok(())
 }
 
+// Here and not in the struct's file: a struct with a ghost field imports each `ghost use` of its file, and `Begun` and `Follows` import it.
+impl Search {
+    // The search that begins in "a fresh session", "with L at its least". 1, 17, 15, as above.
+    #[tactic(auto, using(model_short_laws::specs::Machine::met_fresh, model_short_laws::specs::Numbers::call_fits, model_short_laws::specs::Numbers::one_or_two), unfolding(model::specs::Window::window, model::specs::Board::opened))]
+    pub fn start(n: usize, length: usize, buffer: &[u8]) -> Result<Search, Refusal>
+        ensures tests { code result ≡ refusal (first_tests n length buffer.now) }
+        ensures begins { IfOk result (λ t. Begun n length t) }
+    {
+        call_refusal(n, length, buffer)?;
+        let few = n as u8;
+        Ok(Search {
+            n: few,
+            left: length,
+            at: 0,
+            session: session_opened::opened(n, part_window::window(few)),
+            counts: Counts::default(),
+        })
+    }
+
+    // The search that goes on behind an entry: none where the session refuses it or no entry is left.
+    #[tactic(auto, using(model_laws::specs::Answers::number_some, model_short_laws::specs::Machine::applied))]
+    pub fn after(&self, x: RawEntry) -> Option<Search>
+        ensures { Follows self.now x result }
+    {
+        if self.left == 0 {
+            return None;
+        }
+        match session_entry::apply(self.session, self.counts, x.kind, x.process, x.value) {
+            Ok(
+                After {
+                    state: session,
+                    counts,
+                },
+            ) => Some(Search {
+                n: self.n,
+                left: self.left - 1,
+                at: self.at + 6,
+                session,
+                counts,
+            }),
+            Err(_) => None,
+        }
+    }
+}
+
 // Whether the entries that are left in the buffer are legal, one after the other.
-#[tactic(auto, using(model_laws::specs::Answers::number_some, model_short_laws::specs::Machine::applied, crate::specs::Legal::legal_end, crate::specs::Legal::legal_no_choice, crate::specs::Legal::legal_refused, crate::specs::Legal::legal_goes_on))]
+#[tactic(auto, using(crate::specs::Legal::legal_end, crate::specs::Legal::legal_no_choice, crate::specs::Legal::search_ends))]
 fn legal(search: &Search, buffer: &[u8]) -> bool
     ensures { result
         ≡ legal_from search.now.n search.now.session search.now.counts (raws_at buffer.now search.now.at search.now.left) }
@@ -42,38 +89,18 @@ fn legal(search: &Search, buffer: &[u8]) -> bool
     if 5 * (search.n as usize) <= part_raw_entry::number_of(search.n, x) {
         return false;
     }
-    match session_entry::apply(search.session, search.counts, x.kind, x.process, x.value) {
-        Ok(After {
-            state: session,
-            counts,
-        }) => {
-            let rest = Search {
-                n: search.n,
-                left: search.left - 1,
-                at: search.at + 6,
-                session,
-                counts,
-            };
-            legal(&rest, buffer)
-        }
-        Err(_) => false,
+    match search.after(x) {
+        Some(rest) => legal(&rest, buffer),
+        None => false,
     }
 }
 
 // Then 20, "the given list is not legal": from "a fresh session", "with L at its least".
-#[tactic(auto, using(model_laws::specs::Answers::number_some, model_short_laws::specs::Machine::met_fresh, model_short_laws::specs::Numbers::call_fits, model_short_laws::specs::Numbers::one_or_two, model_short_laws::specs::Numbers::given_refused, crate::specs::Legal::given_yes, crate::specs::Legal::given_no), unfolding(model::specs::Window::window, model::specs::Board::opened))]
+#[tactic(auto, using(model_laws::specs::Answers::number_some, model_short_laws::specs::Numbers::given_refused, crate::specs::Legal::begun_yes, crate::specs::Legal::begun_no))]
 pub fn given_refusal(n: usize, length: usize, buffer: &[u8]) -> Result<(), Refusal>
     ensures { code result ≡ refusal (given_tests n length buffer.now) }
 {
-    call_refusal(n, length, buffer)?;
-    let few = n as u8;
-    let search = Search {
-        n: few,
-        left: length,
-        at: 0,
-        session: session_opened::opened(n, part_window::window(few)),
-        counts: Counts::default(),
-    };
+    let search = Search::start(n, length, buffer)?;
     if legal(&search, buffer) {
         Ok(())
     } else {

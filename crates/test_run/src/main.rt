@@ -52,11 +52,12 @@ fn print_run(rt: &impl Print, told: [u8; 7], sheet: &[u8]) {
     // So many places are lent of a buffer full of one number, which shows the places left alone.
     let mut buffer = [u32::MAX; 256];
     let lent = &mut buffer[..places.min(256)];
-    // A refused sheet makes no session, and one of no process is not sound.
-    let standing = match ran {
-        Ok(run) => session_values::standing_values(run.session, lent),
-        Err(_) => Err(Refusal::Unsound),
+    // A refused sheet makes no session: the read-out is given the one of no process and no round.
+    let left = match ran {
+        Ok(run) => run.session,
+        Err(_) => session_opened::opened(0, 0),
     };
+    let standing = session_values::standing_values(left, lent);
     print_standing(rt, standing, lent);
 }
 

@@ -1,10 +1,8 @@
 -- Each way out is a law of the lists chosen among (`Cycle`).
 use Rattle.std.specs.Prelude.{◌+◌, ◌-◌}
 use Rattle.base.specs.Prelude.{refl, arith}
-use Rattle.model_laws.specs.Answers.{number_some}
 use Rattle.model_short.specs.Calls.{raws_at}
-use Rattle.model_short_laws.specs.Machine.{applied, ready_after}
-use Rattle.sheet_short.specs.Cycle.{entry_end, entry_refused, entry_found, entry_passed, rest_end, rest_loose, rest_tight}
+use Rattle.sheet_short.specs.Cycle.{entry_end, entry_refused, entry_found, entry_passed, rest_behind, rest_end, rest_loose, rest_tight}
 use Rattle.sheet_short.proofs.+choose_entry_choose_rest.Goals as goal
 
 -- ---- the choice of an entry
@@ -18,18 +16,12 @@ choose_entry-returns-then-search-e t c =
     c.if-search-e.true
 
 -- The entry is refused.
-pub choose_entry-returns-in-Err : goal.choose_entry-returns-in-Err
-choose_entry-returns-in-Err t c =
+pub choose_entry-returns-in-None : goal.choose_entry-returns-in-None
+choose_entry-returns-in-None t c =
     let a = c.args in
     let s = a.search.now in
     entry_refused s.n (s.left - 1) a.e a.tight (raws_at a.buffer.now (s.at + 6) (s.left - 1)) s.session s.counts a.buffer.now s.at
-    (omega arith) _ c.choice-x.ensures _ (applied _ _ s.ready.met _ c.choice-x.result c.in-Err.ensures)
-    (number_some c.in-Err.field-0) _ _ _ c.choose_entry.ensures
-
--- Behind an entry that is accepted the search goes on.
-pub choose_entry-invariant_of-rest : goal.choose_entry-invariant_of-rest
-choose_entry-invariant_of-rest t c =
-    record { ready = ready_after _ _ _ _ _ _ _ c.choice-x.result c.args.search.now.ready c.requires c.in-Ok.ensures }
+    (omega arith) _ c.choice-x.ensures _ refl (c.in-None.ensures c.requires) _ _ _ c.choose_entry.ensures
 
 -- There is a rest.
 pub choose_entry-returns-then-choose_rest : goal.choose_entry-returns-then-choose_rest
@@ -37,7 +29,8 @@ choose_entry-returns-then-choose_rest t c =
     let a = c.args in
     let s = a.search.now in
     entry_found s.n (s.left - 1) a.e a.tight (raws_at a.buffer.now (s.at + 6) (s.left - 1)) s.session s.counts a.buffer.now s.at
-    (omega arith) _ c.choice-x.ensures _ (applied _ _ s.ready.met _ c.choice-x.result c.in-Ok.ensures) refl _ _ c.choose_rest.ensures
+    (omega arith) _ c.choice-x.ensures _ c.in-Some.ensures.accepted refl _ _
+    (rest_behind s c.in-Some.rest c.choice-x.result c.in-Some.ensures a.tight c.choose_rest.ensures)
     c.if-choose_rest.true _ c.put_raw.ensures
 
 -- There is none.
@@ -46,7 +39,8 @@ choose_entry-returns-else-choose_rest t c =
     let a = c.args in
     let s = a.search.now in
     entry_passed s.n (s.left - 1) a.e a.tight (raws_at a.buffer.now (s.at + 6) (s.left - 1)) s.session s.counts a.buffer.now s.at
-    (omega arith) _ c.choice-x.ensures _ (applied _ _ s.ready.met _ c.choice-x.result c.in-Ok.ensures) refl _ _ c.choose_rest.ensures
+    (omega arith) _ c.choice-x.ensures _ c.in-Some.ensures.accepted refl _ _
+    (rest_behind s c.in-Some.rest c.choice-x.result c.in-Some.ensures a.tight c.choose_rest.ensures)
     c.if-choose_rest.false _ _ _ c.choose_entry-else-choose_rest.ensures
 
 -- ---- the choice of the rest

@@ -1,7 +1,11 @@
-use Rattle.base.specs.Prelude.{arith}
-use Rattle.model_short_laws.specs.Machine.{ready_after}
+-- The list is legal if the rest is, behind an entry that is accepted.
+use Rattle.base.specs.Prelude.{arith, ◌∙◌}
+use Rattle.sheet_short_refusal.specs.Legal.{search_goes_on}
 use Rattle.sheet_short_refusal.proofs.+legal.Goals as goal
 
-pub invariant_of-rest : goal.invariant_of-rest
-invariant_of-rest t c =
-    record { ready = ready_after _ _ _ _ _ _ _ c.raw_at-x.result c.args.search.now.ready (omega arith) c.in-Ok.ensures }
+pub returns-in-Some : goal.returns-in-Some
+returns-in-Some t c =
+    let s = c.args.search.now in
+    c.legal.ensures
+    ∙ search_goes_on s c.args.buffer.now (omega arith) c.raw_at-x.result c.raw_at-x.ensures _ c.number_of.ensures.0 (omega arith)
+    c.in-Some.rest c.in-Some.ensures
