@@ -140,7 +140,7 @@ module _ {answer : Ran} {budget W : ℕ} {s : Session} {c : Counts} {k : ℕ} {r
   ends e = h.same ∙ rw (rest_end r.sheet.now r.place h.proper e)
 
   -- A process of the session is one of the 64 rows.
-  row_low : {p : ℕ} → p < s.n → p < 64
+  pub row_low : {p : ℕ} → p < s.n → p < 64
   row_low below = omega (arith, (sound_facts false W s h.opened.sound).few)
 
   -- So is one past the test of the budget and of its number.

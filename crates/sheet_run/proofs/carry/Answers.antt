@@ -6,7 +6,7 @@ use Rattle.model.specs.Numbers.{number}
 use Rattle.model_laws.specs.Answers.{number_some}
 use Rattle.model_laws.specs.Told.{code_accepted}
 use Rattle.model_laws.specs.Types.{Operation, Propose, Step, Learn, Crash}
-use Rattle.sheet_laws.specs.Entries.{is_step, step_refusal, step_leaves, step_counts, other_changes, other_stays, other_counts}
+use Rattle.sheet_laws.specs.Entries.{is_step, step_refusal, step_leaves, step_counts, becoming_changes, becoming_stays, other_counts}
 use Rattle.sheet_laws.specs.Carried.{Entered, entered_none, tallied}
 use Rattle.sheet_laws.specs.Carried.{closes, due, refused, goes_on}
 use Rattle.sheet_run.proofs.carry.Goals as goal
@@ -77,8 +77,8 @@ loop-e-preserved c =
           goes_on inv (sym c.in-Some.ensures ∙ ap Some w.in-Acts.is) d.0 f0
           (w.s-is
           ∙ elim w.match-becomes.branch [
-            | in-Some-becomes v ↦ v.s-is ∙ other_changes W l.s p o no_step named (sym v.in-Some-becomes.ensures)
-            | in_default-becomes v ↦ v.s-is ∙ other_stays W l.s p o no_step (sym w.becomes.ensures ∙ v.in_default-becomes.is)
+            | in-Some-becomes v ↦ v.s-is ∙ becoming_changes W l.s p o no_step named (sym v.in-Some-becomes.ensures)
+            | in_default-becomes v ↦ v.s-is ∙ becoming_stays W l.s p o no_step (sym w.becomes.ensures ∙ v.in_default-becomes.is)
           ])
           (w.c-is ∙ tallied f0 (rw w.access_of.ensures (other_counts l.s l.c o _ no_step)) w.counted-c-in_default-o.ensures)
           moved
