@@ -4,8 +4,8 @@
 --     begins, advances                     what `sheet_place::begin` and `advanced` promise, and `first_place` and `place_after` with them
 --     attaches, moves                      what `attach` and `moved` promise
 --     at, parts        a reader of a slice and a place, and the two of a reader
---     together, apart  what its slice and its place own is what the reader owns, and the other way (the arguments of `advances` and `moves`,
---                      which are those of a call that hands out an entry)
+--     together, apart  what its slice and its place own is what the reader owns, and the other way (as arguments of `advances` and of
+--                      `moves`, which are those of a call that hands out an entry)
 -- The promises assume nothing. What is owned takes `Logic`.
 use Rattle.std.specs.Prelude.{◌≡◌, ◌∷◌}
 use denote.Ref.{Bor}
