@@ -1,6 +1,6 @@
 -- The answer of a call on a house, by the number of its first refusal and by what is left where it is 0. Assumes nothing.
 use Rattle.std.specs.Prelude.{◌%◌, ◌<◌, ◌≡◌, ◌∷◌}
-use Rattle.base.specs.Prelude.{ℕ, suc, zero, arith, refl, sym, ◌∙◌, ap, Bool, true, false, cond, not, leb}
+use Rattle.base.specs.Prelude.{ℕ, arith, refl, sym, ◌∙◌, ap, Bool, true, false, cond, not, leb}
 use Rattle.base.specs.Prelude.{leb-false}
 use Rattle.model.specs.declared.Counts.{Counts}
 use Rattle.model.specs.declared.Phase.{Phase}
@@ -8,6 +8,8 @@ use Rattle.model.specs.Numbers.{unsound, no_such_process}
 use Rattle.model.specs.Board.{no_counts}
 use Rattle.model.specs.Refusal.{refusal, full}
 use Rattle.model_laws.specs.Accepted.{NoneHolds, Without, none_holds, returned}
+use Rattle.model_laws.specs.Answers.{refused_alike}
+use Rattle.model_house.specs.Answers.{HouseStepped}
 use Rattle.model_house.specs.declared.House.{House}
 use Rattle.model_house.specs.declared.Stance.TheVariants.{Working, Crashed}
 use Rattle.model_house.specs.declared.Place.TheVariants.{ProposeWard}
@@ -75,12 +77,9 @@ module _ (h : House) (c : Counts) (o : HouseOperation) where
   module _ {k : ℕ} (code : k ≡ house_code h c o) where
     pub house_refused : (k ≡ 0 → ⊥) → record { code = k; house = h; counts = c } ≡ house_operate h c o
     unfolding house_operate house_answered
-    house_refused some = go k _ code some
-      where
-        go : (k m : ℕ) → k ≡ m → (k ≡ 0 → ⊥) →
-            record { code = k; house = h; counts = c } ≡ house_stepped m h (house_after h c o) c (house_counts h c o)
-        go zero m e some = absurd (some refl)
-        go (suc k) m e some = rw (← e)
+    house_refused =
+        refused_alike {A = HouseStepped} (λ k. record { code = k; house = h; counts = c })
+        (λ m. house_stepped m h (house_after h c o) c (house_counts h c o)) (λ m. refl) code
 
     module _ (none : k ≡ 0) where
       pub house_known : HouseAccepted h c o

@@ -3,15 +3,11 @@ use Rattle.std.specs.Prelude.{◌+◌, ◌≤◌, ◌≡◌, ◌&&◌, ◌∷◌
 use Rattle.std.specs.List.{list_all, range_with_len, fold}
 use Rattle.base.specs.Prelude.{ℕ, suc, zero, arith, refl, ◌∙◌, Bool, cond, List, [], length, get_or, take, eqb}
 use Rattle.base.specs.Prelude.{add-zero, and-true, and_assoc}
-use Rattle.model.specs.Sound.{every}
+use Rattle.model_laws.specs.Alls.{every_listed}
 use Rattle.model_house.specs.House.{all_below, members}
 use Rattle.model_house_laws.specs.Below.{every_below, every_all}
 
 -- ---- of each element
-
-pub every_listed : {A : Type 0} (test : A → Bool) (l : List A) → every test l ≡ list_all test l
-every_listed test [] = refl
-every_listed test (x ∷ xs) = rw (every_listed test xs) refl
 
 pub listed_below : {A : Type 0} (P : A → Bool) (l : List A) (d : A) (n : ℕ) → n ≤ length l →
     list_all P (take n l) ≡ all_below n (λ i. P (get_or l i d))

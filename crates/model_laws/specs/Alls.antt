@@ -4,9 +4,9 @@ use Rattle.std.specs.List.{list_all, zip}
 use Rattle.base.specs.Prelude.{refl, sym, ap, ◌∙◌, Bool, true, false, and-false, List, [], length, arith}
 use Rattle.model.specs.Sound.{every}
 
-pub every_all : {A : Type 0} (P : A → Bool) (xs : List A) → list_all P xs ≡ every P xs
-every_all P [] = refl
-every_all P (x ∷ xs) = ap (λ b. P x && b) (every_all P xs)
+pub every_listed : {A : Type 0} (test : A → Bool) (l : List A) → every test l ≡ list_all test l
+every_listed test [] = refl
+every_listed test (x ∷ xs) = rw (every_listed test xs) refl
 
 turned : (p q a b : Bool) → ((p && q) && (a && b)) ≡ ((p && a) && (q && b))
 turned true true a b = refl

@@ -1,8 +1,8 @@
 -- The answer of an operation, by the number of its first refusal and by what is left where it is 0.
-use Rattle.std.specs.Prelude.{◌<◌, ◌%◌, ◌≡◌, ◌∷◌}
+use Rattle.std.specs.Prelude.{◌<◌, ◌%◌, ◌≡◌, ◌∷◌, Option, Some, None, [], get_or}
 use Rattle.base.specs.Prelude.{ℕ, suc, zero, arith, refl, sym, ◌∙◌, ap, Bool, true, false, cond, not, List, leb}
 use Rattle.base.specs.Prelude.{leb-false}
-use Rattle.model_laws.specs.Types.{Phase, Waiting, Crashed, Process, Session, Counts, Operation, Propose, Step, Learn, Crash}
+use Rattle.model_laws.specs.Types.{Phase, Waiting, Crashed, Process, Session, Counts, Stepped, Operation, Propose, Step, Learn, Crash}
 use Rattle.model.specs.declared.refusal.Refusal.{Refusal}
 use Rattle.model.specs.declared.refusal.Refusal.TheVariants.{BadProcessCount, BadRoundLimit, Unsound, NoSuchProcess, BlankProposal, SecondProposal, ProcessOut, ProcessGone}
 use Rattle.model.specs.declared.refusal.Refusal.TheVariants.{ProcessSpent, BadSheet, BadPairs, BadRun, BadEntry, NoSuchRound, BadBuffer}
@@ -28,29 +28,52 @@ code_of s c o = code_as false s c o
 
 -- ---- refused and accepted
 
--- No refusal has the number 0, which is accepted.
+-- The refusal of a number: none of 0, which is accepted.
+abbrev refusal_of : ℕ → Option Refusal
+refusal_of k =
+    get_or
+    (None ∷ Some BadProcessCount ∷ Some BadRoundLimit ∷ Some Unsound ∷ Some NoSuchProcess ∷
+    Some BlankProposal ∷ Some SecondProposal ∷ Some ProcessOut ∷ Some ProcessGone ∷
+    Some ProcessSpent ∷ Some BadSheet ∷ Some BadPairs ∷ Some BadRun ∷ Some BadEntry ∷
+    Some NoSuchRound ∷ Some BadBuffer ∷ Some CountsFull ∷ Some BadCuts ∷
+    Some ClosedToProposals ∷ Some BadWards ∷ Some IllegalList ∷ Some LastList ∷ [])
+    k None
+
+read_back : (e : Refusal) → refusal_of (number e) ≡ Some e
+read_back BadProcessCount = refl
+read_back BadRoundLimit = refl
+read_back Unsound = refl
+read_back NoSuchProcess = refl
+read_back BlankProposal = refl
+read_back SecondProposal = refl
+read_back ProcessOut = refl
+read_back ProcessGone = refl
+read_back ProcessSpent = refl
+read_back BadSheet = refl
+read_back BadPairs = refl
+read_back BadRun = refl
+read_back BadEntry = refl
+read_back NoSuchRound = refl
+read_back BadBuffer = refl
+read_back CountsFull = refl
+read_back BadCuts = refl
+read_back ClosedToProposals = refl
+read_back BadWards = refl
+read_back IllegalList = refl
+read_back LastList = refl
+
+-- No two refusals have one number.
+pub number_own : (d e : Refusal) → number d ≡ number e → d ≡ e
+number_own d e same = let back = sym (read_back d) ∙ ap refusal_of same ∙ read_back e in cc
+
+-- No refusal has the number 0.
 pub number_some : (e : Refusal) → number e ≡ 0 → ⊥
-number_some BadProcessCount none = omega arith
-number_some BadRoundLimit none = omega arith
-number_some Unsound none = omega arith
-number_some NoSuchProcess none = omega arith
-number_some BlankProposal none = omega arith
-number_some SecondProposal none = omega arith
-number_some ProcessOut none = omega arith
-number_some ProcessGone none = omega arith
-number_some ProcessSpent none = omega arith
-number_some BadSheet none = omega arith
-number_some BadPairs none = omega arith
-number_some BadRun none = omega arith
-number_some BadEntry none = omega arith
-number_some NoSuchRound none = omega arith
-number_some BadBuffer none = omega arith
-number_some CountsFull none = omega arith
-number_some BadCuts none = omega arith
-number_some ClosedToProposals none = omega arith
-number_some BadWards none = omega arith
-number_some IllegalList none = omega arith
-number_some LastList none = omega arith
+number_some e none = let back = sym (read_back e) ∙ ap refusal_of none in absurd (cc)
+
+-- Two answers by a number that agree at each number but 0 agree where a call is refused.
+pub refused_alike : {A : Type 0} (f g : ℕ → A) → ((m : ℕ) → f (suc m) ≡ g (suc m)) → {k m : ℕ} → k ≡ m → (k ≡ 0 → ⊥) → f k ≡ g m
+refused_alike f g alike {k = zero} told some = absurd (some refl)
+refused_alike f g alike {k = suc k} told some = rw (← told) (alike k)
 
 -- A session and counts with the number 0, or with another number that is the refusal's.
 pub stepped_accepted : (s : Session) (c : Counts) {k m : ℕ} {t u : Session} {d e : Counts} → k ≡ m → k ≡ 0 → u ≡ t → e ≡ d →
@@ -59,11 +82,8 @@ stepped_accepted s c ek none eu ee = rw (← ek, none, eu, ee)
 
 pub stepped_refused : (t : Session) (d : Counts) {k m : ℕ} {s : Session} {c : Counts} → k ≡ m → (k ≡ 0 → ⊥) →
     record { code = k; session = s; counts = c } ≡ stepped m s t c d
-stepped_refused t d {k} {m} {s} {c} ek some = go k m ek some
-  where
-    go : (k m : ℕ) → k ≡ m → (k ≡ 0 → ⊥) → record { code = k; session = s; counts = c } ≡ stepped m s t c d
-    go zero m ek some = absurd (some refl)
-    go (suc k) m ek some = rw (← ek)
+stepped_refused t d {s = s} {c = c} =
+    refused_alike {A = Stepped} (λ k. record { code = k; session = s; counts = c }) (λ m. stepped m s t c d) (λ m. refl)
 
 pub stepped_code : (m : ℕ) (s t : Session) (c d : Counts) → (stepped m s t c d).code ≡ m
 stepped_code zero s t c d = refl

@@ -1,21 +1,18 @@
 -- What a `Result` says of an answer (`model`, `Answers`), by the number of the first refusal; and the counts of `Counts::default`.
 use Rattle.std.specs.Prelude.{◌≡◌, Result, Ok, Err}
-use Rattle.base.specs.Prelude.{ℕ, suc, zero, refl}
+use Rattle.base.specs.Prelude.{ℕ, refl}
 use Rattle.model.specs.declared.refusal.Refusal.{Refusal}
 use Rattle.model.specs.Board.{opened, no_counts}
 use Rattle.model.specs.Numbers.{number}
 use Rattle.model.specs.Answers.{code, told, told_opened}
 use Rattle.model.specs.Refusal.{changed}
-use Rattle.model_laws.specs.Types.{Session, Counts}
-use Rattle.model_laws.specs.Answers.{number_some}
+use Rattle.model_laws.specs.Types.{Session, Counts, Changed}
+use Rattle.model_laws.specs.Answers.{number_some, refused_alike}
 
 -- Refused, the session stays; accepted, it is the one after.
 pub changed_err : (e : Refusal) {k : ℕ} (s t : Session) → number e ≡ k → told s (Err e) ≡ changed k s t
-changed_err e {k} s t ek = go k (number e) ek (number_some e)
-  where
-    go : (k m : ℕ) → m ≡ k → (m ≡ 0 → ⊥) → record { code = m; session = s } ≡ changed k s t
-    go zero m ek some = absurd (some ek)
-    go (suc k) m ek some = rw ek
+changed_err e s t ek =
+    refused_alike {A = Changed} (λ k. record { code = k; session = s }) (λ k. changed k s t) (λ m. refl) ek (number_some e)
 
 pub changed_ok : {k : ℕ} (s t : Session) → 0 ≡ k → told s (Ok t) ≡ changed k s t
 changed_ok s t ek = rw (← ek)

@@ -1,6 +1,6 @@
 -- The answer of a turn, by the number of its first refusal and by what is left where it is 0.
 use Rattle.std.specs.Prelude.{◌<◌, ◌%◌, ◌≡◌, ◌∷◌}
-use Rattle.base.specs.Prelude.{ℕ, suc, zero, arith, refl, sym, ◌∙◌, Bool, true, false, cond, not, leb-false}
+use Rattle.base.specs.Prelude.{ℕ, arith, refl, sym, ◌∙◌, Bool, true, false, cond, not, leb-false}
 use Rattle.model_laws.specs.Types.{Session, Counts}
 use Rattle.model.specs.Window.{window}
 use Rattle.model.specs.Board.{process_at}
@@ -8,7 +8,8 @@ use Rattle.model.specs.Numbers.{unsound}
 use Rattle.model.specs.Refusal.{refusal, status, is_outside, is_gone, full, stepped}
 use Rattle.model.specs.Sound.{sound_as, sound_poll}
 use Rattle.model_laws.specs.Accepted.{none_holds}
-use Rattle.model_laws.specs.Answers.{index_is}
+use Rattle.model_laws.specs.Answers.{index_is, refused_alike}
+use Rattle.model_poll.specs.Answers.{PollStepped}
 use Rattle.model_poll.specs.declared.Answer.{Answer}
 use Rattle.model_poll.specs.declared.Answer.TheVariants.{Pending}
 use Rattle.model_poll.specs.Turn.{answer_of}
@@ -33,13 +34,9 @@ module _ (s : Session) (c : Counts) (p : ℕ) {k : ℕ} (code : k ≡ refusal ((
   -- Refused: nothing changes, and no answer is given.
   pub turn_refused : (k ≡ 0 → ⊥) → record { code = k; session = s; counts = c; answer = Pending } ≡ poll_turn s p c
   unfolding poll_turn_for turned sound_as
-  turn_refused some = go k _ code some
-    where
-      go : (k m : ℕ) → k ≡ m → (k ≡ 0 → ⊥) →
-          record { code = k; session = s; counts = c; answer = Pending }
-          ≡ polled (stepped m s (turn_after (window s.n) s p) c (turn_counts s c p)) p
-      go zero m e some = absurd (some refl)
-      go (suc k) m e some = rw (← e)
+  turn_refused =
+      refused_alike {A = PollStepped} (λ k. record { code = k; session = s; counts = c; answer = Pending })
+      (λ m. polled (stepped m s (turn_after (window s.n) s p) c (turn_counts s c p)) p) (λ m. refl) code
 
   module _ (none : k ≡ 0) where
     -- What the accepted turn knows.

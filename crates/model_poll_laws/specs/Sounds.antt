@@ -5,9 +5,9 @@ use Rattle.base.specs.Prelude.{not, leb-true, leb-false, ltb-true, eqb-true, lt-
 use Rattle.base.specs.Bools.{cond_cases, and_left, and_right, and_both}
 use Rattle.model_laws.specs.Types.{Phase, Idle, Waiting, Write, Scan, Adopt, Compare, Flag, CheckMark, CheckValue, Commit, Exhausted}
 use Rattle.model_laws.specs.Types.{Crashed, Decided, HasCommitted, HasAdopted, Process, Access, Nothing, ReadValue, WriteValue, ReadMark}
-use Rattle.model_laws.specs.Types.{SetMark, ReadDecision, WriteDecision, Session, Counts, Operation, Propose, Step, Crash}
-use Rattle.model.specs.Board.{process_at, idle, max_rounds}
-use Rattle.model.specs.Step.{go_on, phase_next, next, stored, turn, found, process, access}
+use Rattle.model_laws.specs.Types.{SetMark, ReadDecision, WriteDecision, Session, Counts, Propose, Step, Crash}
+use Rattle.model.specs.Board.{process_at}
+use Rattle.model.specs.Step.{go_on, phase_next, next, stored, process, access}
 use Rattle.model.specs.Refusal.{status, is_outside, is_gone}
 use Rattle.model.specs.Machine.{access_of, becomes, after}
 use Rattle.model.specs.Sound.{sound_phase_as, sound_phase, sound_process_as, sound_process, poll_registers, sound_for_as}
@@ -18,7 +18,7 @@ use Rattle.model_laws.specs.Keeps.{next_sound}
 use Rattle.model_laws.specs.Sounds.{sound_facts, sound_process_law}
 use Rattle.model_laws.specs.Accepted.{Accepted}
 use Rattle.model_laws.specs.Operations.{stored_same, turn_sound, operation_reach}
-use Rattle.model_poll.specs.Turn.{without_decision, poll_access, is_waiting, ending, poll_next}
+use Rattle.model_poll.specs.Turn.{without_decision, poll_access, ending, poll_next}
 use Rattle.model_poll.specs.Machine.{turn_after}
 
 -- ---- a process of a poll that has no answer is sound as one of a session

@@ -21,7 +21,7 @@ use Rattle.model_laws.specs.Callers.{open_held}
 use Rattle.model_laws.specs.Sounds.{sound_facts, closed_sound}
 use Rattle.model_laws.specs.Windows.{window_least}
 use Rattle.sheet_laws.specs.declared.Reader.{Reader}
-use Rattle.sheet_laws.specs.Places.{Inside, Proper}
+use Rattle.sheet_laws.specs.Places.{handed, advanced, rest, Inside, Proper}
 use Rattle.sheet_laws.specs.Reading.{handed_by, moved_on, left_to}
 use Rattle.sheet_laws.specs.Ordered.{accepted_inside}
 use Rattle.sheet_laws.specs.PlaceLaws.{advanced_proper, rest_next, rest_end}
@@ -121,51 +121,50 @@ due budget k n p = go (leb budget k) refl
     go true e o = absurd (true≢false o)
     go false e o = (leb-false budget k e, leb-false n p o)
 
--- What the loop keeps: the answer is that of the run from where the reader stands on, with k entries carried out; the session is sound.
-pub record Carrying (answer : Ran) (budget W : ℕ) (s : Session) (c : Counts) (k : ℕ) (r : Reader) : Type 0 where
-  pub same : answer ≡ run_from W (budget - k) k s c (left_to r)
-  pub proper : Proper r.sheet.now r.place
+-- What the loop keeps, at a place of sheet t: the answer is that of the run from here on, with k entries carried out; the session is sound.
+pub record Carrying (answer : Ran) (t : List ℕ) (budget W : ℕ) (s : Session) (c : Counts) (k : ℕ) (place : ℕ) : Type 0 where
+  pub same : answer ≡ run_from W (budget - k) k s c (rest t place)
+  pub proper : Proper t place
   pub within : k ≤ budget
   pub opened : Opened W s
 
--- The same by other names of the session, the counts and the reader.
-carrying_at : {answer : Ran} {budget W k : ℕ} {s s' : Session} {c c' : Counts} {r r' : Reader} →
-    s ≡ s' → c ≡ c' → r ≡ r' → Carrying answer budget W s c k r → Carrying answer budget W s' c' k r'
-carrying_at {answer} {budget} {W} {k} es ec er h = subst₃ (λ s c r. Carrying answer budget W s c k r) es ec er h
+-- The same by other names of the session, the counts and the place.
+carrying_at : {answer : Ran} {t : List ℕ} {budget W k : ℕ} {s s' : Session} {c c' : Counts} {place place' : ℕ} →
+    s ≡ s' → c ≡ c' → place ≡ place' → Carrying answer t budget W s c k place → Carrying answer t budget W s' c' k place'
+carrying_at {answer} {t} {budget} {W} {k} es ec ep h =
+    subst₃ (λ s c place. Carrying answer t budget W s c k place) es ec ep h
 
-module _ {answer : Ran} {budget W : ℕ} {s : Session} {c : Counts} {k : ℕ} {r : Reader} (h : Carrying answer budget W s c k r) where
+module _ {answer : Ran} {t : List ℕ} {budget W : ℕ} {s : Session} {c : Counts} {k : ℕ} {place : ℕ}
+    (h : Carrying answer t budget W s c k place) where
   -- "It ends finished when none is left".
-  pub ends : handed_by r ≡ None → answer ≡ ran k s c Finished
+  pub ends : handed t place ≡ None → answer ≡ ran k s c Finished
   unfolding run_by
-  ends e = h.same ∙ rw (rest_end r.sheet.now r.place h.proper e)
+  ends e = h.same ∙ rw (rest_end t place h.proper e)
 
   -- A process of the session is one of the 64 rows.
-  row_low : {p : ℕ} → p < s.n → p < 64
+  pub row_low : {p : ℕ} → p < s.n → p < 64
   row_low below = omega (arith, (sound_facts false W s h.opened.sound).few)
 
   -- So is one past the test of the budget and of its number.
   pub row_past : {p : ℕ} → false ≡ (leb budget k || leb s.n p) → p < 64
   row_past {p} past = row_low (due budget k s.n p (sym past)).1
 
-  module _ {e : Entry} (next : handed_by r ≡ Some e) where
-    behind : left_to r ≡ e ∷ left_to (moved_on r)
-    behind = rest_next r.sheet.now r.place h.proper next
-
+  module _ {e : Entry} (next : handed t place ≡ Some e) where
     -- One entry fewer is left behind it.
-    pub shorter : {r' : Reader} → r' ≡ moved_on r → length (left_to r') < length (left_to r)
-    shorter er = rw (er, behind) (omega arith)
+    pub shorter : {next_place : ℕ} → next_place ≡ advanced t place → length (rest t next_place) < length (rest t place)
+    shorter ep = rw (ep, rest_next t place h.proper next) (omega arith)
 
     -- "budget ended after as many entries as the budget allows with more left".
     spent : budget ≤ k → answer ≡ ran k s c BudgetEnded
     unfolding run_by
     spent low =
         let z : budget - k ≡ 0 = omega arith in
-        h.same ∙ rw (behind, z)
+        h.same ∙ rw (rest_next t place h.proper next, z)
 
-    here : k < budget → answer ≡ run_from W (suc (budget - (k + 1))) k s c (e ∷ left_to (moved_on r))
+    here : k < budget → answer ≡ run_from W (suc (budget - (k + 1))) k s c (e ∷ rest t (advanced t place))
     here left =
         let z : budget - k ≡ suc (budget - (k + 1)) = omega arith in
-        rw (← z, ← behind) h.same
+        rw (← z, ← rest_next t place h.proper next) h.same
 
     -- "that next one is not tried", or it is refused with this number.
     ended : (code : ℕ) → (k < budget → answer ≡ ran k s c (Refused code k)) → answer ≡ ran k s c (halt_of budget k code)
@@ -173,45 +172,45 @@ module _ {answer : Ran} {budget W : ℕ} {s : Session} {c : Counts} {k : ℕ} {r
         (λ b. refused (leb-false budget k b))
 
   -- An entry that says nothing.
-  pub malformed : handed_by r ≡ Some Malformed → answer ≡ ran k s c (halt_of budget k bad_entry)
+  pub malformed : handed t place ≡ Some Malformed → answer ≡ ran k s c (halt_of budget k bad_entry)
   unfolding run_by
   malformed next = ended next bad_entry (here next)
 
   -- A close: one more is carried out, or "that next one is not tried".
-  module _ (next : handed_by r ≡ Some Closes) where
+  module _ (next : handed t place ≡ Some Closes) where
     pub close_spent : budget ≤ k → answer ≡ ran k s c BudgetEnded
     close_spent = spent next
 
-    pub closes : {s₁ : Session} {d : Counts} {r' : Reader} → k < budget → s₁ ≡ with_closed s → d ≡ c →
-        r' ≡ moved_on r → Carrying answer budget W s₁ d (k + 1) r'
+    pub closes : {s₁ : Session} {d : Counts} {next_place : ℕ} → k < budget → s₁ ≡ with_closed s → d ≡ c →
+        next_place ≡ advanced t place → Carrying answer t budget W s₁ d (k + 1) next_place
     unfolding run_by execute
-    closes left es ed er =
-        carrying_at (sym es) (sym ed) (sym er)
+    closes left es ed ep =
+        carrying_at (sym es) (sym ed) (sym ep)
         (record {
           same = here next left ∙ rw (add-one k);
-          proper = advanced_proper r.sheet.now r.place h.proper;
+          proper = advanced_proper t place h.proper;
           within = omega arith;
           opened = record { wide = h.opened.wide; sound = closed_sound W s ∙ h.opened.sound };
         })
 
-  module _ {o : Operation} (next : handed_by r ≡ Some (Acts o)) where
+  module _ {o : Operation} (next : handed t place ≡ Some (Acts o)) where
     module _ (left : k < budget) where
       -- "with the refusal and the entry's index (from 0) at the first refused one".
-      pub refused : {p code : ℕ} → Entered s c o p code → (code ≡ 0 → ⊥) → answer ≡ ran k s c (Refused code k)
-      refused {p} {code} f some = here next left ∙ one_refused W _ k s c o _ code (sym (entered_code f)) some
+      pub refused : {p r : ℕ} → Entered s c o p r → (r ≡ 0 → ⊥) → answer ≡ ran k s c (Refused r k)
+      refused {p} {r} f some = here next left ∙ one_refused W _ k s c o _ r (sym (entered_code f)) some
 
       -- An accepted entry: what the code leaves is what the one form has, and one more is carried out.
-      pub goes_on : {p : ℕ} {s₁ : Session} {d : Counts} {r' : Reader} →
+      pub goes_on : {p : ℕ} {s₁ : Session} {d : Counts} {next_place : ℕ} →
           Entered s c o p 0 →
           s₁ ≡ after W s o →
           d ≡ counts_after s c o →
-          r' ≡ moved_on r →
-          Carrying answer budget W s₁ d (k + 1) r'
-      goes_on f es ed er =
-          carrying_at (sym es) (sym ed) (sym er)
+          next_place ≡ advanced t place →
+          Carrying answer t budget W s₁ d (k + 1) next_place
+      goes_on f es ed ep =
+          carrying_at (sym es) (sym ed) (sym ep)
           (record {
             same = here next left ∙ one_more W _ k s c o _ (sym (entered_code f)) ∙ rw (add-one k);
-            proper = advanced_proper r.sheet.now r.place h.proper;
+            proper = advanced_proper t place h.proper;
             within = omega arith;
             opened = record {
               wide = h.opened.wide;
@@ -228,3 +227,19 @@ module _ {answer : Ran} {budget W : ℕ} {s : Session} {c : Counts} {k : ℕ} {r
         ∙ one_refused W _ k s c o _ no_such_process
         (number_refusal s c o (rw (← named) (leb-true s.n p (rw (lt-leb budget k left) at stops))))
         (λ z. omega arith))
+
+-- ---- by the reader that stands there
+
+-- What the loop keeps: the same, of the sheet and the place of its reader.
+abbrev pub Reads : (answer : Ran) (budget W : ℕ) (s : Session) (c : Counts) (k : ℕ) → Reader → Type 0
+Reads answer budget W s c k r = Carrying answer r.sheet.now budget W s c k r.place
+
+-- One entry fewer is left to the reader that has moved on.
+pub fewer_left : {answer : Ran} {budget W k : ℕ} {s : Session} {c : Counts} {e : Entry} {r r' : Reader} →
+    Reads answer budget W s c k r → handed_by r ≡ Some e → r' ≡ moved_on r → length (left_to r') < length (left_to r)
+fewer_left h next er = rw er (shorter h next refl)
+
+-- The reader moves on.
+pub reads_on : {answer : Ran} {budget W k : ℕ} {s : Session} {c : Counts} (r : Reader) {r' : Reader} → r' ≡ moved_on r →
+    Carrying answer r.sheet.now budget W s c k (advanced r.sheet.now r.place) → Reads answer budget W s c k r'
+reads_on r er h = rw er h

@@ -1,8 +1,8 @@
 -- One entry as the runner's code takes it: a work turn has a path of its own, and of the others each is a refusal, a register operation
 -- and, where the record changes, what the process becomes. The laws say that this is what the machine does.
 use Rattle.std.specs.Prelude.{◌<◌, ◌≤◌, ◌≡◌, Some, None, Option}
-use Rattle.base.specs.Prelude.{ℕ, refl, sym, ◌∙◌, ap, Bool, true, false, cond, true≢false, List, set, leb, eqb}
-use Rattle.base.specs.Prelude.{le-leb, lt-leb}
+use Rattle.base.specs.Prelude.{ℕ, refl, ◌∙◌, ap, Bool, true, false, cond, not, true≢false, List, set, leb, eqb}
+use Rattle.base.specs.Prelude.{le-leb, lt-leb, not-false}
 use Rattle.std.proofs.Math.Seq.{set-get_or}
 use Rattle.model_laws.specs.Types.{Phase, Waiting, Crashed, Access, Nothing, ReadDecision, Process, Session, Counts, Operation, Propose}
 use Rattle.model_laws.specs.Types.{Step, Learn, Crash, Ending, BudgetEnded, Refused}
@@ -29,13 +29,23 @@ halt_of budget k code = cond (leb budget k) BudgetEnded (Refused code k)
 
 -- ---- entries that are no work turn
 
--- What the record of the process becomes, by the decision register D, where it changes. (Of a work turn, which is none of these, nothing is
--- said.)
-abbrev pub moved_to : Process → (D : ℕ) → Operation → Option Process
-moved_to q D (Propose p v) = Some (process Waiting q.round v)
-moved_to q D (Step p leader) = None
-moved_to q D (Learn p) = cond (eqb D 0) None (Some (learnt q D))
-moved_to q D (Crash p) = Some (process Crashed q.round q.estimate)
+-- Whether the record of the process changes, by the decision register D.
+abbrev pub changes_of : (D : ℕ) → Operation → Bool
+changes_of D (Propose p v) = true
+changes_of D (Step p leader) = false
+changes_of D (Learn p) = not (eqb D 0)
+changes_of D (Crash p) = true
+
+-- To what, where it does. (Where it does not, any record will do.)
+abbrev pub moved_to : Process → (D : ℕ) → Operation → Process
+moved_to q D (Propose p v) = process Waiting q.round v
+moved_to q D (Step p leader) = process Crashed q.round q.estimate
+moved_to q D (Learn p) = learnt q D
+moved_to q D (Crash p) = process Crashed q.round q.estimate
+
+-- The record that is stored then; none where it does not change.
+abbrev pub becoming : Process → (D : ℕ) → Operation → Option Process
+becoming q D o = cond (changes_of D o) (Some (moved_to q D o)) None
 
 -- The one register operation.
 abbrev pub other_access : Operation → Access
@@ -92,37 +102,42 @@ step_counts W s p leader c {m = m} t told named ea er ex =
 
 -- ---- what an entry that is no work turn leaves
 
--- A record that comes of a look comes of one at a D that is not blank, and none of one at a blank D.
-some_same : {x y : Process} → Some x ≡ Some y → x ≡ y
-some_same e = cc
-
-unless_blank : (b : Bool) {x y : Process} → cond b None (Some x) ≡ Some y → Some x ≡ Some y
-unless_blank true e = absurd (cc)
-unless_blank false e = e
-
-blank : (b : Bool) (x : Process) → cond b None (Some x) ≡ None → b ≡ true
-blank true x e = refl
-blank false x e = absurd (cc)
-
 module _ (W : ℕ) (s : Session) (p : ℕ) where
   -- Where the record changes.
   pub other_changes : (o : Operation) {q : Process} → is_step o ≡ false → p ≡ process_of o →
-      moved_to (process_at s p) s.decision o ≡ Some q → with_process s p q ≡ after W s o
+      changes_of s.decision o ≡ true → q ≡ moved_to (process_at s p) s.decision o → with_process s p q ≡ after W s o
   unfolding after access_of becomes turn stored found
-  other_changes (Propose m v) {q} not_step named e = rw (← named) (ap (with_process s p) (sym (some_same e)))
-  other_changes (Step m leader) {q} not_step named e = absurd (true≢false not_step)
-  other_changes (Learn m) {q} not_step named e =
-      rw (← named) (ap (with_process s p) (sym (some_same (unless_blank (eqb s.decision 0) e))))
-  other_changes (Crash m) {q} not_step named e = rw (← named) (ap (with_process s p) (sym (some_same e)))
+  other_changes (Propose m v) not_step named h eq = rw (eq, named)
+  other_changes (Step m leader) not_step named h eq = absurd (true≢false not_step)
+  other_changes (Learn m) not_step named h eq = rw (eq, named)
+  other_changes (Crash m) not_step named h eq = rw (eq, named)
 
   -- And where it does not: a look at a blank D.
   pub other_stays : (o : Operation) → is_step o ≡ false →
-      moved_to (process_at s p) s.decision o ≡ None → s ≡ after W s o
+      changes_of s.decision o ≡ false → s ≡ after W s o
   unfolding after access_of becomes turn stored found learnt
-  other_stays (Propose m v) not_step e = absurd (cc)
-  other_stays (Step m leader) not_step e = absurd (true≢false not_step)
-  other_stays (Learn m) not_step e = rw (blank (eqb s.decision 0) _ e, set-get_or s.processes m idle)
-  other_stays (Crash m) not_step e = absurd (cc)
+  other_stays (Propose m v) not_step h = absurd (true≢false h)
+  other_stays (Step m leader) not_step h = absurd (true≢false not_step)
+  other_stays (Learn m) not_step h = rw (not-false (eqb s.decision 0) h, set-get_or s.processes m idle)
+  other_stays (Crash m) not_step h = absurd (true≢false h)
+
+-- By the record that is stored: one is, where the record changes, and none where it does not.
+one_stored : (b : Bool) {x y : Process} → cond b (Some x) None ≡ Some y → (b ≡ true) × (y ≡ x)
+one_stored true e = (refl, cc)
+one_stored false e = absurd (cc)
+
+none_stored : (b : Bool) (x : Process) → cond b (Some x) None ≡ None → b ≡ false
+none_stored true x e = absurd (cc)
+none_stored false x e = refl
+
+module _ (W : ℕ) (s : Session) (p : ℕ) where
+  pub becoming_changes : (o : Operation) {q : Process} → is_step o ≡ false → p ≡ process_of o →
+      becoming (process_at s p) s.decision o ≡ Some q → with_process s p q ≡ after W s o
+  becoming_changes o not_step named e =
+      let stored = one_stored (changes_of s.decision o) e in other_changes W s p o not_step named stored.0 stored.1
+
+  pub becoming_stays : (o : Operation) → is_step o ≡ false → becoming (process_at s p) s.decision o ≡ None → s ≡ after W s o
+  becoming_stays o not_step e = other_stays W s p o not_step (none_stored (changes_of s.decision o) _ e)
 
 -- What it counts: its register operation is no flag write, so that any x will do for what it found.
 pub other_counts : (s : Session) (c : Counts) (o : Operation) (x : ℕ) → is_step o ≡ false → counted (other_access o) x c ≡ counts_after s c o

@@ -5,7 +5,7 @@ ghost use Rattle.model.specs.Machine.{process_of as process_for};
 ghost use Rattle.model.specs.Numbers.{number};
 ghost use Rattle.model.specs.Refusal.{refusal};
 ghost use Rattle.model_laws.specs.Accepted.{own_tests};
-ghost use Rattle.sheet_laws.specs.Entries.{halt_of, moved_to, other_access};
+ghost use Rattle.sheet_laws.specs.Entries.{becoming, halt_of, other_access};
 
 use model::{Access, Counts, Ended, Operation, Process, Refusal};
 
@@ -55,7 +55,7 @@ pub(crate) fn refusal_of(closed: bool, q: Process, c: Counts, o: Operation) -> R
 // 01, "One turn at a time", proposal, look and crash: what the process becomes where it changes. A look at a blank D changes none, so that
 // its record is not stored again. (The answer for a work turn, which has a path of its own, is not used.)
 pub(crate) fn becomes(q: Process, decision: u32, o: Operation) -> Option<Process>
-    ensures { result ≡ moved_to q decision o }
+    ensures { result ≡ becoming q decision o }
 {
     match o {
         Operation::Propose(_, v) => Some(part_moves::proposed(q, v)),

@@ -41,7 +41,7 @@ fn put_entries(entries: &[u8], at: usize, sheet: &mut [u8])
 // Writes a sheet of the given entries, cut into runs of the given lengths, from the first byte of the output on, within the caller's limits
 // (02, wish 9); answers its size. Refused, the output is as it was.
 // Kept: six parameters, since C gives them one by one and a theorem speaks of them (`write_contract`).
-#[tactic(auto, using(base::specs::Bools::and_right, model_laws::specs::Callers::caller_limits, model_write_laws::specs::Sizes::length_sheet_of, model_write_laws::specs::Facts::write_facts, model_write_laws::specs::Stored::written_refused))]
+#[tactic(auto, using(base::specs::Bools::and_right, model_laws::specs::Callers::caller_limits, model_write_laws::specs::Sizes::length_sheet_of, model_write_laws::specs::Facts::write_facts, model_write_laws::specs::Stored::told_refused))]
 pub fn write(
     caller: Caller,
     n: usize,

@@ -31,7 +31,7 @@ fn estimates_low(processes: &[Process], c: usize) -> bool
 }
 
 // 02, wish 11: "a .. poll unsound, closed or of another size, a poll number above c".
-#[tactic(auto, using(model_house_laws::specs::Listed::every_listed), unfolding(model::specs::Sound::sound_as, model_house::specs::Sound::sound_vote, model_house::specs::Sound::sound_numbers))]
+#[tactic(auto, using(model_laws::specs::Alls::every_listed), unfolding(model::specs::Sound::sound_as, model_house::specs::Sound::sound_vote, model_house::specs::Sound::sound_numbers))]
 pub fn vote_sound(n: usize, c: usize, s: Session) -> bool
     ensures { result ≡ sound_vote n c s }
 {

@@ -6,9 +6,9 @@ use Rattle.model.specs.Numbers.{number}
 use Rattle.model_laws.specs.Answers.{number_some}
 use Rattle.model_laws.specs.Told.{code_accepted}
 use Rattle.model_laws.specs.Types.{Operation, Propose, Step, Learn, Crash}
-use Rattle.sheet_laws.specs.Entries.{is_step, step_refusal, step_leaves, step_counts, other_changes, other_stays, other_counts}
+use Rattle.sheet_laws.specs.Entries.{is_step, step_refusal, step_leaves, step_counts, becoming_changes, becoming_stays, other_counts}
 use Rattle.sheet_laws.specs.Carried.{Entered, entered_none, tallied}
-use Rattle.sheet_laws.specs.Carried.{closes, due, refused, goes_on}
+use Rattle.sheet_laws.specs.Carried.{closes, due, refused, goes_on, reads_on}
 use Rattle.sheet_run.proofs.carry.Goals as goal
 use Rattle.sheet_run.proofs.carry.Goals.{in-Acts+else-halts+in-Step+in_default-step_refusal}
 use Rattle.sheet_run.proofs.carry.Goals.{in-Acts+else-halts+in_default-o+in_default-refusal_of}
@@ -47,7 +47,7 @@ loop-e-preserved c =
     let inv = c.loop-e.invariant in
     let sound = c.loop-e.invariant.opened.sound in
     let W = c.args.window in
-    let moved = c.moved-reader.ensures in
+    let moved = reads_on l.reader c.moved-reader.ensures in
     elim c.match-e.branch [
       | in-Acts+else-halts+in-Step+in_default-step_refusal w ↦
           let p = w.process_of-p.result in
@@ -57,14 +57,15 @@ loop-e-preserved c =
           let f : Entered l.s l.c w.in-Acts.o p (code w.step_refusal.result) =
           record { named = named; below = d.1; code = w.step_refusal.ensures ∙ step_refusal _ _ _ told } in
           let f0 = entered_none f (code_accepted _ w.in_default-step_refusal.not-Err) in
-          goes_on inv (sym c.in-Some.ensures ∙ ap Some w.in-Acts.is) d.0 f0
+          moved
+          (goes_on inv (sym c.in-Some.ensures ∙ ap Some w.in-Acts.is) d.0 f0
           (w.s-is
           ∙ step_leaves W l.s p _ sound told named w.access-a.ensures w.value.ensures.reads w.mark-x.ensures.reads w.value.ensures.writes
           w.mark-x.ensures.writes w.decision.ensures w.next.ensures)
           (w.c-is
           ∙ tallied f0 (step_counts W l.s p _ l.c sound told named w.access-a.ensures w.value.ensures.reads w.mark-x.ensures.reads)
           w.counted-c.ensures)
-          moved
+          refl)
       | in-Acts+else-halts+in_default-o+in_default-refusal_of w ↦
           let p = w.process_of-p.result in
           let named = w.process_of-p.ensures in
@@ -74,14 +75,15 @@ loop-e-preserved c =
           let f : Entered l.s l.c o p (code w.refusal_of.result) =
           record { named = named; below = d.1; code = w.refusal_of.ensures } in
           let f0 = entered_none f (code_accepted _ w.in_default-refusal_of.not-Err) in
-          goes_on inv (sym c.in-Some.ensures ∙ ap Some w.in-Acts.is) d.0 f0
+          moved
+          (goes_on inv (sym c.in-Some.ensures ∙ ap Some w.in-Acts.is) d.0 f0
           (w.s-is
           ∙ elim w.match-becomes.branch [
-            | in-Some-becomes v ↦ v.s-is ∙ other_changes W l.s p o no_step named (sym v.in-Some-becomes.ensures)
-            | in_default-becomes v ↦ v.s-is ∙ other_stays W l.s p o no_step (sym w.becomes.ensures ∙ v.in_default-becomes.is)
+            | in-Some-becomes v ↦ v.s-is ∙ becoming_changes W l.s p o no_step named (sym v.in-Some-becomes.ensures)
+            | in_default-becomes v ↦ v.s-is ∙ becoming_stays W l.s p o no_step (sym w.becomes.ensures ∙ v.in_default-becomes.is)
           ])
           (w.c-is ∙ tallied f0 (rw w.access_of.ensures (other_counts l.s l.c o _ no_step)) w.counted-c-in_default-o.ensures)
-          moved
+          refl)
       | in-Closes+else-budget-k w ↦
-          closes inv (sym c.in-Some.ensures ∙ ap Some w.in-Closes.is) w.if-budget-k.false w.s-is w.c-is moved
+          moved (closes inv (sym c.in-Some.ensures ∙ ap Some w.in-Closes.is) w.if-budget-k.false w.s-is w.c-is refl)
     ]

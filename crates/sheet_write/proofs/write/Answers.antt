@@ -35,6 +35,6 @@ returns c =
     let ms = a.lengths.now in
     let room = fits (limits_of a.caller) a.n a.limit es ms _ c.in_ok-write_refusal.ensures in
     let long : length (sheet_of a.n a.limit es ms) ≤ length a.sheet.now = omega (arith, length_sheet_of a.n a.limit es ms) in
-    written_accepted (limits_of a.caller) a.n a.limit es ms a.sheet.now c.in_ok-write_refusal.ensures
+    written_accepted (limits_of a.caller) a.n a.limit es ms a.sheet.now (sym c.in_ok-write_refusal.ensures)
     (sym (length_sheet_of a.n a.limit es ms))
     (rw (c.put_entries.ensures, c.put_pairs.ensures, c.put16.ensures) (sheet_stored a.n a.limit es ms a.sheet.now long))

@@ -1,0 +1,2 @@
+-- What a reader owns.
+pub mod Rows
