@@ -10,7 +10,7 @@ ghost use Rattle.model_short.specs.Calls.{raws_at, first_tests, given_tests};
 ghost use Rattle.model_short_laws.specs.Choosing.{legal_from};
 ghost use Rattle.sheet_short_refusal.specs.Searches.{Begun, Follows};
 
-use model::{After, Counts, Refusal};
+use model::{Counts, Refusal};
 use model_short::RawEntry;
 pub use search::Search;
 
@@ -59,17 +59,12 @@ impl Search {
             return None;
         }
         match session_entry::apply(self.session, self.counts, x.kind, x.process, x.value) {
-            Ok(
-                After {
-                    state: session,
-                    counts,
-                },
-            ) => Some(Search {
+            Ok(left) => Some(Search {
                 n: self.n,
                 left: self.left - 1,
                 at: self.at + 6,
-                session,
-                counts,
+                session: left.state,
+                counts: left.counts,
             }),
             Err(_) => None,
         }
