@@ -10,15 +10,19 @@ use Rattle.use_text.specs.declared.Page.{Page}
 use Rattle.use_text.specs.Page.{page_size, blank_page, Put, on_blank}
 use Rattle.use_report_laws.specs.Room.{report_low}
 
--- The report of a run stands on the page from its start, with zeros behind it.
+-- A text that fits stands on the page from its start, with zeros behind it.
+pub whole_text : {x : Page} (t : List ℕ)
+    → length t ≤ page_size
+    → Put blank_page t x
+    → ((x.len ≡ length t) × (x.len ≤ page_size)) × (x.bytes ≡ t ++ replicate (page_size - x.len) 0)
+whole_text t low p = let q = on_blank t low p in ((q.0, omega (arith, q.0)), q.1)
+
+-- So does the report of a run.
 pub whole : {x : Page} (r : Ran)
     → length r.session.processes ≡ max_processes
     → Put blank_page (report_of r) x
     → ((x.len ≡ length (report_of r)) × (x.len ≤ page_size)) × (x.bytes ≡ report_of r ++ replicate (page_size - x.len) 0)
-whole r size p =
-    let low : length (report_of r) ≤ page_size = omega (arith, report_low r size) in
-    let q = on_blank (report_of r) low p in
-    ((q.0, omega (arith, q.0)), q.1)
+whole r size p = whole_text (report_of r) (omega (arith, report_low r size)) p
 
 -- The report of a sheet is that of its run under the report's budget.
 pub report_of_run : (s : List ℕ) {r : Ran} → r ≡ run Server s report_budget → report_of r ≡ report s
