@@ -4,7 +4,7 @@
 #![tactic(auto)]
 
 use std::io::{self, Print};
-use use_text::Page;
+use text::Binder;
 
 mod text;
 
@@ -28,36 +28,34 @@ fn asked_by(input: &[u8]) -> Option<(u8, u8)> {
 }
 
 // The list in the buffer and all that follow it, then how many they are. It ends at the last list.
-fn print_lists(
-    rt: &impl Print,
+fn print_lists<P: Print>(
+    binder: &mut Binder<'_, P>,
     n: usize,
     length: usize,
     list: &mut [u8],
-    page: &mut Page,
 ) -> io::Result<()> {
     for number in 1..=MOST {
-        text::print_list(rt, page, number, list)?;
+        binder.print_list(number, list)?;
         if sheet_short::next(n, length, list).is_err() {
-            return text::print_count(rt, page, number);
+            return binder.print_count(number);
         }
     }
     Ok(())
 }
 
 // The lists of a length with the lines above and below them, or the number with which they are refused.
-fn print_binder(
-    rt: &impl Print,
+fn print_binder<P: Print>(
+    binder: &mut Binder<'_, P>,
     n: u8,
     length: usize,
     list: &mut [u8],
-    page: &mut Page,
 ) -> io::Result<()> {
     let seats = n as usize;
     if let Err(refusal) = sheet_short::first(seats, length, list) {
-        return text::print_refused(rt, page, refusal.number() as usize);
+        return binder.print_refused(refusal);
     }
-    text::print_head(rt, page, seats, length, part_window::window(n))?;
-    print_lists(rt, seats, length, list, page)
+    binder.print_head(seats, length, part_window::window(n))?;
+    print_lists(binder, seats, length, list)
 }
 
 fn main(rt: HostRuntime) {
@@ -67,8 +65,8 @@ fn main(rt: HostRuntime) {
         return;
     };
     let Some((n, told)) = asked_by(&input[..size]) else {
-        let _ = rt.stderr().write_all(
-            b"binder: standard input must be the seats and the length, one digit each, as 2 3\n",
+        let _ = eprintln!(rt;
+            "binder: standard input must be the seats and the length, one digit each, as 2 3"
         );
         return;
     };
@@ -76,9 +74,7 @@ fn main(rt: HostRuntime) {
     // A length over 6 is refused with any buffer.
     let mut space = [0u8; 36];
     let list = &mut space[..6 * length.min(6)];
-    if print_binder(&rt, n, length, list, &mut Page::blank()).is_err() {
-        let _ = rt
-            .stderr()
-            .write_all(b"binder: standard output cannot be written\n");
+    if print_binder(&mut Binder::new(&rt), n, length, list).is_err() {
+        let _ = eprintln!(rt; "binder: standard output cannot be written");
     }
 }

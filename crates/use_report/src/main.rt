@@ -12,8 +12,6 @@ fn main(rt: HostRuntime) {
     };
     let page = use_report_text::report(&sheet[..n]);
     if rt.write_all(page.text()).is_err() {
-        let _ = rt
-            .stderr()
-            .write_all(b"report: standard output cannot be written\n");
+        let _ = eprintln!(rt; "report: standard output cannot be written");
     }
 }

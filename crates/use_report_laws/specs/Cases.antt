@@ -1,9 +1,9 @@
--- The ways in which a run ended and the phases that an arm of a `match` stands for.
+-- The endings and phases that an arm of a `match` stands for, by their tags.
 use Rattle.std.specs.Prelude.{◌≡◌, ◌∷◌, ◌++◌, ◌⊎◌}
 use Prim.{tt}
 use Rattle.base.specs.Prelude.{ℕ, refl, List, [], take, ⊎_elim}
 use denote.Enum.Declared.{tag_of}
-use types.Run.{OneOf, miss}
+use types.Run.{OneOf, hit, miss}
 use Rattle.model.specs.declared.Phase.{Phase}
 use Rattle.model.specs.declared.Phase.TheVariants.{Idle, Waiting, Write, Scan, Adopt, Compare, Flag, CheckMark}
 use Rattle.model.specs.declared.Phase.TheVariants.{CheckValue, Commit, Exhausted, Crashed, Decided, HasCommitted, HasAdopted}
@@ -13,26 +13,56 @@ use Rattle.model.specs.declared.Session.{Session}
 use Rattle.model.specs.declared.Counts.{Counts}
 use Rattle.model.specs.declared.Ended.{Ended}
 use Rattle.model.specs.declared.Ended.TheVariants as E
-use Rattle.model.specs.Answers.{told_ended}
+use Rattle.model.specs.Answers.{Ending, Finished, Refused, BudgetEnded, Rejected, told_ended}
 use Rattle.model.specs.Numbers.{number}
 use Rattle.model_report.specs.Report.{bytes, field, newline, outcome_line, tally_line, board_line, status_words, seat_lines, more_lines}
 
--- The outcome of a run that was not refused.
-pub outcome_finished : (e : Ended) (k : ℕ) → (e ≡ E.Finished) ⊎ (e ≡ E.BudgetEnded)
+-- The tag of an ending: its place among them.
+abbrev pub ending_tag : Ending → ℕ
+ending_tag Finished = 0
+ending_tag (Refused k i) = 1
+ending_tag BudgetEnded = 2
+ending_tag (Rejected k) = 3
+
+pub outcome_finished : (e : Ending) (k : ℕ) → OneOf (0 ∷ 2 ∷ []) (ending_tag e)
+    → bytes "outcome finished" ++ field k ++ newline ≡ outcome_line e k
+outcome_finished Finished k h = refl
+outcome_finished (Refused c i) k h = absurd (miss (0 ∷ 2 ∷ []) 1 tt h)
+outcome_finished BudgetEnded k h = refl
+outcome_finished (Rejected c) k h = absurd (miss (0 ∷ 2 ∷ []) 3 tt h)
+
+pub more_lines_law : (e : Ending) (s : Session) (c : Counts) → OneOf (0 ∷ 1 ∷ 2 ∷ []) (ending_tag e)
+    → tally_line c ++ board_line s ++ seat_lines 0 (take s.n s.processes) ≡ more_lines e s c
+more_lines_law Finished s c h = refl
+more_lines_law (Refused k i) s c h = refl
+more_lines_law BudgetEnded s c h = refl
+more_lines_law (Rejected k) s c h = absurd (miss (0 ∷ 1 ∷ 2 ∷ []) 3 tt h)
+
+-- ---- of the endings that the code has
+
+-- No entry was refused.
+pub ended_finished : (e : Ended) (k : ℕ) → (e ≡ E.Finished) ⊎ (e ≡ E.BudgetEnded)
     → bytes "outcome finished" ++ field k ++ newline ≡ outcome_line (told_ended e) k
-outcome_finished e k h = ⊎_elim (λ (is : e ≡ E.Finished). rw is refl) (λ (is : e ≡ E.BudgetEnded). rw is refl) h
+ended_finished e k h =
+    outcome_finished (told_ended e) k
+    (⊎_elim (λ (is : e ≡ E.Finished). rw is (hit (0 ∷ 2 ∷ []) 0 tt)) (λ (is : e ≡ E.BudgetEnded). rw is (hit (0 ∷ 2 ∷ []) 2 tt)) h)
 
--- Of one that an entry's refusal ended: with its number.
-pub outcome_refused : (e : Ended) (r : Refusal) (i k : ℕ) {n : ℕ} → e ≡ E.Refused r i → n ≡ number r
+-- An entry was: with the refusal's number.
+pub ended_refused : (e : Ended) (r : Refusal) (i k : ℕ) {n : ℕ} → e ≡ E.Refused r i → n ≡ number r
     → bytes "outcome refused" ++ field n ++ field i ++ newline ≡ outcome_line (told_ended e) k
-outcome_refused e r i k is en = rw (is, en) refl
+ended_refused e r i k is en = rw (is, en) refl
 
--- The lines behind it, of any run.
-pub more_lines_law : (e : Ended) (s : Session) (c : Counts)
+-- None of them is that of a refused sheet.
+ended_tag : (e : Ended) → OneOf (0 ∷ 1 ∷ 2 ∷ []) (ending_tag (told_ended e))
+ended_tag E.Finished = hit (0 ∷ 1 ∷ 2 ∷ []) 0 tt
+ended_tag (E.Refused r i) = hit (0 ∷ 1 ∷ 2 ∷ []) 1 tt
+ended_tag E.BudgetEnded = hit (0 ∷ 1 ∷ 2 ∷ []) 2 tt
+
+pub ended_lines : (e : Ended) (s : Session) (c : Counts)
     → tally_line c ++ board_line s ++ seat_lines 0 (take s.n s.processes) ≡ more_lines (told_ended e) s c
-more_lines_law E.Finished s c = refl
-more_lines_law (E.Refused r i) s c = refl
-more_lines_law E.BudgetEnded s c = refl
+ended_lines e s c = more_lines_law (told_ended e) s c (ended_tag e)
+
+-- ---- phases
 
 abbrev working : List ℕ
 working = 1 ∷ 2 ∷ 3 ∷ 4 ∷ 5 ∷ 6 ∷ 7 ∷ 8 ∷ 9 ∷ 13 ∷ 14 ∷ []

@@ -6,7 +6,7 @@ ghost use Rattle.model.specs.Answers.{told_ended, told_ran, told_run};
 ghost use Rattle.model_report.specs.Report.{newline, outcome_line, tally_line, closed_word, board_line, report_of};
 ghost use Rattle.use_text.specs.Page.{page_size, Put};
 
-use model::{Counts, Ended, Refusal, Run, Session};
+use model::{Counts, Ended, Process, Refusal, Run, Session};
 use use_report_seats::put_seats;
 use use_text::Page;
 
@@ -63,9 +63,12 @@ fn put_run(page: &mut Page, run: &Run)
     put_tally(page, run.counts);
     put_board(page, &run.session);
     put_seats(page, &run.session);
+    // A session has 64 records, so the text fits.
+    let records: &[Process] = &run.session.processes;
+    prove!(records.len() == 64);
 }
 
-// The report of a run. "A refused sheet gives only" its line.
+// The report of a run, which fits on a page. "A refused sheet gives only" its line.
 pub fn put_lines(page: &mut Page, ran: &Result<Run, Refusal>)
     ensures lines { Put page.old (report_of (told_run ran.now)) page.new }
     ensures fits { length (report_of (told_run ran.now)) ≤ page_size }

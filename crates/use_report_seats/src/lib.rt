@@ -1,7 +1,7 @@
 // The lines of the seats (01, "The board report": "Seats 0 to n - 1 follow").
 #![tactic(auto)]
 
-ghost use Rattle.std.specs.Prelude.{◌≡◌, length, take};
+ghost use Rattle.std.specs.Prelude.{take};
 ghost use Rattle.model_report.specs.Report.{seat_lines};
 ghost use Rattle.use_text.specs.Page.{Put};
 
@@ -10,10 +10,9 @@ use use_report_status::put_status;
 use use_text::Page;
 
 // "Seats 0 to n - 1", "each as "seat", its number and" its status.
-#[tactic(auto, using(base::specs::Arrays::length_mapped, use_text::specs::Page::nothing))]
+#[tactic(auto, using(use_text::specs::Page::nothing))]
 pub fn put_seats(page: &mut Page, s: &Session)
-    ensures lines { Put page.old (seat_lines 0 (take s.now.n s.now.processes)) page.new }
-    ensures records { length s.now.processes ≡ 64 }
+    ensures { Put page.old (seat_lines 0 (take s.now.n s.now.processes)) page.new }
 {
     let all: &[Process] = &s.processes;
     let seats = &all[..s.n.min(all.len())];

@@ -1,35 +1,25 @@
 // A page that text is put on: words and numbers in decimal. Each text stands behind what stood there; what does not fit is cut off.
 #![tactic(auto)]
 
-ghost use Rattle.std.specs.Prelude.{List, ℕ, [], ◌∷◌, ◌++◌, ◌-◌, ◌≤◌, ◌≡◌, take, drop, replicate};
+ghost use Rattle.std.specs.Prelude.{[], ◌∷◌, ◌++◌, ◌≡◌, take};
 ghost use Rattle.model_report.specs.Report.{decimal, newline};
-ghost use Rattle.use_text.specs.Page.{page_size, Put};
+ghost use Rattle.use_text.specs.Page.{Put, page, blank_page};
 ghost use Rattle.use_text.specs.Numbers.{with_fields};
-
-use std::marker::Model;
 
 // How many bytes a page has: the longest report fits (`use_report_laws`).
 pub const SIZE: usize = 5120;
 
-// A page: its text, with zeros behind it.
-#[derive(Drop)]
+// A page: its bytes, the first `len` of which are its text.
+#[derive(Clone, Copy)]
 pub struct Page {
-    bytes: [u8; SIZE],
-    len: usize,
-}
-
-impl Model for Page {
-    ghost Value = { List ℕ };
-
-    ghost view = { λ p. take p.len p.bytes };
-
-    ghost invariant = { λ p. (p.len ≤ page_size) × (drop p.len p.bytes ≡ replicate (page_size - p.len) 0) };
+    pub bytes: [u8; SIZE],
+    pub len: usize,
 }
 
 impl Page {
-    // A page with no text.
+    // A page with no text, of zeros.
     pub fn blank() -> Self
-        ensures { result ≡ [] }
+        ensures { result ≡ blank_page }
     {
         Page {
             bytes: [0; SIZE],
@@ -37,23 +27,22 @@ impl Page {
         }
     }
 
-    // Takes the text off, and leaves the page blank.
+    // Takes the text off: the next stands from the page's start on. The bytes stay.
     pub fn clear(&mut self)
-        ensures { self.new ≡ [] }
+        ensures { self.new ≡ page self.old.bytes 0 }
     {
-        self.bytes[..self.len].fill(0);
         self.len = 0;
     }
 
-    // The text that was put.
+    // The text: the first `len` bytes, or all where there are fewer.
     pub fn text(&self) -> &[u8]
-        ensures { result.now ≡ self.now }
+        ensures { result.now ≡ take self.now.len self.now.bytes }
     {
-        &self.bytes[..self.len]
+        self.bytes.get(..self.len).unwrap_or(&self.bytes)
     }
 
     // One byte.
-    #[tactic(auto, using(crate::specs::Page::put_here, crate::specs::Page::zeros_left, crate::specs::Page::cut_off))]
+    #[tactic(auto, unfolding(crate::specs::Page::put_byte, crate::specs::Page::put_all))]
     fn put_byte(&mut self, b: u8)
         ensures { Put self.old (b ∷ []) self.new }
     {

@@ -1,7 +1,8 @@
 -- Where a session was made, its 64 processes' bytes fill the buffer, however the run ended.
-use Rattle.std.proofs.Common.{arith, refl, ◌+◌, ◌≡◌, ◌∙◌, ℕ, List, append-nil, length, drop_of_length-le}
+use Rattle.std.proofs.Common.{rules, arith, refl, ◌+◌, ◌≡◌, ◌∙◌, ℕ, List, append-nil, length, drop_of_length-le}
 use Rattle.std.proofs.Math.Seq.{sets, sets-eq}
 use Rattle.base.specs.Prelude.{eq-eqb}
+use Rattle.base.specs.Arrays.{length_mapped}
 use Rattle.model.specs.declared.Process.{Process}
 use Rattle.model.specs.declared.Ended.{Ended}
 use Rattle.model.specs.declared.Ended.TheVariants as E
@@ -30,5 +31,6 @@ returns-in-Ok-clause-writes c =
     let ran = c.in-Ok.ran in
     let qs = ran.session.processes in
     let size : length b ≡ 256 = omega arith in
+    let long : length qs ≡ 64 = search (rules, length_mapped) in
     rw (eq-eqb _ 256 size, ← c.in-Ok.ensures)
-    (c.put_decided.ensures.stores ∙ filled b qs size c.put_decided.ensures.records ∙ made ran.ended qs b)
+    (c.put_decided.ensures ∙ filled b qs size long ∙ made ran.ended qs b)

@@ -1,6 +1,18 @@
 -- The lines are put on a blank page, and fit.
+use Rattle.model.specs.Answers.{told_run}
+use Rattle.model_report.specs.Report.{report_of}
+use Rattle.use_text.specs.Page.{blank_page, Put}
 use Rattle.use_report_laws.specs.Whole.{whole_text}
 use Rattle.janus_report.proofs.put_text.Goals as goal
 
-pub returns : goal.returns
-returns c = (whole_text c.put_lines.ensures.fits c.requires c.put_lines.ensures.lines).0
+pub returns-clause-len_value : goal.returns-clause-len_value
+returns-clause-len_value c =
+    let text = report_of (told_run c.args.ran.now) in
+    let put : Put blank_page text c.put_lines.new.page = rw (← c.requires) c.put_lines.ensures.lines in
+    (whole_text text c.put_lines.ensures.fits put).0
+
+pub returns-clause-bytes_value : goal.returns-clause-bytes_value
+returns-clause-bytes_value c =
+    let text = report_of (told_run c.args.ran.now) in
+    let put : Put blank_page text c.put_lines.new.page = rw (← c.requires) c.put_lines.ensures.lines in
+    (whole_text text c.put_lines.ensures.fits put).1

@@ -1,7 +1,8 @@
-use Rattle.std.proofs.Common.{arith}
+use Rattle.std.proofs.Common.{rules, arith, ◌≡◌, length}
+use Rattle.base.specs.Arrays.{length_mapped}
 use Rattle.model.specs.Answers.{told_ran}
 use Rattle.use_text.specs.Page.{after, same}
-use Rattle.use_report_laws.specs.Cases.{more_lines_law}
+use Rattle.use_report_laws.specs.Cases.{ended_lines}
 use Rattle.use_report_laws.specs.Room.{report_low}
 use Rattle.use_report_lines.proofs.put_run.Goals as goal
 
@@ -9,9 +10,11 @@ use Rattle.use_report_lines.proofs.put_run.Goals as goal
 pub returns-clause-lines : goal.returns-clause-lines
 returns-clause-lines c =
     let run = c.args.run.now in
-    after c.put_outcome.ensures
-    (same (more_lines_law run.ended run.session run.counts)
-    (after (after c.put_tally.ensures c.put_board.ensures) c.put_seats.ensures.lines))
+    let three = after (after c.put_tally.ensures c.put_board.ensures) c.put_seats.ensures in
+    after c.put_outcome.ensures (same (ended_lines run.ended run.session run.counts) three)
 
+-- The records are 64, as the session's own type has it.
 pub returns-clause-fits : goal.returns-clause-fits
-returns-clause-fits c = omega (arith, report_low (told_ran c.args.run.now) c.put_seats.ensures.records)
+returns-clause-fits c =
+    let long : length c.args.run.now.session.processes ≡ 64 = search (rules, length_mapped) in
+    omega (arith, report_low (told_ran c.args.run.now) long)

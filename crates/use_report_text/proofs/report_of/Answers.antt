@@ -1,9 +1,18 @@
 -- The lines are put on a blank page, and fit.
+use Rattle.model.specs.Answers.{told_run}
+use Rattle.model_report.specs.Report.{report_of}
+use Rattle.use_text.specs.Page.{blank_page, Put}
 use Rattle.use_report_laws.specs.Whole.{whole_text}
 use Rattle.use_report_text.proofs.report_of.Goals as goal
 
-pub returns-clause-text : goal.returns-clause-text
-returns-clause-text c = (whole_text c.put_lines.ensures.fits c.blank-page.ensures c.put_lines.ensures.lines).0
+pub returns-clause-len_value : goal.returns-clause-len_value
+returns-clause-len_value c =
+    let text = report_of (told_run c.args.ran) in
+    let put : Put blank_page text c.put_lines.new.page = rw (← c.blank-page.ensures) c.put_lines.ensures.lines in
+    (whole_text text c.put_lines.ensures.fits put).0
 
-pub returns-clause-fits : goal.returns-clause-fits
-returns-clause-fits c = (whole_text c.put_lines.ensures.fits c.blank-page.ensures c.put_lines.ensures.lines).1
+pub returns-clause-bytes_value : goal.returns-clause-bytes_value
+returns-clause-bytes_value c =
+    let text = report_of (told_run c.args.ran) in
+    let put : Put blank_page text c.put_lines.new.page = rw (← c.blank-page.ensures) c.put_lines.ensures.lines in
+    (whole_text text c.put_lines.ensures.fits put).1
