@@ -1,35 +1,41 @@
 // The refusal of a sheet. 01, "Turn sheets" and "Numbers returned", rows 10, 1, 2, 11 and 12.
 #![tactic(auto)]
 
-ghost use Rattle.std.specs.Prelude.{◌≡◌};
+ghost use Rattle.std.specs.Prelude.{◌≡◌, ◌+◌, ◌&&◌, leb, length};
+ghost use Rattle.std.specs.Bool.{then_some};
 ghost use Rattle.model.specs.Answers.{code};
 ghost use Rattle.model.specs.Board.{limits_of};
-ghost use Rattle.model.specs.Refusal.{refusal as first_of};
-ghost use Rattle.model.specs.Sheet.{sheet_refusal};
-ghost use Rattle.sheet_refusal.specs.RunTests.{run_tests};
+ghost use Rattle.model.specs.Sheet.{run_at, runs, header_end, is_in_order, whole_entries, sheet_refusal};
+ghost use Rattle.model.specs.Sound.{every};
 
 use model::{Caller, Refusal};
 
-// "11 over all pairs, 12 over all runs": `from` is where the run before ended, and `found` is 12 once a run is no whole entries.
-#[tactic(auto, using(base::specs::Bools::cond_same, sheet_layout::specs::Runs::runs_none, sheet_layout::specs::Runs::left_next))]
-fn runs_refusal(s: &[u8]) -> Result<(), Refusal>
-    ensures { code result ≡ first_of (run_tests s.now) }
+// Where run i ends, if it starts at `from` or past it and ends within the sheet.
+fn end_of(s: &[u8], from: usize, i: usize) -> Option<usize>
+    ensures { let run = run_at s.now i in let end = run.offset + run.size in
+        result ≡ then_some (leb from run.offset && leb end (length s.now)) end }
+{
+    let run = sheet_layout::run_at(s, i);
+    let end = run.offset + run.size;
+    (from <= run.offset && end <= s.len()).then_some(end)
+}
+
+// 11: whether each run starts where the one before it ended, or past that, and ends within the sheet.
+fn in_order(s: &[u8]) -> bool
+    ensures { result ≡ is_in_order (header_end s.now) (length s.now) (runs s.now) }
 {
     let count = part_bytes::byte(s, 1) as usize;
-    let mut from = 4 + 4 * count;
-    let mut found = Ok(());
-    for i in 0..count {
-        let run = sheet_layout::run_at(s, i);
-        let end = run.offset + run.size;
-        if run.offset < from || s.len() < end {
-            return Err(Refusal::BadPairs);
-        }
-        if run.size % 6 != 0 {
-            found = Err(Refusal::BadRun);
-        }
-        from = end;
-    }
-    found
+    (0..count)
+        .try_fold(4 + 4 * count, |from, i| end_of(s, from, i))
+        .is_some()
+}
+
+// 12: whether each run is of whole entries.
+fn whole(s: &[u8]) -> bool
+    ensures { result ≡ every whole_entries (runs s.now) }
+{
+    let count = part_bytes::byte(s, 1) as usize;
+    (0..count).all(|i| sheet_layout::run_at(s, i).size % 6 == 0)
 }
 
 // Within the caller's limits. "Order: .. Sheet 10, 1, 2, 11 over all pairs, 12 over all runs". 10: "sheet under 4 or over 65,535 bytes,
@@ -45,5 +51,11 @@ pub fn refusal(caller: Caller, s: &[u8]) -> Result<(), Refusal>
     let n = part_bytes::byte(s, 0) as usize;
     let limit = part_bytes::word16(s, 2) as usize;
     session_open::open_refusal(caller, n, limit)?;
-    runs_refusal(s)
+    if !in_order(s) {
+        return Err(Refusal::BadPairs);
+    }
+    if !whole(s) {
+        return Err(Refusal::BadRun);
+    }
+    Ok(())
 }
