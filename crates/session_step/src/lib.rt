@@ -23,11 +23,7 @@ pub fn step(s: Session, p: usize, leader: bool, c: Counts) -> Result<After<Sessi
     session_refusal::first_refusal(session_sound::sound(s), n, p, own)?;
     let mut state = s;
     let a = part_access::access(limit, q, leader);
-    let x = mark(
-        value(&mut state.values, a, q.estimate),
-        &mut state.marks,
-        a,
-    );
+    let x = mark(value(&mut state.values, a, q.estimate), &mut state.marks, a);
     state.decision = part_decision::decision(state.decision, a, q.estimate);
     let window = part_window::window(n as u8);
     state.processes[i] = part_next::next(window, limit, q, leader, x);
