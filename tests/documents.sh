@@ -68,7 +68,7 @@ END
     count=$((count + 1))
 }
 misled 'code: 9 is PROCESS_SPENT, and None in the definitions' refusals.py crates/model/specs/Numbers.antt 'process_spent = 9' 'process_spent = 19'
-misled 'code: 6 is SECOND_ONE' refusals.py crates/model/src/refusal.rt 'Refusal::SecondProposal =>' 'Refusal::SecondOne =>'
+misled 'code: 6 is SECOND_ONE' refusals.py crates/model/src/refusal.rt 'SecondProposal = 6' 'SecondOne = 6'
 misled 'separate program: 12 is BAD_CUTS' refusals.py reference/src/refusal.rs 'BadRun = 12' 'BadCuts = 12'
 misled 'header: 4 is NO_SEAT' refusals.py include/janus.h JANUS_NO_SUCH_SEAT JANUS_NO_SEAT
 misled 'page: 14, NO_SUCH_ROUND, is missing' refusals.py docs/REFUSALS.md '| 14 |' '| 24 |'

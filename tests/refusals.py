@@ -15,7 +15,7 @@ ROOT = Path(__file__).resolve().parent.parent
 PLACES = {
     "definitions": [("crates/model/specs/Numbers.antt", r"^(\w+) = (\d+)$")],
     "code": [
-        ("crates/model/src/refusal.rt", r"^            Refusal::(\w+) => (\d+),$"),
+        ("crates/model/src/refusal.rt", r"^    (\w+) = (\d+),$"),
         ("crates/model/src/lib.rt", r"^            Ended::(BudgetEnded) => (\d+),$"),
     ],
     "separate program": [("reference/src/refusal.rs", r"^    (\w+) = (\d+),$")],
