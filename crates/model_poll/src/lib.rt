@@ -6,6 +6,7 @@
 use model::Session;
 
 // What a turn gives its process (02, wish 6: it "answers committed with its value", it "answers adopted with its value").
+// Kept: a case for none and no Option, since definitions and theorems speak of it (`answer_of`, `PollRule`).
 #[derive(Clone, Copy)]
 pub enum Answer {
     Pending, // none yet

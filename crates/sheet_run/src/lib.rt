@@ -27,7 +27,8 @@ fn ran(carried: usize, session: Session, counts: Counts, ended: Ended) -> Run
 
 // 01, "Turn sheets": the entries one after another, on a session just opened, up to the budget or the first refused entry.
 // A close (02, wish 10) is an entry as the others are.
-// Kept: one function of more than 40 lines, since parts of it as functions of their own were slower (docs/DECISIONS.md, 16).
+// Kept: one function of more than 40 lines, since parts of it as functions of their own were slower (docs/DECISIONS.md, 16), and entries
+// counted by `k`, since the reader is the form that 01 names and no iterator (`sheet_reader_held`).
 #[tactic(auto, using(sheet_laws::specs::PlaceLaws::begin_rest, sheet_laws::specs::PlaceLaws::begin_proper, sheet_laws::specs::Carried::ends, sheet_laws::specs::Carried::malformed, sheet_laws::specs::Carried::close_spent, sheet_laws::specs::Carried::row_past, sheet_laws::specs::Carried::fewer_left, sheet_laws::specs::Carried::halted))]
 fn carry(sheet: &[u8], budget: usize, window: usize, mut s: Session, mut c: Counts) -> Run
     requires { Begun sheet.now window s }

@@ -1,4 +1,5 @@
 // What is printed. Each part is put on a page (`use_text`) and written at once. The longest is a list of six entries, which fits.
+// Kept: a page and no `println!`, which would write each of some 60,000 lines by itself.
 use model::{Entry, Operation, Refusal};
 use std::io::{self, Print};
 use use_text::Page;

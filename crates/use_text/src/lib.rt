@@ -10,6 +10,8 @@ ghost use Rattle.use_text.specs.Numbers.{with_fields};
 pub const SIZE: usize = 5120;
 
 // A page: its bytes, the first `len` of which are its text.
+// Kept: a length beside its bytes, since clauses say what stands behind the text (`use_report_text::report`: zeros), and this library takes no
+// heap.
 #[derive(Clone, Copy)]
 pub struct Page {
     pub bytes: [u8; SIZE],
@@ -63,6 +65,7 @@ impl Page {
     }
 
     // A number in decimal: its last digit behind the others.
+    // Kept: digits by hand and no `write!`, since `Put` says what stands where the page is full: what does not fit is cut off.
     fn put_number(&mut self, v: usize)
         ensures { Put self.old (decimal v) self.new }
     {
