@@ -8,6 +8,7 @@ ghost use Rattle.model.specs.Public.{operate as operate_of};
 use model::{After, Counts, Operation, Refusal, Session};
 
 // 01, "Numbers returned": 3, 4, then the operation's own numbers. A proposal and a crash leave the counts as they are.
+// Kept: a session and counts apart, here and in the operations, since theorems speak of these contracts (`operate_contract`).
 #[tactic(auto, using(model_laws::specs::Answers::propose_counts, model_laws::specs::Answers::crash_counts), unfolding(model::specs::Public::step_for, model::specs::Public::learn_for))]
 pub fn operate(s: Session, c: Counts, o: Operation) -> Result<After<Session>, Refusal>
     ensures { told_counted s c result ≡ operate_of s c o }

@@ -52,6 +52,7 @@ fn choose_rest(search: &Search, tight: bool, buffer: &mut [u8]) -> bool
 }
 
 // "Asked for the first, it writes that." 1, 17, 15.
+// Kept: three parameters, here and below, since theorems speak of these contracts (`short_first_contract`, `short_next_contract`).
 #[tactic(auto, using(model_short_laws::specs::Numbers::refused_result), unfolding(model_short::specs::Calls::first_result))]
 pub fn first(n: usize, length: usize, buffer: &mut [u8]) -> Result<(), Refusal>
     ensures { listed (code result) buffer.new ≡ first_result n length buffer.old }

@@ -69,6 +69,7 @@ fn put_run(page: &mut Page, run: &Run)
 }
 
 // The report of a run, which fits on a page. "A refused sheet gives only" its line.
+// Kept: that it fits is said here and above, since a caller does not see that a run's session has 64 records (tried in `use_report_text`).
 pub fn put_lines(page: &mut Page, ran: &Result<Run, Refusal>)
     ensures lines { Put page.old (report_of (told_run ran.now)) page.new }
     ensures fits { length (report_of (told_run ran.now)) ≤ page_size }
