@@ -6,11 +6,17 @@ ghost use Rattle.std.proofs.lemmas.List.Edits.{sets};
 ghost use Rattle.model.specs.Bytes.{bytes16, bytes32};
 
 // Bytes stored from byte `at` on.
+#[tactic(auto, using(base::specs::Arrays::sets_beyond))]
 pub fn put_bytes(buffer: &mut [u8], at: usize, bytes: &[u8])
     ensures { buffer.new ≡ sets buffer.old at bytes.now }
 {
-    for (i, b) in (at..buffer.len()).zip(bytes) {
-        buffer[i] = *b;
+    if buffer.len() <= at {
+        return;
+    }
+    for (i, b) in bytes.iter().enumerate() {
+        if at + i < buffer.len() {
+            buffer[at + i] = *b;
+        }
     }
 }
 

@@ -1,20 +1,16 @@
--- Where the numbers end, the rest is past the end of the buffer; where the bytes end, there is no rest.
-use Rattle.std.specs.Prelude.{◌≡◌, ◌∷◌}
-use Rattle.std.specs.Iterator.Adapters.{zip_first, zip_second}
-use Rattle.std.specs.Slice.Iter.{iter_rest}
-use Rattle.base.specs.Prelude.{ℕ, List, [], length, sets, refl, sym, ◌∙◌, inl, inr, arith}
-use Rattle.base.specs.Arrays.{sets_beyond}
+-- A byte more is stored: within the buffer it is written, and past the end that changes nothing.
+use Rattle.std.specs.Prelude.{◌+◌}
+use Rattle.base.specs.Prelude.{ℕ, List, arith, ◌∙◌, sym, ap, set, set_out, get_or}
+use Rattle.base.specs.Arrays.{sets_more}
 use Rattle.part_bytes_put.proofs.put_bytes.Goals as goal
+use Rattle.part_bytes_put.proofs.put_bytes.Goals.{then-at-i, else-at-i}
 
-sets_none : (l : List ℕ) (i : ℕ) (vs : List ℕ) → length vs ≡ 0 → sets l i vs ≡ l
-sets_none l i [] h = refl
-sets_none l i (v ∷ vs) h = absurd (omega arith)
-
-pub returns : goal.returns
-returns c =
-    let start = (zip_first c.loop-i.i-iterator).start in
-    let rest = iter_rest (zip_second c.loop-i.i-iterator) in
-    elim c.in-None.ensures.steps [
-      | inl e ↦ sym (sets_beyond c.loop-i.buffer start rest (omega (arith, e.1.1.0))) ∙ c.loop-i.invariant.stored
-      | inr e ↦ sym (sets_none c.loop-i.buffer start rest e.1.0) ∙ c.loop-i.invariant.stored
+pub loop-i-preserved : goal.loop-i-preserved
+loop-i-preserved c =
+    let at = c.args.at + c.loop-i.i in
+    let b = get_or c.args.bytes.now c.loop-i.i 0 in
+    let stored = ap (λ (l : List ℕ). set l at b) c.loop-i.invariant ∙ sets_more c.args.buffer.now c.args.at c.args.bytes.now c.loop-i.i c.loop-i-test.true in
+    elim c.if-at-i.branch [
+      | then-at-i w ↦ w.buffer-is ∙ stored
+      | else-at-i w ↦ w.buffer-is ∙ sym (set_out c.loop-i.buffer at b (omega arith)) ∙ stored
     ]
