@@ -38,7 +38,7 @@ mkdir "$room/cases"
 tar -c --exclude='crates/*/out' crates | tar -x -C "$room"
 copy=$room/crates/test_house
 sed 's/^test_house: .* system_house_turn/& system_house_lent/' crates.txt >"$room/crates.txt"
-sed -i -E 's/\*left = system_house_(turn|change)::(turn|learn)\((.*), left\.counts\)\?;$/left.house = system_house_lent::\2(\3, \&mut left.counts)?;/' "$copy/src/call.rt"
+sed -i -E 's/\*left = system_house_(turn|change)::(turn|learn)\((.*), left\.counts\)\?;$/left.state = system_house_lent::\2(\3, \&mut left.counts)?;/' "$copy/src/call.rt"
 [[ $(grep -c 'system_house_lent::[a-z]*(.*, &mut left.counts)' "$copy/src/call.rt") == 2 ]]
 cp "$out/input" "$room/cases/houses"
 "$proved" <"$out/input" >"$room/cases/houses.stdout"

@@ -42,6 +42,7 @@ pub fn put_report(ran: &Result<Run, Refusal>, buffer: &mut [u8]) -> Result<usize
 }
 
 // What C gets for it: the size, or the refusal's number.
+// Kept: a number for either, since that is what C gets.
 pub fn size_or_number(answer: Result<usize, Refusal>) -> usize
     ensures { result ≡ told_size answer }
 {

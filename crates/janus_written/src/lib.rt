@@ -9,6 +9,7 @@ use model::{Caller, Refusal};
 
 // Writes a sheet of the entries, cut into runs of the given lengths in entries, to the lent buffer, within the caller's limits (02, wish
 // 9), and its size to the lent number; refused, it changes nothing.
+// Kept: seven parameters, which C gives one by one (`janus_write`).
 #[tactic(auto, unfolding(model_write::specs::WriteExport::write_export))]
 pub fn write(
     caller: Caller,

@@ -52,8 +52,9 @@ pub struct Process {
 // One agreement (01: a session, the board and the seats). The value register T[r] of round r is values[r - 1], the mark
 // C[r] is marks[r - 1], the decision register D is decision; 0 is blank. n processes take part, in rounds 1 to limit (01: L).
 // closed is the closed mark (02, wish 10): no proposal is accepted any more.
-// Kept: two arrays beside each other, and numbers beside arrays, since definitions and theorems speak of these fields.
-#[derive(Clone, Copy)]
+// Kept: two arrays beside each other, numbers beside arrays, and 0 for blank, since definitions and theorems speak of these fields so (`opened`,
+// `sound_as`, `AgreementRule`).
+#[derive(Clone, Copy, PartialEq, Eq)]
 pub struct Session {
     pub n: usize,
     pub limit: usize,
@@ -73,6 +74,7 @@ pub struct Counts {
 }
 
 // The one register operation of a turn, with the round of its register.
+// Kept: a case for none and no Option, since definitions and laws speak of it (`access`, `counted`).
 #[derive(Clone, Copy)]
 pub enum Access {
     Nothing,
@@ -94,6 +96,7 @@ pub enum Operation {
 }
 
 // What the six bytes of a sheet's entry say: an operation, a close (02, wish 10), which names no process, or nothing that 01 and 02 know.
+// Kept: a case for nothing and no Option, since definitions and theorems speak of it (`entry_of`, `is_malformed`).
 #[derive(Clone, Copy)]
 pub enum Entry {
     Acts(Operation),

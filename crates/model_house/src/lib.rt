@@ -41,7 +41,8 @@ pub type Table = [[u32; 4]; 8];
 // A house of n workers in c wards. wards[p] is the ward of worker p, 1 to c. The session of outer round o and ward w is
 // sessions[8 * (w - 1) + o - 1], so that the first 8c are those of wards 1 to c; the poll of outer round o is polls[o - 1]. decision is
 // "the house's own decision register"; 0 is blank.
-// Kept: arrays beside each other, and sessions by an index, since definitions and theorems speak of these fields.
+// Kept: arrays beside each other, sessions by an index, and 0 for blank, since definitions and theorems speak of these fields so
+// (`opened_house`, `sound_house`, `HouseRule`).
 #[derive(Clone, Copy)]
 pub struct House {
     pub n: usize,

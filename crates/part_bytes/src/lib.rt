@@ -18,7 +18,8 @@ pub fn bytes_from(s: &[u8], i: usize) -> &[u8]
     s.get(i..).unwrap_or(&[])
 }
 
-// Kept: one function for each width, since a generic one would need a trait of this project over std's `from_le_bytes`, which is no plainer.
+// Kept: one function for each width, since clauses, theorems and edits name each (`word16_contract`), and a generic one, over a trait with
+// `from_le_bytes`, would need an array filled for each width: no plainer.
 
 // The 16-bit number at byte i.
 pub fn word16(s: &[u8], i: usize) -> u16

@@ -21,7 +21,7 @@ pub fn put_bytes(buffer: &mut [u8], at: usize, bytes: &[u8])
     }
 }
 
-// Kept: one function for each width, since a generic one would need a trait of this project over std's `to_le_bytes`, which is no plainer.
+// Kept: one function for each width, one line each, since a generic one would need a trait with `to_le_bytes`: no plainer.
 
 // A 16-bit number stored from byte `at` on.
 pub fn put16(buffer: &mut [u8], at: usize, w: u16)

@@ -8,9 +8,9 @@ ghost use Rattle.model.specs.Sheet.{entry_of, is_malformed};
 use model::{Entry, Operation};
 
 // "Kinds: 0 propose (any value), 1 work (value 0 is hint no, 1 is yes), 2 look (0), 3 crash (0)." 02, wish 10: "kind 4, seat 0, value 0".
-// Kept: three numbers and no `RawEntry`, which is of short lists, since a sheet's bytes are read apart: no plainer.
-// Kept: tests one after the other. As one `match` of the three numbers, with a slice pattern in `sheet_entry`, an entry of a sheet took 91
-// instructions, and so it takes 80; the bar is 82.9, what it took before (docs/BENCHMARKS.md).
+// Kept: three numbers and no `RawEntry`, which is of short lists, since the clauses say `entry_of` of the three.
+// Kept: tests one after the other. As one `match` of the three numbers an entry of a sheet takes five instructions more (measured), which is
+// more than it took before (docs/BENCHMARKS.md, "The design pass").
 #[tactic(auto, using(base::specs::Bools::cond_same, crate::specs::Largest::hinted, crate::specs::Largest::unhinted))]
 pub fn entry_of(kind: u8, p: u8, value: u32) -> Entry
     ensures { result ≡ entry_of kind p value }
@@ -44,8 +44,7 @@ pub fn entry_of(kind: u8, p: u8, value: u32) -> Entry
 }
 
 // Whether it is one of these: by the largest value of each kind; a close, which is rare, by a test of its own.
-// Kept: a `match` of the kinds, with a test of the value in each, was tried and is slower (7 ns and not 3 on mixed entries; the bar is what
-// it took before).
+// Kept: a table of the largest values. By a `match` of the kinds six bytes took 5.4 ns and not 1.0 where the kinds are mixed (measured).
 #[tactic(auto, using(crate::specs::Largest::formed_largest, crate::specs::Largest::formed_close))]
 pub fn formed(kind: u8, p: u8, value: u32) -> bool
     ensures { result ≡ not (is_malformed (entry_of kind p value)) }
@@ -59,9 +58,8 @@ pub fn formed(kind: u8, p: u8, value: u32) -> bool
 }
 
 // The 32-bit number of four bytes.
-// Kept: sums and no `from_le_bytes`, which was tried with the `match` above.
 pub fn number32(a: u8, b: u8, c: u8, d: u8) -> u32
     ensures { result ≡ word32 (a ∷ b ∷ c ∷ d ∷ []) 0 }
 {
-    a as u32 + 256 * (b as u32) + 65536 * (c as u32 + 256 * (d as u32))
+    u32::from_le_bytes([a, b, c, d])
 }

@@ -65,11 +65,7 @@ pub fn choice(n: u8, e: usize) -> RawEntry
             value: 0,
         }
     } else {
-        RawEntry {
-            kind: 0,
-            process: 0,
-            value: 0,
-        }
+        RawEntry::default()
     }
 }
 

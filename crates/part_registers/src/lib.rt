@@ -16,6 +16,7 @@ fn slot(r: usize) -> usize
 }
 
 // 01, "One turn at a time": the value register T[r], read or written with e. 0 where the operation reads no value.
+// Kept: numbers and no Option, here and below, since the clauses say `value_in` and `mark_in`, of which laws speak.
 pub fn value(values: &mut [u32; 256], a: Access, e: u32) -> u32
     ensures reads { result ≡ value_in values.old a }
     ensures writes { values.new ≡ values_after values.old a e }

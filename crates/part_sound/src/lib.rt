@@ -8,7 +8,7 @@ ghost use Rattle.model.specs.Sound.{sound_process_as};
 use model::{Phase, Process};
 
 // A record that is not out: it is a process', with "a value above 0 and a round of at most L".
-// Kept: a call in each arm: one `let` before the `match` was slower, since records that are out make the test too (measured).
+// (A call in each arm, and no `let` before the `match`: records that are out do not make the test.)
 fn held(member: bool, limit: usize, q: Process) -> bool
     ensures { result ≡ member && ltb 0 q.estimate && leb q.round limit }
 {

@@ -10,7 +10,7 @@ use model::{Counts, Refusal, Session};
 use model_poll::Polled;
 
 // Kept: beside the turn by value, since 01 names the form, "Tally of three counts lent by &mut to a thin turn function over the
-// covered by-value step".
+// covered by-value step" (docs/DECISIONS.md, 12), and theorems speak of both contracts (`turn_contract`, `turn_value_contract`).
 pub fn turn(s: Session, p: usize, counts: &mut Counts) -> Result<Polled, Refusal>
     ensures { with_lent (told_polled s result) counts.new ≡ poll_turn s p counts.old }
 {

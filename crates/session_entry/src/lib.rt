@@ -10,6 +10,7 @@ ghost use Rattle.model.specs.Sheet.{entry_of};
 use model::{After, Counts, Entry, Refusal, Session};
 
 // 01, "Numbers returned": "each entry 13 first, then its operation's own order". A close leaves the counts as they are.
+// Kept: three numbers and no `RawEntry`, since the clause says `entry_of` of the three, here and in `part_entry`.
 pub fn apply(s: Session, c: Counts, kind: u8, p: u8, value: u32) -> Result<After<Session>, Refusal>
     ensures { told_counted s c result ≡ entry_answer commanded s c (entry_of kind p value) }
 {

@@ -9,7 +9,7 @@ ghost use Rattle.model.specs.Public.{with_counts, step as step_of, learn as lear
 use model::{Counts, Refusal, Session};
 
 // Kept: beside the turn by value, since 01 names the form, "Tally of three counts lent by &mut to a thin turn function over the
-// covered by-value step".
+// covered by-value step" (docs/DECISIONS.md, 12), and theorems speak of both contracts (`step_contract`, `step_value_contract`).
 
 // 01, "One turn at a time": a work turn.
 pub fn step(s: Session, p: usize, leader: bool, counts: &mut Counts) -> Result<Session, Refusal>

@@ -27,7 +27,7 @@ pub fn list(registers: [u32; 256], limit: usize) -> Listed
         if *value == 0 {
             continue;
         }
-        // Kept: the loops and the label are the form that document 01 names.
+        // Kept: the loops and the label are the form that document 01 names (docs/DECISIONS.md, 12).
         for earlier in &registers[..r] {
             if *earlier == *value {
                 continue 'rounds;

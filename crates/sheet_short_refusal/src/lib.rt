@@ -15,6 +15,7 @@ use model_short::RawEntry;
 pub use search::Search;
 
 // "1 for a seat count other than 1 or 2, 17 for a length over 6, 15 for a buffer not 6 times the length".
+// Kept: three parameters, here and below, as those of `sheet_short::first` and `next`.
 #[tactic(auto, using(model_short_laws::specs::Numbers::tests_few, model_short_laws::specs::Numbers::tests_many, model_short_laws::specs::Numbers::tests_long, model_short_laws::specs::Numbers::tests_buffer, model_short_laws::specs::Numbers::tests_none))]
 pub fn call_refusal(n: usize, length: usize, buffer: &[u8]) -> Result<(), Refusal>
     ensures { code result ≡ refusal (first_tests n length buffer.now) }

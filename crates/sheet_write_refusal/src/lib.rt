@@ -44,6 +44,7 @@ fn well_formed(entries: &[u8]) -> bool
 }
 
 // Within the caller's limits. `room` is the length of the output.
+// Kept: six parameters, as those of `sheet_write::write`.
 #[tactic(auto, using(model_laws::specs::Accepted::refusal_append, crate::proofs::Tests::own_tests), unfolding(model_write::specs::Write::write_refusal))]
 pub fn write_refusal(
     caller: Caller,

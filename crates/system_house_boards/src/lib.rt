@@ -1,5 +1,6 @@
 // The turns of a worker in its ward's session and in the poll of its outer round (document 02, wish 11), on what a turn can read and
 // change. A session or poll that is not sound is left as it is, and so is all else.
+// Kept: that is said in three clauses, since no public function of this project has a `requires` (docs/DECISIONS.md, 41).
 #![tactic(auto)]
 
 ghost use Rattle.std.specs.Prelude.{◌≡◌, cond};

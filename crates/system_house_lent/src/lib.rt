@@ -10,7 +10,7 @@ use model::{Counts, Refusal};
 use model_house::House;
 
 // Kept: beside the turn by value, the form that 01 names, "Tally of three counts lent by &mut to a thin turn function over the covered
-// by-value step".
+// by-value step", and theorems speak of both contracts (`house_turn_contract`, `house_turn_value_contract`).
 
 // 02, wish 11: a turn of a worker: "Each turn makes at most one register operation, table and house register included".
 pub fn turn(h: House, p: usize, hint: bool, counts: &mut Counts) -> Result<House, Refusal>

@@ -15,6 +15,7 @@ use model_house::{Place, Stance, Worker};
 use model_poll::Answer;
 
 // 02, wish 11: "Seat refusals 4 to 9 and 16 keep their order": the phase that has a worker's stance in a session.
+// Kept: a function and no `From`, since an edit and a clause name it (`phase_of`).
 pub fn phase_of(stance: Stance) -> Phase
     ensures { result ≡ phase_for stance }
 {

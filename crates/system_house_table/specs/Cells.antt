@@ -1,6 +1,6 @@
 -- The value table as a list of its rows, each a list of its entries. Assumes nothing.
 use Rattle.std.specs.Prelude.{◌+◌, ◌-◌, ◌≡◌, ◌∷◌}
-use Rattle.base.specs.Prelude.{ℕ, suc, zero, arith, sym, List, [], length, get_or, set}
+use Rattle.base.specs.Prelude.{ℕ, suc, zero, arith, refl, sym, List, [], length, get_or, set, map}
 use Rattle.base.specs.Prelude.{drop, drop-cons, drop_of_length-le}
 use Rattle.model_house.specs.House.{Table, table_at, with_entry}
 
@@ -19,6 +19,11 @@ module _ {A : Type 0} (l : List A) (d : A) where
   eight size = listed_drop 0 8 size
 
 -- ---- an entry, and another one stored
+
+map_set : {A B : Type 0} (f : A → B) (l : List A) (i : ℕ) (x : A) → map f (set l i x) ≡ set (map f l) i (f x)
+map_set f [] i x = refl
+map_set f (y ∷ l) zero x = refl
+map_set f (y ∷ l) (suc i) x = rw (map_set f l i x)
 
 module _ (t : Table) (o w : ℕ) {cells : List (List ℕ)} {i j : ℕ} (ec : cells ≡ t) (ei : i ≡ o - 1) (ej : j ≡ w - 1) where
   pub cell_is : get_or (get_or cells i []) j 0 ≡ table_at t o w

@@ -79,11 +79,7 @@ fn is_out(q: &Process) -> bool {
 
 // Whether a session or a poll is as opened.
 fn as_opened(board: &Session) -> bool {
-    !board.closed
-        && board.decision == 0
-        && board.values == [0; 256]
-        && board.marks == [false; 256]
-        && board.processes.iter().all(is_out)
+    *board == session_opened::opened(board.n, board.limit)
 }
 
 fn print_rounds(rt: &impl Print, board: &Session) {

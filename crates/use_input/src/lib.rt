@@ -15,6 +15,7 @@ use std::io::{Print, Read};
 pub struct ReadFailed;
 
 // What cannot be written to standard error is lost: there is nowhere else to say it.
+// Kept: bytes and no `eprintln!` of a `&str`, since a name that is no text would then be refused, which `read` does not do.
 fn failed(rt: &HostRuntime, program: &[u8]) -> Result<usize, ReadFailed>
     ensures { IsErr result }
 {

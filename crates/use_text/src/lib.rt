@@ -11,7 +11,7 @@ pub const SIZE: usize = 5120;
 
 // A page: its bytes, the first `len` of which are its text.
 // Kept: a length beside its bytes, since clauses say what stands behind the text (`use_report_text::report`: zeros), and this library takes no
-// heap.
+// heap. Texts are bytes and no `&str`, since `Put` speaks of bytes.
 #[derive(Clone, Copy)]
 pub struct Page {
     pub bytes: [u8; SIZE],
