@@ -15,8 +15,11 @@ use Rattle.model_write.specs.RoundTrip.{lengths, lengths_of, entry_bytes, gaples
 use Rattle.sheet_laws.specs.Places.{begin, handed, advanced, rest, Inside, Proper}
 use Rattle.sheet_laws.specs.PlaceLaws.{begin_rest, begin_proper, advanced_proper, rest_next, rest_end}
 use Rattle.sheet_laws.specs.Ordered.{accepted_inside}
-use Rattle.theory_write.specs.FunctionContracts.{Writes, Refuses, FirstPlace}
-use Rattle.theory_write.specs.Functions.{HandsOut, Finds}
+use Rattle.std.specs.Borrow.{Bor}
+use Rattle.sheet_laws.specs.declared.Reader.{Reader}
+use Rattle.sheet_laws.specs.Reading.{attached, moved_on}
+use Rattle.theory_write.specs.FunctionContracts.{Writes, Refuses, FirstPlace, Attaches}
+use Rattle.theory_write.specs.Functions.{HandsOut, HandsOutBy, Finds}
 use Rattle.theory_write.specs.Written.{written_reads}
 use Rattle.theory_write.specs.Read.{length_lengths_of, read_writes}
 
@@ -67,6 +70,31 @@ module _ (sheet : List ℕ) where
       let same : suc i + j ≡ i + suc j = omega arith in
       lengths_at k (suc i) j (omega arith) ∙ ap (λ r. (run_at sheet r).size / 6) same
 
+-- ---- a reader that stays attached hands out what its place does
+
+-- What a reader hands out is handed out from its place on,
+by_place : (es : List Entry) (r : Reader) → HandsOutBy r es → HandsOut r.sheet.now r.place es
+by_place [] r end = end
+by_place (e ∷ es) r (first, (next, (moves, others))) =
+    let q : HandsOut r.sheet.now (advanced r.sheet.now r.place) es =
+    subst (λ (x : Reader). HandsOut x.sheet.now x.place es) moves (by_place es next others) in
+    (first, (_, (refl, q)))
+
+-- and what is handed out from its place on the reader hands out.
+by_reader : (es : List Entry) (r : Reader) → HandsOut r.sheet.now r.place es → HandsOutBy r es
+by_reader [] r end = end
+by_reader (e ∷ es) r (first, (next, (after, others))) =
+    let q : HandsOut r.sheet.now (advanced r.sheet.now r.place) es = subst (λ p. HandsOut r.sheet.now p es) after others in
+    (first, (moved_on r, (refl, by_reader es (moved_on r) q)))
+
+-- Of one attached to a sheet whose runs lie inside it these are the sheet's entries.
+module _ (b : Bor (List ℕ)) (h : Inside b.now) where
+  reader_entries : HandsOutBy (attached b) (entries b.now)
+  reader_entries = by_reader (entries b.now) (attached b) (entries_handed b.now h (begin b.now) refl)
+
+  entries_read : (os : List Entry) → HandsOutBy (attached b) os → os ≡ entries b.now
+  entries_read os hands = handed_entries b.now h (begin b.now) refl os (by_place os (attached b) hands)
+
 -- ---- written, then read
 
 -- Of a sheet that reads as what was given, by the definitions.
@@ -85,6 +113,10 @@ module _ (caller : Caller) (n L : ℕ) (es ms sheet : List ℕ) (a : ReadsAs (li
         cuts = λ i low x e. rw (e.size_is, ← a.cuts) (sym (rw zero-add at (lengths_at sheet (run_count sheet) 0 i (rw reads_count low))));
         hands_out = λ first e. rw (← a.operations) (entries_handed sheet inside first e);
         nothing_else = λ first e os hands. handed_entries sheet inside first e os hands ∙ a.operations;
+        reader_hands_out = λ b same r attaches.
+            rw attaches (subst (HandsOutBy (attached b)) (ap entries same ∙ a.operations) (reader_entries b (rw same inside)));
+        reader_nothing_else = λ b same r attaches os hands.
+            entries_read b (rw same inside) os (subst (λ x. HandsOutBy x os) attaches hands) ∙ ap entries same ∙ a.operations;
         reads = a;
       }
 
@@ -118,3 +150,17 @@ read_writes_again caller s out code first os answer after bytes refuses ok begin
     let inside = accepted_inside (limits_of caller) s accepted in
     let same : os ≡ entries s = handed_entries s inside first begins os hands in
     writes ∙ read_writes (limits_of caller) s out bytes accepted (rw (← same) formed) gap room
+
+-- The same where an attached reader hands them out.
+pub reader_writes_again : (caller : Caller) (b : Bor (List ℕ)) (out : List ℕ) (code : ℕ) (r : Reader) (os : List Entry)
+    (answer : CountAnswer) (after : List ℕ)
+    → ((i : ℕ) → byte_at b.now i < 256)
+    → Refuses caller b.now code → code ≡ 0
+    → Attaches b r → HandsOutBy r os → well_formed os ≡ true
+    → gapless b.now ≡ true
+    → length b.now ≤ length out
+    → Writes caller (process_count b.now) (round_limit b.now) (entry_bytes b.now) (lengths_of b.now) out answer after
+    → wrote answer after ≡ wrote (count_answer 0 (length b.now)) (b.now ++ drop (length b.now) out)
+reader_writes_again caller b out code r os answer after bytes refuses ok attaches hands formed gap room writes =
+    read_writes_again caller b.now out code (begin b.now) os answer after bytes refuses ok refl
+    (by_place os (attached b) (subst (λ x. HandsOutBy x os) attaches hands)) formed gap room writes

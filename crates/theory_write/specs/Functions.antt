@@ -6,8 +6,10 @@ use Rattle.model_laws.specs.Types.{Caller, Entry}
 use Rattle.model.specs.Board.{limits_of}
 use Rattle.model_write.specs.Write.{buffer_entries}
 use Rattle.model_write.specs.RoundTrip.{ReadsAs}
+use Rattle.std.specs.Borrow.{Bor}
 use Rattle.sheet_layout.specs.declared.Span.{Span}
-use Rattle.theory_write.specs.FunctionContracts.{Refuses, FirstPlace, EntryAt, PlaceAfter, ByteAt, Word16At, RunAt}
+use Rattle.sheet_laws.specs.declared.Reader.{Reader}
+use Rattle.theory_write.specs.FunctionContracts.{Refuses, FirstPlace, EntryAt, PlaceAfter, Attaches, Hands, Moves, ByteAt, Word16At, RunAt}
 
 -- ---- a reader that goes from place to place
 
@@ -16,6 +18,13 @@ use Rattle.theory_write.specs.FunctionContracts.{Refuses, FirstPlace, EntryAt, P
 abbrev pub HandsOut : (sheet : List ℕ) (place : ℕ) → List Entry → Type 0
 HandsOut sheet place [] = EntryAt sheet place None
 HandsOut sheet place (e ∷ es) = EntryAt sheet place (Some e) × ((next : ℕ) × (PlaceAfter sheet place next × HandsOut sheet next es))
+
+-- ---- a reader that stays attached, by which the runner goes
+
+-- The same of a reader: `entry` answers the first of the entries, and the others are handed out by the reader that `moved` answers.
+abbrev pub HandsOutBy : Reader → List Entry → Type 0
+HandsOutBy r [] = Hands r None
+HandsOutBy r (e ∷ es) = Hands r (Some e) × ((next : Reader) × (Moves r next × HandsOutBy next es))
 
 -- ---- written, then read
 
@@ -29,5 +38,9 @@ pub record Finds (caller : Caller) (n L : ℕ) (es ms sheet : List ℕ) : Type 0
   -- A reader that starts at the first place hands out the entries given, in their order, and then no more; and it hands out nothing else.
   pub hands_out : (first : ℕ) → FirstPlace sheet first → HandsOut sheet first (buffer_entries es)
   pub nothing_else : (first : ℕ) → FirstPlace sheet first → (os : List Entry) → HandsOut sheet first os → os ≡ buffer_entries es
+  -- The same of a reader attached to the sheet.
+  pub reader_hands_out : (b : Bor (List ℕ)) → b.now ≡ sheet → (r : Reader) → Attaches b r → HandsOutBy r (buffer_entries es)
+  pub reader_nothing_else : (b : Bor (List ℕ)) → b.now ≡ sheet → (r : Reader) → Attaches b r → (os : List Entry) → HandsOutBy r os
+      → os ≡ buffer_entries es
   -- By the definitions also: its entries have the bytes given, there are no gaps, and running it is running the entries.
   pub reads : ReadsAs (limits_of caller) n L es ms sheet
