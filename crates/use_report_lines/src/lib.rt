@@ -1,25 +1,59 @@
 // The lines of a report (01, "The board report"), put on a page.
 #![tactic(auto)]
 
-ghost use Rattle.std.specs.Prelude.{◌++◌, ◌≤◌, length};
+ghost use Rattle.std.specs.Prelude.{◌≡◌, ◌++◌, ◌≤◌, length, take};
 ghost use Rattle.model.specs.Answers.{told_ended, told_ran, told_run};
-ghost use Rattle.model_report.specs.Report.{newline, outcome_line, tally_line, closed_word, board_line, report_of};
+ghost use Rattle.model_report.specs.Report.{newline, outcome_line, tally_line, closed_word, board_line, seat_lines, report_of};
+ghost use Rattle.use_report_lines.specs.Numbered.{told_ending, told_numbered};
 ghost use Rattle.use_text.specs.Page.{page_size, Put};
 
 use model::{Counts, Ended, Process, Refusal, Run, Session};
 use use_report_seats::put_seats;
 use use_text::Page;
 
-// 01: "outcome refused CODE INDEX", "outcome finished" and "the number of entries carried out".
-#[tactic(auto, using(use_text::specs::Page::same))]
-fn put_outcome(page: &mut Page, ended: Ended, carried: usize)
-    ensures { Put page.old (outcome_line (told_ended ended) carried) page.new }
+// How a run ended, or that its sheet was refused, with the number of the refusal.
+// Kept: a number and no `Refusal`, since any number may stand for a refusal here, also one that no refusal has.
+#[derive(Clone, Copy)]
+pub enum Ending {
+    Finished,
+    Refused(u32, usize),
+    BudgetEnded,
+    Rejected(u32),
+}
+
+// A run with such an ending: how many entries were carried out, the session and the counts after them. Where the sheet was refused, these
+// may be any, and the report has none of them.
+#[derive(Clone, Copy)]
+pub struct Ran {
+    pub carried: usize,
+    pub session: Session,
+    pub counts: Counts,
+    pub ending: Ending,
+}
+
+// The ending of a run, with the refusal's number.
+fn numbered(ended: Ended) -> Ending
+    ensures { told_ending result ≡ told_ended ended }
 {
     match ended {
-        Ended::Refused(refusal, index) => {
-            page.put_line(b"outcome refused", &[refusal.number() as usize, index])
-        }
-        Ended::Finished | Ended::BudgetEnded => page.put_line(b"outcome finished", &[carried]),
+        Ended::Finished => Ending::Finished,
+        Ended::Refused(refusal, index) => Ending::Refused(refusal.number(), index),
+        Ended::BudgetEnded => Ending::BudgetEnded,
+    }
+}
+
+// 01: "outcome refused CODE INDEX", "sheet refused CODE", "outcome finished" and "the number of entries carried out".
+#[tactic(auto, using(use_text::specs::Page::same))]
+fn put_outcome(page: &mut Page, ending: Ending, carried: usize)
+    ensures { Put page.old (outcome_line (told_ending ending) carried) page.new }
+{
+    match ending {
+        Ending::Refused(number, index) => page.put_line(
+            b"outcome refused",
+            &[number as usize, index],
+        ),
+        Ending::Rejected(number) => page.put_line(b"sheet refused", &[number as usize]),
+        Ending::Finished | Ending::BudgetEnded => page.put_line(b"outcome finished", &[carried]),
     }
 }
 
@@ -53,16 +87,22 @@ fn put_board(page: &mut Page, s: &Session)
     put_closed(page, s.closed);
 }
 
+// The lines behind the outcome, of a sheet that is not refused: the tally, the board and the seats.
+fn put_more(page: &mut Page, s: &Session, c: Counts)
+    ensures { Put page.old (tally_line c ++ board_line s.now ++ seat_lines 0 (take s.now.n s.now.processes)) page.new }
+{
+    put_tally(page, c);
+    put_board(page, s);
+    put_seats(page, s);
+}
+
 // The report of a run that is not refused: the outcome, the tally, the board and the seats.
-#[tactic(auto, using(use_text::specs::Page::after, use_text::specs::Page::nothing))]
 fn put_run(page: &mut Page, run: &Run)
     ensures lines { Put page.old (report_of (told_ran run.now)) page.new }
     ensures fits { length (report_of (told_ran run.now)) ≤ page_size }
 {
-    put_outcome(page, run.ended, run.carried);
-    put_tally(page, run.counts);
-    put_board(page, &run.session);
-    put_seats(page, &run.session);
+    put_outcome(page, numbered(run.ended), run.carried);
+    put_more(page, &run.session, run.counts);
     // A session has 64 records, so the text fits.
     let records: &[Process] = &run.session.processes;
     prove!(records.len() == 64);
@@ -76,6 +116,23 @@ pub fn put_lines(page: &mut Page, ran: &Result<Run, Refusal>)
 {
     match ran {
         Ok(run) => put_run(page, run),
-        Err(refusal) => page.put_line(b"sheet refused", &[refusal.number() as usize]),
+        Err(refusal) => put_outcome(page, Ending::Rejected(refusal.number()), 0),
+    }
+}
+
+// The same of a run with any numbers.
+pub fn put_numbered(page: &mut Page, ran: &Ran)
+    ensures lines { Put page.old (report_of (told_numbered ran.now)) page.new }
+    ensures fits { length (report_of (told_numbered ran.now)) ≤ page_size }
+{
+    // A session has 64 records, so the text fits.
+    let records: &[Process] = &ran.session.processes;
+    prove!(records.len() == 64);
+    put_outcome(page, ran.ending, ran.carried);
+    match ran.ending {
+        Ending::Rejected(_) => {}
+        Ending::Finished | Ending::Refused(..) | Ending::BudgetEnded => {
+            put_more(page, &ran.session, ran.counts)
+        }
     }
 }

@@ -1,17 +1,18 @@
-use Rattle.std.proofs.Common.{rules, arith, ◌≡◌, length}
+use Rattle.std.proofs.Common.{rules, arith, ◌≡◌, ap, length}
 use Rattle.base.specs.Arrays.{length_mapped}
 use Rattle.model.specs.Answers.{told_ran}
+use Rattle.model_report.specs.Report.{outcome_line}
 use Rattle.use_text.specs.Page.{after, same}
 use Rattle.use_report_laws.specs.Cases.{ended_lines}
 use Rattle.use_report_laws.specs.Room.{report_low}
 use Rattle.use_report_lines.proofs.put_run.Goals as goal
 
--- The three kinds of lines behind the outcome.
+-- The outcome is that of the run's ending. The other lines stand behind it.
 pub returns-clause-lines : goal.returns-clause-lines
 returns-clause-lines c =
     let run = c.args.run.now in
-    let three = after (after c.put_tally.ensures c.put_board.ensures) c.put_seats.ensures in
-    after c.put_outcome.ensures (same (ended_lines run.ended run.session run.counts) three)
+    after (same (ap (λ e. outcome_line e run.carried) c.numbered.ensures) c.put_outcome.ensures)
+    (same (ended_lines run.ended run.session run.counts) c.put_more.ensures)
 
 -- The records are 64, as the session's own type has it.
 pub returns-clause-fits : goal.returns-clause-fits

@@ -1,0 +1,2 @@
+-- What the lines of a report lean on.
+pub mod Numbered
