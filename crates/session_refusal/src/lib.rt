@@ -26,3 +26,13 @@ pub fn first_refusal(
     }
     own
 }
+
+// The same of numbers: what the operation's own tests give is any number, 0 where none refuses.
+pub fn first_refusal_number(sound: bool, n: usize, p: usize, own: u32) -> u32
+    ensures { result ≡ cond (not sound) unsound (cond (leb n p) no_such_process own) }
+{
+    match first_refusal(sound, n, p, Ok(())) {
+        Ok(()) => own,
+        Err(refusal) => refusal.number(),
+    }
+}
