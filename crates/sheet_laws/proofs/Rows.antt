@@ -1,7 +1,7 @@
 -- The types of the functions over a reader and of those that they call, the promises among them, and how a reader is taken apart and put
 -- together.
 --     sheet, place, reader                 the types: `&'a [u8]`, `usize`, `Reader<'a>`
---     begins, advances                     what `sheet_place::begin` and `advanced` promise, and `first_place` and `place_after` with them
+--     begins, advances                     what `sheet_place::begin` and `advance` promise, and `first_place` and `place_after` with them
 --     attaches, moves                      what `attach` and `moved` promise
 --     at, parts        a reader of a slice and a place, and the two of a reader
 --     together, apart  what its slice and its place own is what the reader owns, and the other way (as arguments of `advances` and of
