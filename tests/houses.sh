@@ -43,7 +43,7 @@ sed -i -E 's/\*left = system_house_(turn|change)::(turn|learn)\((.*), left\.coun
 cp "$out/input" "$room/cases/houses"
 "$proved" <"$out/input" >"$room/cases/houses.stdout"
 lent() { # VERDICT: whether rt says that of what the copy, compiled with no proof, prints of the input
-    (cd "$copy" && rt try --steps 1000 --cases "$room/cases") >"$out/lent.log" 2>&1 || true
+    (cd "$copy" && rt try --steps 1000 --seconds 900 --cases "$room/cases") >"$out/lent.log" 2>&1 || true
     grep -qE "^case=houses run=ended status=0 .* output=$1 " "$out/lent.log"
 }
 if ! lent expected; then
