@@ -40,16 +40,15 @@ fn changed(operation: u8, rounds: u32, count: u32, start: Session) -> Result<u32
     let mut after = start;
     for i in 0..count {
         s.values[(i % rounds) as usize] = 1 + i % 8;
-        let answer = match operation {
-            0 => open(Caller::Server, 8, 256),
-            1 => propose(s, 7, 8),
-            2 => step(s, 0, false, &mut Counts::default()),
-            3 => step(s, 0, true, &mut Counts::default()),
-            4 => learn(s, 0, &mut Counts::default()),
-            5 => crash(s, 0),
-            _ => poll_turn::turn(s, 0, Counts::default()).map(|left| left.state.session),
+        after = match operation {
+            0 => open(Caller::Server, 8, 256)?,
+            1 => propose(s, 7, 8)?,
+            2 => step(s, 0, false, &mut Counts::default())?,
+            3 => step(s, 0, true, &mut Counts::default())?,
+            4 => learn(s, 0, &mut Counts::default())?,
+            5 => crash(s, 0)?,
+            _ => poll_turn::turn(s, 0, Counts::default())?.state.session,
         };
-        after = answer?;
     }
     Ok(after.values[(count % rounds) as usize])
 }
