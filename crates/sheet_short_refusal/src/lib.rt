@@ -52,6 +52,7 @@ impl Search {
     }
 
     // The search that goes on behind an entry: none where the session refuses it or no entry is left.
+    // Kept: an arm that returns. As a value the answer is copied once more (docs/BENCHMARKS.md has the times, measured side by side).
     #[tactic(auto, using(model_laws::specs::Answers::number_some, model_short_laws::specs::Machine::applied))]
     pub fn after(&self, x: RawEntry) -> Option<Search>
         ensures { Follows self.now x result }
@@ -67,7 +68,7 @@ impl Search {
                 session: left.state,
                 counts: left.counts,
             }),
-            Err(_) => None,
+            Err(_) => return None,
         }
     }
 }
